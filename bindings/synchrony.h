@@ -43,7 +43,7 @@ uint32_t synchrony_check(uint64_t correct, const uint8_t *text, size_t length, c
 /* Does what the words of a command line ask for, with texts in place of its files, and answers the exit status that the
    program has. `words` has the words after the program's name, with a line feed between each two and none at the end, as
    in "draw\n-\n--correct\nall". `text` is the text of the file `-`. `second` is the certificate of a `check`, the decisions
-   of a `judge`, or the table of a `page`, whatever name the words have for it. What the program prints is written over
+   of a `judge`, or the table of a `draw` or `page`, whatever name the words have for it. What the program prints is written over
    the first bytes of out, and its length into *size: with 0 and 1 its standard output (the notes of an `import` are left
    out), else its standard error. Refused, with status 2, are `run`, `simulate` and each file that has another name than
    `-`. With SYNCHRONY_NO_ROOM only *size is written, the length that the answer has, and with SYNCHRONY_NO_MEMORY

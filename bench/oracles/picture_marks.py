@@ -17,6 +17,9 @@ What lasts from tick a to tick b touches the window if a is not after its end an
 - *Misses*: that of a row, from the tick of its Send to that of its Receive, unless the row before has the same.
 - *Gaps*: that of a row, unless the row before has one of the same processor with the same end.
 - *Corners*: the rows but those before and after which there is one in the same of a thousand columns of ticks.
+- *Strokes*: for each processor the longest runs of columns in which it makes steps, of a thousand for all ticks, or of one for
+  each tick if there are fewer.
+- *Stalls*: the gaps of a window of all ticks.
 
 With --lanes only steps and gaps of those processors are marks, and messages and misses from one of them to one of them.
 """
@@ -25,7 +28,7 @@ import os
 import subprocess
 import sys
 import tempfile
-from dataclasses import dataclass
+from dataclasses import dataclass, field
 from types import SimpleNamespace
 
 sys.dont_write_bytecode = True
@@ -74,6 +77,9 @@ class Picture:
     misses: list
     gaps: list
     corners: list
+    # Of each processor the first column of each stroke and the one after it.
+    strokes: dict = field(default_factory=dict)
+    stalls: list = field(default_factory=list)
 
 
 def read_trace(path):
@@ -189,14 +195,25 @@ def picture_of(trace, rows, window, lanes=None):
         if row.miss and touches(tick[row.miss[0]], tick[row.miss[1]]) and not (before and before.miss == row.miss):
             if drawn(*(trace.steps[no - 1][1] for no in row.miss)):
                 picture.misses.append(row)
-        if row.gap and touches(row.gap[1], row.gap[2]) and not (before and before.gap and before.gap[::2] == row.gap[::2]):
-            if drawn(row.gap[0]):
+        if row.gap and not (before and before.gap and before.gap[::2] == row.gap[::2]) and drawn(row.gap[0]):
+            picture.stalls.append(row)
+            if touches(row.gap[1], row.gap[2]):
                 picture.gaps.append(row)
     columns = [(row.gst - 1) * COLUMNS // trace.last for row in rows]
     for at, row in enumerate(rows):
         if not (0 < at < len(rows) - 1 and columns[at - 1] == columns[at] == columns[at + 1]):
             picture.corners.append(row)
+    picture.strokes = {it: strokes_of(trace, it) for it in lanes}
     return picture
+
+
+def strokes_of(trace, processor):
+    """The strokes of a processor."""
+    columns = min(trace.last, COLUMNS)
+    busy = {(tick - 1) * columns // trace.last for tick, p, _ in trace.steps if p == processor}
+    firsts = [it for it in range(columns) if it in busy and it - 1 not in busy]
+    ends = [it for it in range(1, columns + 1) if it - 1 in busy and it not in busy]
+    return [*zip(firsts, ends)]
 
 
 def written(picture):

@@ -11,9 +11,10 @@ the program rounds.
 import random
 import sys
 from collections import defaultdict
+from decimal import Decimal
 
 sys.dont_write_bytecode = True
-from picture_marks import MOST_MESSAGES, MOST_WITNESSES
+from picture_marks import COLUMNS, MOST_MESSAGES, MOST_WITNESSES
 
 LEFT, WIDTH = 900, 10_000
 TOP, HEIGHT = 500, 1_700
@@ -23,7 +24,10 @@ MOST_LINEAR = 20
 # Of a name with more than 15 characters the first 7 and the last 7 are shown next to its lane.
 LABEL_CHARS, LABEL_ENDS = 15, 7
 IDS_NAMED = 8
-KINDS = ("words", "page", "headings", "shade", "bound_labels", "tick_labels", "bounds", "corners", "lanes", "axis", "gaps", "messages", "misses", "steps", "left_out")
+# Strips are so far below the staircase, and above so many are thinner; so many gaps are marked in them.
+STRIPS_SPACE, FEW_STRIPS = 110, 16
+MOST_BANDS, LEAST_BAND = 12, 15
+KINDS = ("words", "page", "headings", "shade", "bound_labels", "bound_times", "strips", "moved", "tick_labels", "times", "bounds", "corners", "lanes", "axis", "gaps", "messages", "misses", "steps", "left_out")
 
 
 def round_step(limit, most):
@@ -51,10 +55,51 @@ def shortened(name):
     return name if len(name) <= LABEL_CHARS else f"{name[:LABEL_ENDS]}…{name[-LABEL_ENDS:]}"
 
 
-class Places:
-    """The picture of a trace with a window, of a set and with names or none, and with these lanes or all."""
+class Untold:
+    """What is called how if no table of the steps is given."""
 
-    def __init__(self, trace, rows, picture, members, names=None, lanes=None):
+    clock = None
+
+    def message(self, no):
+        return str(no)
+
+    def step(self, no):
+        return f"step {no}"
+
+    def time(self, tick):
+        return ""
+
+    def bound(self, ticks):
+        return str(ticks)
+
+
+class Told(Untold):
+    """What a table says: the names of messages, the records of steps, and a clock with `width`, `size`, `unit`, `short` and
+    `step_time`, or none."""
+
+    def __init__(self, messages, records, clock=None):
+        self.messages, self.records, self.clock = messages, records, clock
+
+    def message(self, no):
+        name = self.messages[no]
+        return name if len(name) <= 48 else f"{name[:30]}…{name[-15:]}"
+
+    def step(self, no):
+        return f"step {no}" + (f", record {self.records[no]}" if no in self.records else "")
+
+    def time(self, tick):
+        return f", {self.clock.step_time(tick)}" if self.clock else ""
+
+    def bound(self, ticks):
+        return f"{ticks} ({self.clock.short(ticks)})" if self.clock else str(ticks)
+
+
+class Places:
+    """The picture of a trace with a window, of a set and with names or none, with these lanes or all, and with a table of the
+    steps or none."""
+
+    def __init__(self, trace, rows, picture, members, names=None, lanes=None, told=None):
+        self.told = told or Untold()
         self.trace, self.rows, self.picture, self.members, self.names = trace, rows, picture, members, names
         self.drawn = sorted(lanes or range(1, trace.processors + 1))
         self.first, self.to = picture.window
@@ -62,6 +107,9 @@ class Places:
         self.half_lane = 110 if len(self.drawn) > 16 else 220
         self.half_tick = WIDTH / self.count / 2
         self.lanes_end = LANES_TOP + 2 * self.half_lane * len(self.drawn)
+        self.stripped = [] if (self.first, self.to) == (1, trace.last) else self.drawn
+        self.half_strip = 35 if len(self.stripped) > FEW_STRIPS else 60
+        self.strips_height = STRIPS_SPACE + 2 * self.half_strip * len(self.stripped) if self.stripped else 0
         self.high = max([1] + [max(row.delta, row.phi) for row in picture.corners])
 
     # Places and words
@@ -78,6 +126,12 @@ class Places:
 
     def name(self, processor):
         return self.names[processor - 1] if self.names else f"processor {processor}"
+
+    def made(self, no):
+        return f"{self.told.step(no)}, {self.timed(self.tick(no))}"
+
+    def timed(self, tick):
+        return f"tick {tick}{self.told.time(tick)}"
 
     def tick(self, no):
         return self.trace.steps[no - 1][0]
@@ -124,11 +178,11 @@ class Places:
         for no in self.picture.steps:
             tick, processor, takes = self.trace.steps[no - 1]
             at = [(self.middle(tick), self.lane(processor))]
-            words = f"step {no}, tick {tick}: {self.name(processor)} "
+            words = f"{self.made(no)}: {self.name(processor)} "
             if takes is None:
-                yield "circle", at, size, f"{words}sends message {no} to {self.name(self.trace.sends[no])}", False
+                yield "circle", at, size, f"{words}sends message {self.told.message(no)} to {self.name(self.trace.sends[no])}", False
                 continue
-            words += f"receives message{'s' * (len(takes) > 1)} {' '.join(map(str, takes[:IDS_NAMED]))}" if takes else "receives nothing"
+            words += f"receives message{'s' * (len(takes) > 1)} {' '.join(map(self.told.message, takes[:IDS_NAMED]))}" if takes else "receives nothing"
             words += f" and {len(takes) - IDS_NAMED} more" if len(takes) > IDS_NAMED else ""
             words += " and ends its round" if no in self.trace.ends else ""
             yield "rect" if takes else "rect z", at, size, words, no in self.trace.ends
@@ -136,12 +190,12 @@ class Places:
     def messages(self):
         for send, taken in self.picture.messages[-MOST_MESSAGES:]:
             at, sender, receiver = self.tick(send), self.processor(send), self.trace.sends[send]
-            words = f"message {send} from {self.name(sender)} to {self.name(receiver)}: sent at step {send}, tick {at}, "
+            words = f"message {self.told.message(send)} from {self.name(sender)} to {self.name(receiver)}: sent at {self.made(send)}, "
             if taken is None:
                 x, y, down = self.middle(at), self.lane(sender), self.half_lane * 7 // 10
                 yield "l d", [(x, y), (x + self.half_tick * 0.9, y - down if receiver < sender else y + down)], f"{words}never received"
                 continue
-            words += f"received at step {taken}, tick {self.tick(taken)}"
+            words += f"received at {self.made(taken)}"
             end = self.tick(taken)
             yield "l", self.arc(at, end, sender) if sender == receiver else self.line(at, sender, end, receiver), words
 
@@ -149,15 +203,19 @@ class Places:
         for row in self.picture.misses[:MOST_WITNESSES]:
             sent, missed = row.miss
             from_name, to_name = self.name(self.processor(sent)), self.name(self.processor(missed))
-            words = f"message {sent} from {from_name} to {to_name} was not yet received at step {missed}: Δ({row.gst}) = {row.delta}"
+            when = f"{self.told.step(missed)}{self.told.time(self.tick(missed))}"
+            words = f"message {self.told.message(sent)} from {from_name} to {to_name} was not yet received at {when}: Δ({row.gst}) = {self.told.bound(row.delta)}"
             yield "w", self.line(self.tick(sent), self.processor(sent), self.tick(missed), self.processor(missed)), words
 
     def gaps(self):
         for row in self.picture.gaps[:MOST_WITNESSES]:
             processor, start, end = row.gap
-            words = f"{self.name(processor)} takes no step from tick {start} to tick {end}: Φ({row.gst}) = {row.phi}"
             y = self.lane(processor)
-            yield "g", [(self.edge(start), y - 90), (self.edge(end + 1), y + 90)], words
+            yield "g", [(self.edge(start), y - 90), (self.edge(end + 1), y + 90)], self.gap_words(row)
+
+    def gap_words(self, row):
+        processor, start, end = row.gap
+        return f"{self.name(processor)} takes no step from {self.timed(start)} to {self.timed(end)}: Φ({row.gst}) = {self.told.bound(row.phi)}"
 
     def left_out(self):
         kinds = (
@@ -169,7 +227,27 @@ class Places:
             if len(marks) > most:
                 yield f"{len(marks) - most} {kind} are not drawn.", [(x, self.lanes_end + 860)]
 
-    # The staircase
+    # All ticks
+
+    def strips(self):
+        """The steps of each lane over all ticks, with the first gaps of all."""
+        columns = min(self.trace.last, COLUMNS)
+        for at, processor in enumerate(self.stripped):
+            y = TOP + HEIGHT + STRIPS_SPACE + (2 * at + 1) * self.half_strip
+            look = f"s {'i' if processor in self.members else 'o'}{' u' * (len(self.stripped) > FEW_STRIPS)}"
+            label = shortened(self.names[processor - 1]) if self.names else str(processor)
+            bands = tuple(self.band(row, y) for row in self.picture.stalls[:MOST_BANDS] if row.gap[0] == processor)
+            ends = [LEFT + WIDTH * it / columns for stroke in self.picture.strokes[processor] for it in stroke]
+            yield look, [(780, y + self.half_strip * 6 // 10)], label, f"all steps of {self.name(processor)}", bands, [(it, y) for it in ends]
+
+    def band(self, row, y):
+        _, start, end = row.gap
+        left, right = self.column(start), self.column(end + 1)
+        return [(left, y - self.half_strip), (max(right, left + LEAST_BAND), y + self.half_strip)], self.gap_words(row)
+
+    def moved(self):
+        """By how much the strips move what follows."""
+        yield [(0, self.strips_height)]
 
     def column(self, tick):
         """The left edge of a tick of all."""
@@ -190,14 +268,36 @@ class Places:
 
     def corners(self):
         for row in self.picture.corners:
-            words = f"from tick {row.gst} on: Δ = {row.delta}, Φ = {row.phi}"
+            words = f"from {self.timed(row.gst)} on: Δ = {self.told.bound(row.delta)}, Φ = {self.told.bound(row.phi)}"
             x = self.column(row.gst)
             yield [(x, TOP), (LEFT + WIDTH, TOP), (LEFT + WIDTH, TOP + HEIGHT), (x, TOP + HEIGHT)], words
 
-    def bound_labels(self):
+    def lines(self):
         tens = [10**it for it in range(7) if 10**it <= self.high]
-        for bound in tens if self.high > MOST_LINEAR else range(0, self.high + 1, round_step(self.high, 6)):
+        return tens if self.high > MOST_LINEAR else range(0, self.high + 1, round_step(self.high, 6))
+
+    def bound_labels(self):
+        for bound in self.lines():
             yield str(bound), [(820, self.height(bound))]
+
+    def bound_times(self):
+        for bound in self.lines() if self.told.clock else ():
+            if bound:
+                yield self.told.clock.short(bound), [(LEFT + WIDTH + 60, self.height(bound))]
+
+    def times(self):
+        """Round times below all ticks, and below those of the window."""
+        for first, count, y in ((1, self.trace.last, TOP + HEIGHT + 320), (self.first, self.count, self.lanes_end + 320)):
+            if self.told.clock:
+                yield from self.round_times(self.told.clock, first, count, y)
+
+    def round_times(self, clock, first, count, y):
+        begin, span = (first - 1) * clock.width, count * clock.width
+        step = round_step(span, 10)
+        part = min(10 ** (len(str(step)) - 1), clock.size)
+        for time in range(-(-begin // step) * step, begin + span + 1, step):
+            digits = len(str(clock.size // part)) - 1 if time else 0
+            yield f"{Decimal(time) / clock.size:.{digits}f}\u202f{clock.unit}", [(LEFT + WIDTH * (time - begin) / span, y)]
 
     def tick_labels(self):
         step = round_step(self.trace.last, 10)
@@ -205,7 +305,7 @@ class Places:
             yield str(tick), [(self.column(tick) + WIDTH / self.trace.last / 2, TOP + HEIGHT + 180)]
 
     def shade(self):
-        yield [(self.column(self.first), TOP), (self.column(self.to + 1), TOP + HEIGHT)]
+        yield [(self.column(self.first), TOP), (self.column(self.to + 1), TOP + HEIGHT + self.strips_height)]
 
     def headings(self):
         yield "Least bounds that hold from a tick to the end" + (", on a log scale" if self.high > MOST_LINEAR else ""), [(900, 300)]
@@ -225,13 +325,14 @@ class Places:
         told = told if self.members else "No processor is taken as correct."
         told = "All processors are taken as correct." if set(self.members) == set(every) else told
         corners = self.picture.corners
-        bounds = [f"from tick {row.gst} on Δ = {row.delta} and Φ = {row.phi}" for row in corners[:1] + corners[1:][-1:]]
+        bounds = [f"from tick {row.gst} on Δ = {self.told.bound(row.delta)} and Φ = {self.told.bound(row.phi)}" for row in corners[:1] + corners[1:][-1:]]
         yield "desc", f"{told} F{'; '.join(bounds)[1:]}."
 
     def page(self):
         """Two corners of the page, which is wider by what names reach beyond it."""
         beyond = max([0] + [sum(map(wide, shortened(it))) - LABEL_ROOM for it in self.names or []])
-        yield [(-beyond, 0), (LEFT + WIDTH + 300, self.lanes_end + 1_000)]
+        right = 800 if self.told.clock else 300
+        yield [(-beyond, 0), (LEFT + WIDTH + right, self.lanes_end + self.strips_height + 1_000)]
 
     def all(self):
         """Each kind with its marks in their order."""

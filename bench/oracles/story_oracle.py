@@ -12,7 +12,9 @@ It reads a trace text that is right, finds the rows of its report, and prints, w
     delay sent missed FIRST LAST MESSAGES           alike misses, and the rows that name them
     evidence STALL DELAY FIRST LAST                 the places of its stall and of its delay, in the order of the page
     shown FIRST TO                                  the ticks in which its picture shows it, before they are cut in two
+    ended PLACE SILENCE                             evidence of a delay alone, and that of the silence that ended shortly before
     brief PLACE MISS GAP                            a row that names other evidence than the row before
+    lost COUNT RECEIVERS                            the few receivers of most lost messages, and how many are theirs
 
 What isn't there is "-".
 """
@@ -26,6 +28,9 @@ from each_oracle import members_of, read_trace
 SHORT_RUN = 20
 # A message that is taken fewer ticks after its miss than the miss is long, or than this, is shown to its end.
 NEAR_TICKS = 20
+# A silence may have made a message late if it was so many times as long as the miss, and ended so many lengths of the miss before
+# its Send at most.
+MUCH, SHORTLY = 4, 2
 # What is added at both ends of a picture: a seventh of it, and at least four ticks.
 MARGIN_PART, LEAST_MARGIN = 7, 4
 
@@ -148,6 +153,40 @@ def shown_ticks(trace, rows, stalls, delays, piece):
     return max(min(ends) - margin, 1), min(max(ends) + margin, trace.last)
 
 
+def ended_silence(trace, rows, stalls, delays, evidence, delay):
+    """The first evidence whose silence may have made a delay's message late; None if there is none."""
+    tick = lambda no: trace.steps[no - 1][0]
+    s, no = rows[delays[delay][0]][3]
+    late = tick(no) - tick(s)
+    for place, (stall, *_) in enumerate(evidence):
+        if stall is not None:
+            node, start, end = rows[stalls[stall][0]][4]
+            if node in (trace.steps[s - 1][1], trace.sends[s]) and end - start + 1 >= MUCH * late and tick(s) - SHORTLY * late <= end < tick(no):
+                return place
+    return None
+
+
+def lost_messages(trace, members):
+    """The messages between members that are never taken, though their receivers receive in a later tick."""
+    tick = lambda no: trace.steps[no - 1][0]
+    sender = lambda no: trace.steps[no - 1][1]
+    taken = {s for ids in trace.receives.values() for s in ids}
+    later = lambda s: any(sender(no) == trace.sends[s] and tick(no) > tick(s) for no in trace.receives)
+    return [s for s, to in trace.sends.items() if sender(s) in members and to in members and s not in taken and later(s)]
+
+
+def lost_receivers(trace, members):
+    """The fewest receivers of 80 per cent of the lost messages, those with the most first, and how many are theirs. None if fewer
+    than ten are lost, or these receivers are more than a quarter of the members."""
+    to = [trace.sends[s] for s in lost_messages(trace, members)]
+    who, got = [], 0
+    for node in sorted(set(to), key=lambda it: (-to.count(it), it)):
+        if got < Fraction(80, 100) * len(to):
+            who.append(node)
+            got += to.count(node)
+    return (sorted(who), got) if len(to) >= 10 and len(who) <= Fraction(len(members), 4) else None
+
+
 def calm_place(rows, last):
     score = lambda row: Fraction((last - row[0] + 1) ** 2, row[1] * row[2])
     return max(range(len(rows)), key=lambda k: (score(rows[k]), -k)) if rows else None
@@ -197,6 +236,9 @@ def story(trace, members):
     for stall, delay, first, last, _ in evidence:
         yield shown("evidence", stall, delay, first, last)
         yield shown("shown", *shown_ticks(trace, rows, stalls, delays, (stall, delay)))
+    for place, (stall, delay, *_) in enumerate(evidence):
+        if stall is None:
+            yield shown("ended", place, ended_silence(trace, rows, stalls, delays, evidence, delay))
     before = None
     for k in range(len(rows)):
         has = lambda run: run is not None and run[0] <= k <= run[1]
@@ -207,6 +249,9 @@ def story(trace, members):
         if k == 0 or named != before:
             yield shown("brief", k, *named)
         before = named
+    found = lost_receivers(trace, members)
+    if found:
+        yield shown("lost", found[1], *found[0])
 
 
 def main():

@@ -162,7 +162,7 @@ pub fn check(text: &[u8], certificate: &[u8], correct: u64) -> Result<Verdict, R
 
 /// The exit status that the program has for these words after its name, and what it prints: with 0 and 1 its standard output,
 /// else its standard error. `text` is the text of the file `-`, and `second` that of the certificate of a `check`, of the
-/// decisions of a `judge`, or of the table of a `page`. Out of memory is the status 5, with nothing printed.
+/// decisions of a `judge`, or of the table of a `draw` or `page`. Out of memory is the status 5, with nothing printed.
 ///
 /// # Panics
 ///

@@ -18,7 +18,7 @@ use Rattle.command_faults.specs.FaultLines.{ended_line, fault_line}
 use Rattle.text_commands.specs.Answers.{IsAnswerTo, IsUnanswered}
 use Rattle.text_commands.specs.Briefs.{IsBriefOf, IsNoBrief}
 use Rattle.text_commands.specs.Checks.{IsUnchecked}
-use Rattle.text_commands.specs.Drawings.{IsDrawingOf, IsUndrawnTrace}
+use Rattle.text_commands.specs.Drawings.{IsDrawingBy, IsUndrawnBy}
 use Rattle.text_commands.specs.EachBounds.{IsEachOf, IsNoEach}
 use Rattle.text_commands.specs.Imports.{IsImportOptionFault, IsImportTold, IsUnimported}
 use Rattle.text_commands.specs.Judgings.{IsJudgementOn, IsUnjudged}
@@ -131,7 +131,7 @@ IsPrintedFor (job.Each j) text second = IsPrintedOf (string_bytes j.file) (IsAns
 IsPrintedFor (job.Timeouts j) text second = IsPrintedOf (string_bytes j.file) (IsAnswerTo (AreTimeoutsOf j.table) text)
 IsPrintedFor (job.Replay j) text second = IsPrintedOf (string_bytes j.file) (IsAnswerTo IsReplayOf text)
 IsPrintedFor (job.Upgrade j) text second = IsPrintedOf (string_bytes j.file) (IsAnswerTo IsUpgradeOf text)
-IsPrintedFor (job.Draw j) text second = IsPrintedOf (string_bytes j.file) (IsAnswerTo (IsDrawingOf j.drawing) text)
+IsPrintedFor (job.Draw j) text second = IsPrintedOf (string_bytes j.file) (IsAnswerTo (IsDrawingBy j.drawing (second_if j.table second)) text)
 IsPrintedFor (job.Page j) text second = IsPrintedOf (string_bytes j.file) (IsAnswerTo (IsPageBy j.page (second_if j.table second)) text)
 IsPrintedFor (job.Import j) text second = IsPrintedOf (string_bytes j.file) (IsImportFor j.options text)
 IsPrintedFor (job.Check j) text second = IsLineOf (string_bytes j.file) (λ verdict. OfTrace (IsVerdictOn j.claim.correct j.claim.until second verdict) text)
@@ -149,7 +149,7 @@ IsUnprintedFor (job.Each j) text second = IsUnprintedOf (string_bytes j.file) (I
 IsUnprintedFor (job.Timeouts j) text second = IsUnprintedOf (string_bytes j.file) (IsUnanswered (IsNoTable j.table) text)
 IsUnprintedFor (job.Replay j) text second = IsUnprintedOf (string_bytes j.file) (IsUnanswered IsOffRun text)
 IsUnprintedFor (job.Upgrade j) text second = IsUnprintedOf (string_bytes j.file) (IsUnanswered IsNothingElse text)
-IsUnprintedFor (job.Draw j) text second = IsUnprintedOf (string_bytes j.file) (IsUnanswered (IsUndrawnTrace j.drawing) text)
+IsUnprintedFor (job.Draw j) text second = IsUnprintedOf (string_bytes j.file) (IsUnanswered (IsUndrawnBy j.drawing (second_if j.table second)) text)
 IsUnprintedFor (job.Page j) text second = IsUnprintedOf (string_bytes j.file) (IsUnanswered (IsNoPageBy j.page (second_if j.table second)) text)
 IsUnprintedFor (job.Import j) text second = IsUnprintedOf (string_bytes j.file) (IsUnimportedFor j.options text)
 IsUnprintedFor (job.Check j) text second = IsUnprintedOf (string_bytes j.file) (IsUnanswered (IsUnchecked j.claim second) text)

@@ -5,6 +5,7 @@ ghost use Rattle.c_report.specs.Commands.{IsImportFor, IsJudgementPrinted, IsLin
 ghost use Rattle.c_report.specs.declared.answers.TheConstants.{NO_MEMORY, NO_ROOM};
 ghost use Rattle.text_commands.specs.Answers.{IsAnswerTo, IsUnanswered};
 ghost use Rattle.text_commands.specs.Checks.{IsUnchecked};
+ghost use Rattle.text_commands.specs.Drawings.{IsDrawingBy, IsUndrawnBy};
 ghost use Rattle.text_commands.specs.Imports.{IsUnimported};
 ghost use Rattle.text_commands.specs.Judgings.{IsJudgementOn, IsUnjudged};
 ghost use Rattle.text_commands.specs.Pages.{IsNoPageBy, IsPageBy};
@@ -12,14 +13,14 @@ ghost use Rattle.text_verdicts.specs.Checks.{IsVerdictOn};
 ghost use Rattle.text_verdicts.specs.Texts.{OfTrace};
 
 use command_faults::Fault;
-use command_line::jobs::{CheckJob, ImportJob, JudgeJob, PageJob};
+use command_line::jobs::{CheckJob, DrawJob, ImportJob, JudgeJob, PageJob};
 use command_line::{Job, names_standard_input};
 use command_options::{ImportForm, ImportOptions};
 use event_log::{Options, read_log, read_table, read_ticks};
 use std::alloc::{AllocError, Global};
 use text_commands::{
-    Answer, Replay, ToldPage, Upgrade, answer_to, import_options, judgement_on, judgement_status,
-    ticks_text, verdict_on,
+    Answer, Replay, ToldDrawing, ToldPage, Upgrade, answer_to, import_options, judgement_on,
+    judgement_status, ticks_text, verdict_on,
 };
 use text_verdicts::{verdict_status, verdict_text};
 
@@ -49,7 +50,7 @@ pub(crate) fn printed_for(
         Job::Timeouts(job) => answer(alloc, job.file.as_str(), &job.table, text),
         Job::Replay(job) => answer(alloc, job.file.as_str(), &Replay, text),
         Job::Upgrade(job) => answer(alloc, job.file.as_str(), &Upgrade, text),
-        Job::Draw(job) => answer(alloc, job.file.as_str(), &job.drawing, text),
+        Job::Draw(job) => draw(alloc, job, text, second),
         Job::Page(job) => page(alloc, job, text, second),
         Job::Import(job) => import(alloc, &job, text),
         Job::Check(job) => check(alloc, &job, text, second),
@@ -76,6 +77,17 @@ fn answer<A: Answer>(alloc: Global, file: &str, command: &A, text: &[u8]) -> Res
 {
     test_file(alloc, file)?;
     Ok(well(answer_to(alloc, command, text)?))
+}
+
+/// The picture of the trace, by the table in the second text, if one is asked for.
+fn draw(alloc: Global, job: DrawJob, text: &[u8], second: &[u8]) -> Result<Printed, Fault>
+    ensures printed { IfOk result (λ p. IsPrintedOf (string_bytes job.file) (IsAnswerTo (IsDrawingBy job.drawing (second_if job.table second.now)) text.now) p.status p.text.items) }
+    ensures refused { IfErr result (IsUnprintedOf (string_bytes job.file) (IsUnanswered (IsUndrawnBy job.drawing (second_if job.table second.now)) text.now)) }
+{
+    test_file(alloc, job.file.as_str())?;
+    let table = second_if(alloc, &job.table, second)?;
+    let drawing = job.drawing;
+    Ok(well(answer_to(alloc, &ToldDrawing { drawing, table }, text)?))
 }
 
 /// The page about the trace, by the table in the second text, if one is asked for.

@@ -1,10 +1,10 @@
 -- What the plain line of each command is answered: its walk refuses no word, and the rows below the command compute.
-use Rattle.std.proofs.Common.{◌≡◌, refl, false, [], ◌∷◌, None, codes}
+use Rattle.std.proofs.Common.{◌≡◌, inl, refl, false, [], ◌∷◌, None, codes}
 use Rattle.clap.proofs.OnLiterals.{clap_on_literals}
 use Rattle.clap.specs.Words.{Text}
 use Rattle.command_line.specs.Arguments.{IsListFault, IsMemory, is_flag}
 use Rattle.command_line.specs.Commands.Check.{IsCheck, IsFilesFault, check_line}
-use Rattle.command_line.specs.Commands.Draw.{IsDraw, draw_line}
+use Rattle.command_line.specs.Commands.Draw.{IsDraw, IsDrawFault, draw_line}
 use Rattle.command_line.specs.Commands.Import.{IsImport, form_of, import_line}
 use Rattle.command_line.specs.Commands.Replay.{IsReplay, replay_line}
 use Rattle.command_line.specs.Commands.Report.{IsReport, report_line}
@@ -36,11 +36,11 @@ plain_check name file certificate list plain_file plain_certificate plain_list =
     (after_word _ _ _ (codes "--correct") _ _ refl refl (after_value _ _ list _ _ plain_list refl refl refl refl (at_end _ _)))))
     refl refl refl refl tt (λ given h. h)
 
-pub plain_draw : (name file list : Text) → is_flag file ≡ false → is_flag list ≡ false → IsPlain (draw_line name file list) (IsDraw file list None None None None) (IsListFault list)
+pub plain_draw : (name file list : Text) → is_flag file ≡ false → is_flag list ≡ false → IsPlain (draw_line name file list) (IsDraw file list None None None None None None) (IsDrawFault file list None None)
 unfolding clap_on_literals
 plain_draw name file list plain_file plain_list = plain_line (codes "draw") (file ∷ codes "--correct" ∷ list ∷ []) _ _ _ _
     (after_value _ _ file _ _ plain_file refl refl refl refl (after_word _ _ _ (codes "--correct") _ _ refl refl (after_value _ _ list _ _ plain_list refl refl refl refl (at_end _ _))))
-    refl refl refl refl tt (λ given h. h)
+    refl refl refl refl (inl tt) (λ given h. h)
 
 pub plain_import : (name log : Text) → is_flag log ≡ false → IsPlain (import_line name log) (IsImport log None None None None None false false false false (form_of false)) IsMemory
 unfolding clap_on_literals

@@ -1,7 +1,5 @@
-pub mod Clocks
-pub mod Digits
 pub mod EvidenceTicks
-pub mod LongNames
+pub mod Notes
 pub mod Pens
 pub mod Pieces
 pub mod Spreads

@@ -1,16 +1,12 @@
 -- What the pieces of a phrase are as HTML (own).
-use Rattle.std.specs.Prelude.{ℕ, ◌==◌, ◌-◌, ◌/◌, ◌%◌, ◌++◌, ◌||◌, List, [], Option, Some, None, codes, decimal, if◌then◌else◌, is_none, nat_lt, length, min}
+use Rattle.std.specs.Prelude.{ℕ, ◌==◌, ◌/◌, ◌%◌, ◌++◌, List, [], Option, Some, None, codes, decimal, if◌then◌else◌, is_none}
 use Rattle.std.specs.List.{flat_map}
-use Rattle.std.specs.Option.{option_map_or}
-use Rattle.run_picture.specs.Names.{name_at}
-use Rattle.run_picture.specs.ShortNames.{short_text}
-use Rattle.step_tables.specs.Records.{message_at, source_at}
+use Rattle.run_picture.specs.Clocks.{amount_text, begin_text, from_text, time_of, time_point, time_text}
+use Rattle.run_picture.specs.Digits.{count_text, digits_text}
+use Rattle.run_picture.specs.Words.{label_text, message_text, node_text, step_text}
+use Rattle.run_picture.specs.declared.clocks.Clock.{Clock}
+use Rattle.step_tables.specs.Records.{source_at}
 use Rattle.step_tables.specs.Told.{Said}
-use Rattle.run_page.specs.Clocks.{amount_text, begin_text, from_text, limited, point_text, time_of}
-use Rattle.run_page.specs.Digits.{count_text, digits_text}
-use Rattle.run_page.specs.LongNames.{long_text}
-use Rattle.run_page.specs.declared.clocks.TheConstants.{LONGEST}
-use Rattle.run_page.specs.declared.clocks.Clock.{Clock}
 use Rattle.run_page.specs.declared.pieces.Piece.{Piece}
 use Rattle.run_page.specs.declared.pieces.Piece.TheVariants as piece
 use Rattle.run_page.specs.declared.scales.Place.{Place}
@@ -64,31 +60,7 @@ abbrev pub from_tick_text : Option Clock → ℕ → List ℕ
 from_tick_text None t = tick_text t
 from_tick_text (Some c) t = from_text c t ++ tick_aside_text t
 
--- the name of processor p; nothing if it has none
-abbrev pub name_of : List (List ℕ) → ℕ → List ℕ
-name_of names p = if nat_lt p 1 || nat_lt (length names) p then [] else name_at names (p - 1)
-
--- what processor p is called: its name, which HTML can't mistake for its own, or its number
-abbrev pub node_text : List (List ℕ) → ℕ → List ℕ
-node_text names p = if nat_lt 0 (length (name_of names p)) then long_text 64 (name_of names p) else codes "processor " ++ decimal p
-
--- what processor p is called where there is little room
-abbrev pub label_text : List (List ℕ) → ℕ → List ℕ
-label_text names p = if nat_lt 0 (length (name_of names p)) then short_text (name_of names p) else decimal p
-
--- what message s is called: its name, or its number
-abbrev pub message_text : List Said → ℕ → List ℕ
-message_text said s = if nat_lt 0 (length (message_at said s)) then long_text 48 (message_at said s) else decimal s
-
--- a record of the log
-abbrev pub source_text : ℕ → List ℕ
-source_text number = codes ", record " ++ decimal number
-
--- step k, with its record in the log, if it has one
-abbrev pub step_text : List Said → ℕ → List ℕ
-step_text said k = codes "step " ++ (decimal k ++ option_map_or source_text (source_at said k) [])
-
--- the same after a space, in parentheses
+-- step k after a space, in parentheses, with its record in the log, if it has one
 abbrev pub aside_text : List Said → ℕ → List ℕ
 aside_text said k = codes " (" ++ (step_text said k ++ codes ")")
 
@@ -124,14 +96,15 @@ place_text place = (if place.is_before then codes "-" else []) ++ decimal place.
 abbrev pub piece_text : List (List ℕ) → List Said → Option Clock → Piece → List ℕ
 piece_text names said clock (piece.Text text) = text.now
 piece_text names said clock (piece.Number n) = decimal n
+piece_text names said clock (piece.TwoDigits n) = digits_text n
 piece_text names said clock (piece.Count n) = count_text n
 piece_text names said clock (piece.Many n what) = many_text n what.now
 piece_text names said clock (piece.Ticks n) = ticks_text clock n
 piece_text names said clock (piece.Late n) = bound_text clock (codes "<b class=\"dl\">") n
 piece_text names said clock (piece.Silent n) = bound_text clock (codes "<b class=\"phi\">") n
 piece_text names said clock (piece.Short n) = short_ticks_text clock n
-piece_text names said clock (piece.Time n) = amount_text (min n LONGEST)
-piece_text names said clock (piece.Moment u part n) = point_text u (limited part) n
+piece_text names said clock (piece.Time n) = time_text n
+piece_text names said clock (piece.Moment c time part) = time_point c time part
 piece_text names said clock (piece.Begin t) = begins_text clock t
 piece_text names said clock (piece.Tick t) = told_tick_text clock t
 piece_text names said clock (piece.In t) = in_tick_text clock t

@@ -1,11 +1,12 @@
 -- Evidence by the clock, and which of it there is only because events were moved to later ticks (own). Times are those of a
 -- table.
-use Rattle.std.specs.Prelude.{ℕ, ◌≡◌, ◌-◌, ◌+◌, ◌*◌, ◌<◌, IfSome, List, Option, Some, None, option_map}
+use Rattle.std.specs.Prelude.{ℕ, ◌≡◌, ◌↔◌, ◌-◌, ◌+◌, ◌*◌, ◌<◌, Bool, IsTrue, List, Option, Some, None, option_map, slice_get, suc, zero, if◌then◌else◌}
 use Rattle.std.specs.Option.{option_and_then}
 use Rattle.step_trace.specs.Traces.{Recorded}
 use Rattle.step_tables.specs.Records.{time_at}
 use Rattle.step_tables.specs.Told.{Said}
 use Rattle.run_story.specs.declared.delays.Delay.{Delay}
+use Rattle.run_story.specs.declared.evidence.Evidence.{Evidence}
 use Rattle.run_story.specs.declared.stalls.Stall.{Stall}
 use Rattle.run_page.specs.TickSteps.{IsStepIn}
 
@@ -39,3 +40,15 @@ IsSpread trace said width (Some s) (Some d) = IsSpreadStall trace said width s �
 IsSpread trace said width (Some s) None = IsSpreadStall trace said width s
 IsSpread trace said width None (Some d) = IsSpreadDelay said width d
 IsSpread trace said width None None = ⊥
+
+-- the evidence at place n is made by the spread alone just if the flag is set
+pub record IsSpreadAt (trace : Recorded) (said : List Said) (width : ℕ) (list : List Evidence) (n : ℕ) (made : Bool) : Type 0 where
+  pub evidence : Evidence
+  pub there : slice_get list n ≡ Some evidence
+  pub flag : IsTrue made ↔ IsSpread trace said width evidence.stall evidence.delay
+
+-- so many of the first n pieces of evidence are
+abbrev pub IsSpreadCount : Recorded → List Said → ℕ → List Evidence → ℕ → ℕ → Type 0
+IsSpreadCount trace said width list zero count = count ≡ 0
+IsSpreadCount trace said width list (suc n) count = (before : ℕ) × (flag : Bool)
+    × IsSpreadCount trace said width list n before × IsSpreadAt trace said width list n flag × (count ≡ (if flag then before + 1 else before))

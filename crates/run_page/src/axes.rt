@@ -2,12 +2,12 @@
 
 ghost use Rattle.std.specs.Prelude.{◌≤◌};
 
-use crate::clocks::{Clock, power_within, round_from};
 use crate::pens::Pen;
 use crate::pieces::Piece;
 use crate::pieces::Piece::{Count, Moment, Percent, Text};
+use crate::round_times::round_from;
 use crate::scales::{Span, WIDE};
-use run_picture::round_step;
+use run_picture::{Clock, power_within, round_step};
 
 /// Writes the axis of some ticks, with at most so many numbers or a few more: points of time if ticks have a known length.
 pub(crate) fn put_axis(pen: &mut Pen<'_>, clock: Option<Clock>, span: Span, numbers: u64) {
@@ -33,17 +33,12 @@ fn put_ticks(pen: &mut Pen<'_>, span: Span, numbers: u64) {
 fn put_times(pen: &mut Pen<'_>, clock: Clock, span: Span, numbers: u64) {
     let times = Times::of(clock, span);
     let step = times.step(numbers);
-    let part = power_within(step).min(clock.unit.nanoseconds()).max(1);
+    let part = power_within(step);
     let first = times.begin.div_ceil(step);
     for k in 0..20 {
         let time = first.saturating_add(k).saturating_mul(step);
         if time <= times.end {
-            let moment = Moment {
-                unit: clock.unit,
-                part,
-                count: time / part,
-            };
-            put_label(pen, moment, times.place(time));
+            put_label(pen, Moment { clock, time, part }, times.place(time));
         }
     }
 }

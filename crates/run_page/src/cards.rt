@@ -4,6 +4,7 @@ use crate::delay_words::put_delay_words;
 use crate::panes::put_picture;
 use crate::pens::Pen;
 use crate::pieces::Piece::{Begin, Count, From, Number, Text};
+use crate::rooms::{ROOM_FOR_PICTURES, put_within};
 use crate::runs::Run;
 use crate::scenes::{LARGE, Scene};
 use crate::stall_words::put_stall_words;
@@ -14,8 +15,8 @@ use std::alloc::Global;
 /// How many cards a page has.
 pub(crate) const CARDS: usize = 40;
 
-/// A page that would grow beyond so many bytes gets no further picture.
-const ROOM_FOR_PICTURES: usize = 700_000;
+/// With more nodes than this only the first card has a picture of all lanes.
+const FEW_NODES: u64 = 16;
 
 /// Writes the cards of the first evidence. Those that count only after the calm row come into one part, which is closed.
 pub(crate) fn put_cards(alloc: Global, pen: &mut Pen<'_>, run: &Run<'_>) {
@@ -68,15 +69,34 @@ fn put_card(alloc: Global, pen: &mut Pen<'_>, run: &Run<'_>, evidence: &Evidence
     put_card_words(pen, run, evidence);
     pen.text("</div><div class=\"px\">");
     let scene = Scene::of(run, evidence, place.saturating_add(1));
-    let mut picture = Pen::new(alloc, run.names, run.said, run.clock);
-    put_picture(&mut picture, &scene);
-    let is_large = pen.len().saturating_add(picture.len()) > ROOM_FOR_PICTURES;
-    if is_large && !picture.is_refused() {
-        pen.text("<p class=\"cap\">Not drawn, for the page would grow too large.</p>");
-    } else {
-        pen.append(&picture);
+    put_scene(alloc, pen, run, &scene);
+    if scene.has_some_lanes() && may_have_all_lanes(run, place) {
+        put_all_lanes(alloc, pen, run, &scene);
     }
     pen.text("</div></div></details>");
+}
+
+/// Writes the picture of a scene, if the page has room for it.
+fn put_scene(alloc: Global, pen: &mut Pen<'_>, run: &Run<'_>, scene: &Scene<'_>) {
+    let mut picture = Pen::new(alloc, run.names, run.said, run.clock);
+    put_picture(&mut picture, scene);
+    put_within(pen, &picture, ROOM_FOR_PICTURES);
+}
+
+/// Whether the card of this place has the picture of all lanes too: the first one, and the next ones if the nodes are few.
+fn may_have_all_lanes(run: &Run, place: usize) -> bool {
+    place == 0 || place < LARGE && run.count() <= FEW_NODES
+}
+
+/// Writes the picture of a scene with all lanes, closed at first.
+fn put_all_lanes(alloc: Global, pen: &mut Pen<'_>, run: &Run<'_>, scene: &Scene<'_>) {
+    pen.put(&[
+        Text("<details class=\"all\"><summary>All "),
+        Number(run.count()),
+        Text(" lanes</summary>"),
+    ]);
+    put_scene(alloc, pen, run, &scene.with_all_lanes());
+    pen.text("</details>");
 }
 
 /// Writes a card up to its words.

@@ -3,9 +3,10 @@
 use crate::headlines::was;
 use crate::pens::Pen;
 use crate::pieces::Piece::{Late, Many, Message, Node, Stepped, Text, Tick, Ticks};
+use crate::row_table::put_link;
 use crate::runs::Run;
 use crate::spreads::put_miss_by_clock;
-use run_story::{Delay, Stall};
+use run_story::{Delay, Stall, ended_silence};
 use step_trace::Act;
 
 /// Writes the paragraph of a late message, with the silence that explains it, if one does.
@@ -18,8 +19,9 @@ pub(crate) fn put_delay_words(
     put_missed(pen, run, delay);
     put_fate(pen, run, delay.miss.sent);
     put_meanwhile(pen, run, delay);
-    if let Some(stall) = stall {
-        put_quiet(pen, run, delay, stall);
+    match stall {
+        Some(stall) => put_quiet(pen, run, delay, stall),
+        None => put_ended(pen, run, delay),
     }
     put_ruled_out(pen, run, delay);
     put_later_ones(pen, run, delay);
@@ -154,6 +156,41 @@ fn put_quiet(pen: &mut Pen<'_>, run: &Run<'_>, delay: Delay, stall: Stall) {
         Node(delay.to),
         Text(" was silent. "),
     ]);
+}
+
+/// Writes which silence ended shortly before, if one did that may have made the message late.
+fn put_ended(pen: &mut Pen<'_>, run: &Run<'_>, delay: Delay) {
+    let Some(place) = ended_silence(run.trace, run.evidence, delay) else {
+        return;
+    };
+    let Some(evidence) = run.evidence.get(place) else {
+        return;
+    };
+    if let Some(stall) = evidence.stall {
+        put_end_time(
+            pen,
+            run.tick(delay.miss.sent),
+            stall.gap.to.saturating_add(1),
+        );
+        pen.put(&[
+            Text("the silence of "),
+            Node(stall.gap.proc),
+            Text(" ended (evidence "),
+        ]);
+        put_link(pen, place);
+        pen.text("). ");
+    }
+}
+
+/// Writes how long before or after a Send a silence ended, by the tick of the Send and the one after the silence.
+fn put_end_time(pen: &mut Pen<'_>, sent: u64, end: u64) {
+    if end < sent {
+        pen.put(&[Ticks(sent - end), Text(" before it was sent, ")]);
+    } else if sent < end {
+        pen.put(&[Ticks(end - sent), Text(" after it was sent, ")]);
+    } else {
+        pen.text("As it was sent, ");
+    }
 }
 
 /// Writes which bounds a late message rules out, and until when.

@@ -18,6 +18,7 @@ pub(crate) fn put_lead(pen: &mut Pen<'_>, run: &Run<'_>) {
     put_blame(pen, run);
     put_room(pen, run);
     put_lost(pen, run);
+    put_lost_for(pen, run);
     put_under_way(pen, run);
     put_silent_to_end(pen, run);
 }
@@ -219,7 +220,7 @@ fn put_room(pen: &mut Pen<'_>, run: &Run<'_>) {
 /// Writes how many messages are lost, if the headline doesn't say it.
 fn put_lost(pen: &mut Pen<'_>, run: &Run<'_>) {
     let counts = run.counts;
-    if counts.lost == 0 || run.found.headline == Some(Headline::NeverReceived) {
+    if counts.lost == 0 || is_lost_in_headline(run) {
         return;
     }
     pen.put(&[
@@ -230,6 +231,32 @@ fn put_lost(pen: &mut Pen<'_>, run: &Run<'_>) {
         Text(was(counts.lost)),
         Text(" never received. "),
     ]);
+}
+
+/// Whether the headline says how many messages are lost.
+fn is_lost_in_headline(run: &Run) -> bool {
+    run.found.headline == Some(Headline::NeverReceived)
+}
+
+/// Writes who most lost messages were for, if these are few.
+fn put_lost_for(pen: &mut Pen<'_>, run: &Run<'_>) {
+    if run.lost.who.len() == 0 {
+        return;
+    }
+    pen.put(&[
+        Count(run.lost.lost),
+        Text(if is_lost_in_headline(run) {
+            " of those never received were for "
+        } else {
+            " of those were for "
+        }),
+    ]);
+    for k in 0..run.lost.who.len() {
+        let comma = if k == 0 { "" } else { ", " };
+        let to = run.lost.who[k];
+        pen.put(&[Text(comma), Text("<b>"), Node(to), Text("</b>")]);
+    }
+    pen.text(". ");
 }
 
 /// Writes how many messages were sent so late that nobody could miss them.

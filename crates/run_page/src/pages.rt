@@ -5,7 +5,6 @@ ghost use Rattle.step_trace.specs.Fronts.{IsReport};
 ghost use Rattle.step_trace.specs.Processors.{IsWithin};
 
 use crate::cards::{put_card_words, put_cards};
-use crate::clocks::Clock;
 use crate::glances::put_glance;
 use crate::headlines::put_headline;
 use crate::leads::put_lead;
@@ -16,30 +15,19 @@ use crate::pieces::Piece::{Count, Many, Node, Number, Short, Text};
 use crate::row_table::put_row_table;
 use crate::runs::{Found, Run, row_at};
 use crate::scans::Scan;
+use crate::starts::put_start;
 use crate::styles::{COLOURS, PICTURES, PLACES, TABLES, WORDS};
 use crate::timings::Timing;
 use crate::titles::put_title;
 use crate::who::put_who;
 use run_picture::takers::takers;
+use run_picture::{COLUMNS, LogWords, Strokes, clock_of, strokes_of};
 use run_story::{
-    Evidence, MessageCounts, Named, brief_rows, calm_row, count_messages, evidence_of, headline_of,
-    named_evidence,
+    Evidence, LostReceivers, MessageCounts, Named, brief_rows, calm_row, count_messages,
+    evidence_of, headline_of, lost_receivers, named_evidence,
 };
 use std::alloc::{AllocError, Global};
-use step_tables::StepRow;
 use step_trace::{ProcSet, Row, Trace};
-
-/// What a log calls things, as far as that is known.
-#[derive(Clone, Copy)]
-pub struct LogWords<'a> {
-    /// The names of the processors, in their order; one without a name has its number.
-    pub names: &'a [&'a str],
-    /// What a table says about the steps; nothing without one.
-    pub said: &'a [StepRow],
-    /// How many nanoseconds the unit of the table's times has. If it isn't given, they are nanoseconds if the first tick
-    /// begins at `STAMPS` or later, and else no time is told.
-    pub unit: Option<u64>,
-}
 
 /// The page about a run, in UTF-8: HTML that needs no script and loads nothing else. `rows` is the report of the trace
 /// for the set. The row that applies to the tick `at` is the calm one, if it is given.
@@ -61,7 +49,6 @@ pub fn page_text(
     let bounds = Bounds::of(alloc, trace, set, row_at(rows, 0), found.calm)?;
     let steps = Steps::of(alloc, trace, set)?;
     let timing = Timing::of(trace, words.said, words.unit);
-    let clock = clock_of(trace, timing);
     let run = Run {
         trace,
         set,
@@ -69,23 +56,20 @@ pub fn page_text(
         names: words.names,
         said: words.said,
         timing,
-        clock,
+        clock: clock_of(trace, words.said, words.unit),
         evidence: &story.evidence,
         named: &story.named,
         brief: &story.brief,
         takers: &steps.takers,
         scan: &steps.scan,
+        strokes: &steps.strokes,
         whole: &bounds.whole,
         rest: &bounds.rest,
         counts: steps.counts,
+        lost: &steps.lost,
         found,
     };
     written(alloc, &run)
-}
-
-/// The clock of a run, if the length of its ticks is known, and in which unit.
-fn clock_of(trace: &Trace, timing: Option<Timing>) -> Option<Clock> {
-    timing?.clock(trace.last_tick())
 }
 
 /// Where the run is calm, and its headline.
@@ -170,7 +154,9 @@ impl Bounds {
 struct Steps {
     takers: Vec<Option<u64>>,
     scan: Scan,
+    strokes: Strokes,
     counts: MessageCounts,
+    lost: LostReceivers,
 }
 
 impl Steps {
@@ -179,8 +165,10 @@ impl Steps {
     {
         Ok(Steps {
             counts: count_messages(alloc, trace, set)?,
+            lost: lost_receivers(alloc, trace, set)?,
             takers: takers(alloc, trace)?,
             scan: Scan::of(alloc, trace)?,
+            strokes: strokes_of(alloc, trace, COLUMNS)?,
         })
     }
 }
@@ -233,7 +221,7 @@ fn put_header(pen: &mut Pen<'_>, run: &Run<'_>) {
     pen.text("</h1><p class=\"lead\">");
     put_lead(pen, run);
     pen.text("</p>");
-    put_notes(pen, run);
+    put_notes(pen, run, "<p class=\"note\">");
     pen.text("<p class=\"facts\">");
     put_facts(pen, run);
     pen.text("</p></header>");
@@ -253,7 +241,7 @@ fn put_facts(pen: &mut Pen<'_>, run: &Run<'_>) {
     put_length(pen, run);
 }
 
-/// Writes how long the run is, and how long its ticks are.
+/// Writes how long the run is, how long its ticks are, and when the first one begins.
 fn put_length(pen: &mut Pen<'_>, run: &Run<'_>) {
     if run.clock.is_some() {
         pen.put(&[Short(run.last()), Text(" in ")]);
@@ -262,6 +250,7 @@ fn put_length(pen: &mut Pen<'_>, run: &Run<'_>) {
     if run.clock.is_some() {
         pen.put(&[Text(" of "), Short(1)]);
     }
+    put_start(pen, run);
 }
 
 /// Writes which nodes are members.
@@ -286,7 +275,7 @@ fn put_chosen(pen: &mut Pen<'_>, run: &Run<'_>) {
 fn put_body(alloc: Global, pen: &mut Pen<'_>, run: &Run<'_>) {
     put_glance(pen, run);
     pen.text("<div class=\"side\">");
-    put_who(pen, run);
+    put_who(alloc, pen, run);
     put_how(pen, run);
     put_key(pen, run);
     put_cards(alloc, pen, run);
@@ -343,6 +332,7 @@ fn put_bug_report(pen: &mut Pen<'_>, run: &Run<'_>) {
             put_reported(pen, run, evidence, place);
         }
     }
+    put_notes(pen, run, "<p>");
     pen.text("</div></details>");
 }
 

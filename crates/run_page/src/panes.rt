@@ -9,7 +9,7 @@ use crate::pieces::Piece::{Begin, Count, Number, Percent, Short, Text};
 use crate::run_lanes::{lanes_in, paleness, put_lane_names};
 use crate::runs::Run;
 use crate::scales::{Span, WIDE};
-use crate::scenes::{LARGE, Scene, TOLD};
+use crate::scenes::{LARGE, Scene};
 use crate::step_marks::put_steps;
 use crate::titles::{gap_ticks, put_title};
 use run_story::Stall;
@@ -76,7 +76,7 @@ impl<'a> Pane<'a> {
             span,
             first: scene.run.first_from(span.first),
             next: scene.run.first_from(span.to.saturating_add(1)),
-            is_told: scene.no <= TOLD,
+            is_told: scene.is_told,
             most: if scene.right.is_none() {
                 most
             } else {

@@ -4,8 +4,8 @@ ghost use Rattle.std.specs.Prelude.{◌≡◌, true, map};
 ghost use Rattle.run_page.specs.Pieces.{pieces_text};
 ghost use Rattle.run_page.specs.Pens.{HasWritten};
 
-use crate::clocks::Clock;
 use crate::pieces::{Piece, push_pieces};
+use run_picture::Clock;
 use std::alloc::{AllocError, Global};
 use step_tables::StepRow;
 
@@ -75,6 +75,15 @@ impl<'a> Pen<'a> {
 
     /// Writes HTML unchanged.
     pub(crate) fn text(&mut self, text: &'static str)
+        ensures { HasWritten text.now self.old self.new }
+    {
+        if !self.is_refused && self.text.extend_from_slice(text.as_bytes()).is_err() {
+            self.is_refused = true;
+        }
+    }
+
+    /// Writes a text that HTML needs no escape for.
+    pub(crate) fn plain(&mut self, text: &str)
         ensures { HasWritten text.now self.old self.new }
     {
         if !self.is_refused && self.text.extend_from_slice(text.as_bytes()).is_err() {

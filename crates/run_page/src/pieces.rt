@@ -1,16 +1,15 @@
 //! The pieces of a phrase, and how each of them is written.
 
 ghost use Rattle.std.specs.Prelude.{◌≡◌, ◌≤◌, ◌<◌, ◌++◌, OnOk, codes, map, length, decimal};
-ghost use Rattle.run_page.specs.Digits.{digits_text};
-ghost use Rattle.run_page.specs.Pieces.{aside_text, begins_text, both_aside_text, bound_text, from_tick_text, in_tick_text, known_text, label_text, made_text, many_text, message_text, name_of, node_text, percent_text, piece_text, pieces_text, place_text, short_ticks_text, source_text, step_at_text, step_text, stepped_text, tick_aside_text, tick_text, ticks_text, told_tick_text};
+ghost use Rattle.run_page.specs.Pieces.{aside_text, begins_text, both_aside_text, bound_text, from_tick_text, in_tick_text, known_text, made_text, many_text, percent_text, piece_text, pieces_text, place_text, short_ticks_text, step_at_text, stepped_text, tick_aside_text, tick_text, ticks_text, told_tick_text};
 
-use crate::clocks::{Clock, Unit, push_moment, push_time};
-use crate::digits::{push_count, push_digits, push_number};
-use crate::long_names::push_long;
 use crate::scales::Place;
-use run_picture::push_short;
+use run_picture::{
+    Clock, push_count, push_digits, push_label, push_message, push_nanoseconds, push_node,
+    push_number, push_step,
+};
 use std::alloc::AllocError;
-use step_tables::{StepRow, message_at, source_at};
+use step_tables::{StepRow, source_at};
 
 /// A piece of a phrase.
 #[derive(Clone, Copy)]
@@ -19,6 +18,8 @@ pub(crate) enum Piece {
     Text(&'static str),
     /// A number in digits alone: a tick, a step, or a length in a picture.
     Number(u64),
+    /// A number below 100 in two digits.
+    TwoDigits(u64),
     /// A number with a comma before each three digits.
     Count(u64),
     /// So many of something, as `2,012 ticks`.
@@ -33,8 +34,8 @@ pub(crate) enum Piece {
     Short(u64),
     /// A time of so many nanoseconds; of a longer one as many as are told.
     Time(u64),
-    /// A point of time: so many times a part of a unit, which is a power of ten.
-    Moment { unit: Unit, part: u64, count: u64 },
+    /// A point of time of so many nanoseconds, in parts of so many, which are a power of ten.
+    Moment { clock: Clock, time: u64, part: u64 },
     /// When a tick begins, or else the tick.
     Begin(u64),
     /// When a tick begins, with the tick in parentheses; or else the tick alone.
@@ -93,14 +94,15 @@ fn push_piece(
     match piece {
         Piece::Text(text) => out.extend_from_slice(text.as_bytes()),
         Piece::Number(number) => push_number(out, number),
+        Piece::TwoDigits(number) => push_digits(out, number),
         Piece::Count(number) => push_count(out, number),
         Piece::Many(count, what) => push_many(out, count, what.as_bytes()),
         Piece::Ticks(count) => push_ticks(out, clock, count),
         Piece::Late(count) => push_bound(out, clock, b"<b class=\"dl\">", count),
         Piece::Silent(count) => push_bound(out, clock, b"<b class=\"phi\">", count),
         Piece::Short(count) => push_short_ticks(out, clock, count),
-        Piece::Time(time) => push_time(out, time),
-        Piece::Moment { unit, part, count } => push_moment(out, unit, part, count),
+        Piece::Time(time) => push_nanoseconds(out, time),
+        Piece::Moment { clock, time, part } => clock.push_time(out, time, part),
         Piece::Begin(tick) => push_begins(out, clock, tick),
         Piece::Tick(tick) => push_told_tick(out, clock, tick),
         Piece::In(tick) => push_in_tick(out, clock, tick),
@@ -306,63 +308,6 @@ fn push_both_aside(
     out.extend_from_slice(b")")
 }
 
-/// How many characters of a processor's name, and of a message's, are shown.
-const NODE_CHARACTERS: usize = 64;
-
-const MESSAGE_CHARACTERS: usize = 48;
-
-/// The name of the processor of this number; nothing if it has none.
-fn name_of<'a>(names: &[&'a str], processor: u64) -> &'a [u8]
-    ensures { result.now ≡ name_of (map (λ x. x.now) names.now) processor }
-{
-    if processor < 1 || processor > names.len() as u64 {
-        return &[];
-    }
-    names[processor as usize - 1].as_bytes()
-}
-
-fn push_node(out: &mut Vec<u8>, names: &[&str], processor: u64) -> Result<(), AllocError>
-    ensures { OnOk result (out.new.items ≡ out.old.items ++ node_text (map (λ x. x.now) names.now) processor) }
-{
-    let name = name_of(names, processor);
-    if name.len() > 0 {
-        return push_long(out, name, NODE_CHARACTERS);
-    }
-    out.extend_from_slice(b"processor ")?;
-    push_number(out, processor)
-}
-
-fn push_label(out: &mut Vec<u8>, names: &[&str], processor: u64) -> Result<(), AllocError>
-    ensures { OnOk result (out.new.items ≡ out.old.items ++ label_text (map (λ x. x.now) names.now) processor) }
-{
-    let name = name_of(names, processor);
-    if name.len() > 0 {
-        return push_short(out, name);
-    }
-    push_number(out, processor)
-}
-
-fn push_message(out: &mut Vec<u8>, said: &[StepRow], number: u64) -> Result<(), AllocError>
-    ensures { OnOk result (out.new.items ≡ out.old.items ++ message_text said.now number) }
-{
-    let name = message_at(said, number);
-    if name.len() > 0 {
-        return push_long(out, name, MESSAGE_CHARACTERS);
-    }
-    push_number(out, number)
-}
-
-fn push_step(out: &mut Vec<u8>, said: &[StepRow], number: u64) -> Result<(), AllocError>
-    ensures { OnOk result (out.new.items ≡ out.old.items ++ step_text said.now number) }
-{
-    out.extend_from_slice(b"step ")?;
-    push_number(out, number)?;
-    match source_at(said, number) {
-        Some(source) => push_source(out, source),
-        None => Ok(()),
-    }
-}
-
 /// Appends a step with its record in the log, in parentheses; nothing if the record isn't known.
 fn push_known(out: &mut Vec<u8>, said: &[StepRow], number: u64) -> Result<(), AllocError>
     ensures { OnOk result (out.new.items ≡ out.old.items ++ known_text said.now number) }
@@ -380,14 +325,6 @@ fn push_aside(out: &mut Vec<u8>, said: &[StepRow], number: u64) -> Result<(), Al
     out.extend_from_slice(b" (")?;
     push_step(out, said, number)?;
     out.extend_from_slice(b")")
-}
-
-/// Appends the number of a record of the log.
-fn push_source(out: &mut Vec<u8>, source: u64) -> Result<(), AllocError>
-    ensures { OnOk result (out.new.items ≡ out.old.items ++ source_text source) }
-{
-    out.extend_from_slice(b", record ")?;
-    push_number(out, source)
 }
 
 fn push_percent(out: &mut Vec<u8>, parts: u64) -> Result<(), AllocError>

@@ -98,7 +98,7 @@ fn put_links(pen: &mut Pen<'_>, named: Named) {
 }
 
 /// Writes the number of evidence, as a link if it has a card.
-fn put_link(pen: &mut Pen<'_>, place: usize) {
+pub(crate) fn put_link(pen: &mut Pen<'_>, place: usize) {
     let no = place.saturating_add(1) as u64;
     if place < CARDS {
         pen.put(&[

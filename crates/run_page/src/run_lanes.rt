@@ -7,9 +7,9 @@ use crate::pens::Pen;
 use crate::pieces::Piece::{Label, Node, Number, Text};
 use crate::runs::Run;
 use crate::scales::WIDE;
-use crate::scans::COLUMNS;
 use crate::stairs::whole;
 use crate::titles::put_title;
+use run_picture::{COLUMNS, Stroke};
 use run_story::{Evidence, Stall};
 use step_trace::ProcSet;
 
@@ -216,26 +216,30 @@ fn put_strip(pen: &mut Pen<'_>, run: &Run<'_>, proc: u64, y: u64, thick: u64) {
         Number(thick),
         Text("\" d=\""),
     ]);
-    let mut length = 0_u64;
-    for column in 0..COLUMNS + 1 {
-        if column < COLUMNS && run.scan.is_busy(proc, column) {
-            length = length.saturating_add(1);
-        } else if length > 0 {
-            put_stroke(pen, column.saturating_sub(length), y, length);
-            length = 0;
-        }
-    }
+    put_steps(pen, run, proc, y);
     pen.text("\"/>");
 }
 
-/// Writes a stroke over so many columns.
-fn put_stroke(pen: &mut Pen<'_>, column: u64, y: u64, length: u64) {
+/// Writes the strokes of a processor.
+fn put_steps(pen: &mut Pen<'_>, run: &Run<'_>, proc: u64, y: u64) {
+    let mut from = 0;
+    for _ in 0..COLUMNS {
+        let Some(stroke) = run.strokes.stroke_from(proc, from) else {
+            return;
+        };
+        put_stroke(pen, stroke, y);
+        from = stroke.end;
+    }
+}
+
+fn put_stroke(pen: &mut Pen<'_>, stroke: Stroke, y: u64) {
+    let (first, end) = (stroke.first.min(COLUMNS), stroke.end.min(COLUMNS));
     pen.put(&[
         Text("M"),
-        Number(column.min(COLUMNS) * 10),
+        Number(first * 10),
         Text(" "),
         Number(y),
         Text("h"),
-        Number(length.min(COLUMNS) * 10),
+        Number(end.saturating_sub(first) * 10),
     ]);
 }

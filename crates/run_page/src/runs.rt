@@ -2,14 +2,14 @@
 
 ghost use Rattle.std.specs.Prelude.{◌≤◌};
 
-use crate::clocks::Clock;
 use crate::node_bounds::NodeBounds;
 use crate::pieces::Piece;
 use crate::scans::{Scan, tick_at};
 use crate::tick_steps::steps_before;
 use crate::timings::Timing;
 use run_picture::takers::taker_in;
-use run_story::{Evidence, Headline, MessageCounts, Named};
+use run_picture::{Clock, Strokes};
+use run_story::{Evidence, Headline, LostReceivers, MessageCounts, Named};
 use step_tables::StepRow;
 use step_trace::{Act, ProcSet, Row, Trace};
 
@@ -33,10 +33,14 @@ pub(crate) struct Run<'a> {
     /// For each message the Receive that takes it.
     pub takers: &'a [Option<u64>],
     pub scan: &'a Scan,
+    /// In which columns of the whole run each processor makes steps.
+    pub strokes: &'a Strokes,
     /// The bounds of nodes and pairs in the whole run, and from the calm row on.
     pub whole: &'a NodeBounds,
     pub rest: &'a NodeBounds,
     pub counts: MessageCounts,
+    /// Who most lost messages are for, if these are few.
+    pub lost: &'a LostReceivers,
     pub found: Found,
 }
 

@@ -1,4 +1,4 @@
-//! What one pass over a trace finds: where on the page each processor steps, its last step, and the kinds of Receives.
+//! What one pass over a trace finds: the last step of each processor, and the kinds of Receives.
 
 ghost use Rattle.std.specs.Prelude.{◌≡◌};
 ghost use Rattle.step_trace.specs.Ticks.{tick_of};
@@ -6,14 +6,9 @@ ghost use Rattle.step_trace.specs.Ticks.{tick_of};
 use std::alloc::{AllocError, Global};
 use step_trace::{Act, MAX_MEMBER, Step, Trace};
 
-/// How many columns the lanes of a whole run have.
-pub(crate) const COLUMNS: u64 = 1_000;
-
 /// What one pass over a trace finds.
 #[derive(Drop)]
 pub(crate) struct Scan {
-    // For each processor and each column whether the processor makes a step there.
-    busy: Vec<bool>,
     // For each processor the tick of its last step; 0 if there is none.
     last_ticks: Vec<u64>,
     /// How many Receives take something, and how many take nothing.
@@ -24,10 +19,8 @@ pub(crate) struct Scan {
 impl Scan {
     /// Time grows with the trace.
     pub(crate) fn of(alloc: Global, trace: &Trace) -> Result<Self, AllocError> {
-        let processors = MAX_MEMBER as usize + 1;
         let mut scan = Scan {
-            busy: vec![in alloc; false; processors * COLUMNS as usize]?,
-            last_ticks: vec![in alloc; 0; processors]?,
+            last_ticks: vec![in alloc; 0; MAX_MEMBER as usize + 1]?,
             full: 0,
             empty: 0,
         };
@@ -41,14 +34,9 @@ impl Scan {
         let Some(step) = trace.step(no) else {
             return;
         };
-        let tick = tick_at(trace, no);
-        let place = place_of(step.proc, column_of(tick, trace.last_tick()));
-        if place < self.busy.len() {
-            self.busy[place] = true;
-        }
         let proc = step.proc as usize;
         if proc < self.last_ticks.len() {
-            self.last_ticks[proc] = tick;
+            self.last_ticks[proc] = tick_at(trace, no);
         }
         self.count(step);
     }
@@ -60,14 +48,6 @@ impl Scan {
             } else {
                 self.full = self.full.saturating_add(1);
             }
-        }
-    }
-
-    /// Whether a processor makes a step in this column.
-    pub(crate) fn is_busy(&self, proc: u64, column: u64) -> bool {
-        match self.busy.get(place_of(proc, column)) {
-            Some(is) => *is,
-            None => false,
         }
     }
 
@@ -90,15 +70,4 @@ pub(crate) fn tick_at(trace: &Trace, no: u64) -> u64
         return 0;
     }
     trace.tick(no)
-}
-
-/// The column of a tick, in a run with this last tick.
-fn column_of(tick: u64, last: u64) -> u64 {
-    let last = last.max(1);
-    let before = tick.saturating_sub(1).min(last - 1);
-    before.min(1_000_000) * COLUMNS / last
-}
-
-fn place_of(proc: u64, column: u64) -> usize {
-    (proc.min(MAX_MEMBER) * COLUMNS + column.min(COLUMNS - 1)) as usize
 }

@@ -23,7 +23,7 @@ const PART_STEPS: u64 = 160;
 /// The evidence up to these numbers has the larger pictures, and titles for each of their marks.
 pub(crate) const LARGE: usize = 3;
 
-pub(crate) const TOLD: usize = 5;
+const TOLD: usize = 5;
 
 /// What a picture of evidence shows.
 #[derive(Drop)]
@@ -33,28 +33,58 @@ pub(crate) struct Scene<'a> {
     /// The number of the evidence, from 1.
     pub no: usize,
     pub lanes: ProcSet,
+    /// Whether each mark has a title that says what it is.
+    pub is_told: bool,
     /// One part, or the two ends.
     pub left: Span,
     pub right: Option<Span>,
 }
 
 impl<'a> Scene<'a> {
+    /// What the picture of the evidence of this number shows.
     pub(crate) fn of(run: &'a Run<'a>, evidence: &'a Evidence, no: usize) -> Self {
-        let core = core_of(run.trace, evidence, taker_of(run.takers, evidence));
-        let window = padded(core, run.last());
-        let lanes = lanes_of(run, evidence, window);
+        let window = padded(core_in(run, evidence), run.last());
         let whole = Scene {
             run,
             evidence,
             no,
-            lanes,
+            lanes: lanes_of(run, evidence, window),
+            is_told: no <= TOLD,
             left: window,
             right: None,
         };
-        if whole.steps_in_lanes() <= whole.most_steps() {
+        if whole.fits() {
             return whole;
         }
-        whole.in_two(core)
+        whole.in_two(core_in(run, evidence))
+    }
+
+    /// The same with the lanes of all nodes, and with titles for the witness alone.
+    pub(crate) fn with_all_lanes(&self) -> Self {
+        let (run, evidence) = (self.run, self.evidence);
+        let whole = Scene {
+            run,
+            evidence,
+            no: self.no,
+            lanes: ProcSet::all_to(run.count()),
+            is_told: false,
+            left: padded(core_in(run, evidence), run.last()),
+            right: None,
+        };
+        if whole.fits() {
+            return whole;
+        }
+        whole.in_two(core_in(run, evidence))
+    }
+
+    /// Whether it leaves lanes out.
+    pub(crate) fn has_some_lanes(&self) -> bool {
+        lanes_in(self.lanes) < self.run.count()
+    }
+
+    /// Whether one part has room for all of its steps.
+    fn fits(&self) -> bool {
+        self.steps_in_lanes() <= self.most_steps()
     }
 
     /// About how many steps its lanes have.
@@ -95,10 +125,16 @@ impl<'a> Scene<'a> {
             evidence: self.evidence,
             no: self.no,
             lanes: self.lanes,
+            is_told: self.is_told,
             left,
             right,
         }
     }
+}
+
+/// The ticks that a picture of evidence has to show.
+fn core_in(run: &Run, evidence: &Evidence) -> Span {
+    core_of(run.trace, evidence, taker_of(run.takers, evidence))
 }
 
 /// The ticks around this one with so many steps before it, and after it.

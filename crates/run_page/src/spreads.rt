@@ -1,7 +1,7 @@
 //! Evidence by the clock, and which of it there is only because events were moved to later ticks.
 
-ghost use Rattle.std.specs.Prelude.{◌≡◌, ◌↔◌, ℕ, IsTrue, Some};
-ghost use Rattle.run_page.specs.Spreads.{IsLessThanHalf, IsSpread, IsSpreadDelay, IsSpreadStall, Lasts, passed};
+ghost use Rattle.std.specs.Prelude.{◌≡◌, ◌↔◌, ◌+◌, ◌<◌, ◌^◌, ℕ, IsTrue, Some, length, if◌then◌else◌};
+ghost use Rattle.run_page.specs.Spreads.{IsLessThanHalf, IsSpread, IsSpreadCount, IsSpreadDelay, IsSpreadStall, Lasts, passed};
 
 use crate::pens::Pen;
 use crate::pieces::Piece::{Node, Text, Ticks, Time};
@@ -14,14 +14,27 @@ use step_tables::{StepRow, time_at};
 use step_trace::Trace;
 
 /// How many pieces of evidence are made by the spread alone, in ticks of this length.
-pub(crate) fn spread_count(run: &Run, width: u64) -> u64 {
-    let mut count = 0_u64;
-    for evidence in run.evidence {
-        if is_spread(run.trace, run.said, width, evidence) {
-            count = count.saturating_add(1);
-        }
+pub(crate) fn spread_count(
+    trace: &Trace,
+    said: &[StepRow],
+    evidence: &[Evidence],
+    width: u64,
+) -> u64
+    ensures { IsSpreadCount trace.now said.now width evidence.now (length evidence.now) result }
+{
+    let mut count = 0;
+    for k in 0..evidence.len() {
+        count = plus(count, is_spread(trace, said, width, &evidence[k]));
     }
     count
+}
+
+/// One more, if it counts.
+fn plus(count: u64, counts: bool) -> u64
+    requires { count < 2 ^ 63 }
+    ensures { result ≡ (if counts then count + 1 else count) }
+{
+    if counts { count + 1 } else { count }
 }
 
 /// Whether evidence is made by the spread alone: of each part of it the clock shows less than half of what the ticks say.

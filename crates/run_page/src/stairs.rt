@@ -2,13 +2,13 @@
 
 ghost use Rattle.std.specs.Prelude.{◌≤◌};
 
-use crate::clocks::{Clock, power_of_ten, round_from};
 use crate::pens::Pen;
 use crate::pieces::Piece;
 use crate::pieces::Piece::{Count, From, Number, Percent, Short, Text, Tick, Ticks, Time};
+use crate::round_times::{power_of_ten, round_from};
 use crate::runs::Run;
 use crate::scales::{Span, WIDE};
-use run_picture::BoundScale;
+use run_picture::{BoundScale, Clock};
 use step_trace::Row;
 
 /// The height of the picture, in pixels.

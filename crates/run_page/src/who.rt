@@ -5,7 +5,9 @@ use crate::pieces::Piece;
 use crate::pieces::Piece::{From, Label, Node, Number, Text, Ticks};
 use crate::run_lanes::lanes_in;
 use crate::runs::Run;
+use crate::shades::put_shades;
 use run_picture::log_of;
+use std::alloc::Global;
 use step_trace::ProcSet;
 
 /// With more members than this the table has only those with the greatest numbers, so many.
@@ -14,7 +16,7 @@ const FEW_MEMBERS: u64 = 12;
 const SOME_MEMBERS: u64 = 10;
 
 /// Writes the section about who is late or slow.
-pub(crate) fn put_who(pen: &mut Pen<'_>, run: &Run<'_>) {
+pub(crate) fn put_who(alloc: Global, pen: &mut Pen<'_>, run: &Run<'_>) {
     let shown = shown_members(run);
     pen.text(
         "<section aria-labelledby=\"h-who\"><h2 id=\"h-who\">Who</h2><div class=\"scroll\" tabindex=\"0\" role=\"region\" aria-label=\"Bounds of each node and each pair\"><table class=\"heat\"><thead>",
@@ -24,6 +26,9 @@ pub(crate) fn put_who(pen: &mut Pen<'_>, run: &Run<'_>) {
     put_rows(pen, run, shown);
     pen.text("</tbody></table></div>");
     put_caption(pen, run, shown);
+    if lanes_in(shown) < run.members() {
+        put_shades(alloc, pen, run);
+    }
     pen.text("</section>");
 }
 
@@ -151,7 +156,7 @@ fn put_later(pen: &mut Pen<'_>, run: &Run<'_>, bound: u64) {
 }
 
 /// A bound in a cell: as time, or else as a number of ticks.
-fn cell(run: &Run, bound: u64) -> Piece {
+pub(crate) fn cell(run: &Run, bound: u64) -> Piece {
     if run.clock.is_some() {
         Piece::Short(bound)
     } else {

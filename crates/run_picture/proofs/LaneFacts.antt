@@ -1,5 +1,5 @@
 -- Which processors the parts of a list denote.
-use Rattle.std.proofs.Common.{ℕ, ◌≡◌, ◌≢◌, ◌∙◌, ◌+◌, ◌-◌, ◌<◌, ◌≤◌, ◌^◌, ◌⊎◌, inl, inr, IsTrue, List, length, decimal, sym, subst, arith}
+use Rattle.std.proofs.Common.{ℕ, ◌≡◌, ◌≢◌, ◌∙◌, ◌+◌, ◌-◌, ◌<◌, ◌≤◌, ◌^◌, ◌⊎◌, inl, inr, IsTrue, List, length, decimal, refl, sym, subst, zero, suc, arith}
 use Rattle.std.proofs.lemmas.Bool.{cases_eq}
 use Rattle.std.proofs.lemmas.Fmt.{decimal_injective}
 use Rattle.step_trace.specs.declared.processors.TheConstants.{MAX_MEMBER}
@@ -33,10 +33,15 @@ one_lane_more names parts part count i set more p so_far at lane high added othe
     }
 
 -- the processor of the name at this place
-pub named_at : (names : List (List ℕ)) (part : List ℕ) (i : ℕ) → i < length names → name_at names i ≡ part → IsNamed names part (i + 1)
-named_at names part i inside same =
+pub named_at : (names : List (List ℕ)) (part : List ℕ) (i : ℕ) → i < length names → name_at names i ≡ part → 1 ≤ length part → IsNamed names part (i + 1)
+named_at names part i inside same some =
     let place : i + 1 - 1 ≡ i = omega arith in
-    record { low = omega arith; high = omega arith; same = rw place same }
+    record { low = omega arith; high = omega arith; same = rw place same; some = some }
+
+-- what isn't 0 is some
+pub some_left : (n : ℕ) → (n ≡ 0 → ⊥) → 1 ≤ n
+some_left zero h = absurd (h refl)
+some_left (suc n) h = omega arith
 
 -- if no name is the part, it is that of no processor
 pub unnamed : (names : List (List ℕ)) (part : List ℕ) → ((k : ℕ) → k < length names → name_at names k ≢ part) → (p : ℕ) → IsNamed names part p → ⊥

@@ -1,15 +1,11 @@
 -- What the lanes of processors are called, and how wide that is taken to be (own).
-use Rattle.std.specs.Prelude.{ℕ, ◌-◌, ◌==◌, ◌&&◌, ◌||◌, Bool, nat_le, nat_lt, min, List, length, take, sum_by, if◌then◌else◌}
+use Rattle.std.specs.Prelude.{ℕ, ◌-◌, ◌==◌, ◌&&◌, ◌||◌, Bool, nat_le, nat_lt, min, List, [], length, take, sum_by, if◌then◌else◌}
 use Rattle.run_picture.specs.declared.names.TheConstants.{MAX_NAME_BYTES}
 use Rattle.run_picture.specs.Names.{name_at}
 
 -- the name of processor p, empty if it has none
 abbrev pub name_of : List (List ℕ) → ℕ → List ℕ
-name_of names p = name_at names (p - 1)
-
--- whether processor p has a name
-abbrev pub has_name : List (List ℕ) → ℕ → Bool
-has_name names p = nat_lt (p - 1) (length names)
+name_of names p = if nat_lt p 1 || nat_lt (length names) p then [] else name_at names (p - 1)
 
 -- whether this byte begins a wide character: it is a capital letter, m or w, or the first of three or four bytes
 abbrev pub is_wide : ℕ → Bool

@@ -6,11 +6,12 @@ use Rattle.run_picture.specs.declared.lane_lists.LanesError.{LanesError}
 use Rattle.run_picture.specs.declared.lane_lists.LanesError.TheVariants.{NoLane, Above, Memory}
 use Rattle.run_picture.specs.Names.{name_at}
 
--- the part is the name of processor p
+-- the part is the name of processor p; one without a name has an empty one, which no part denotes
 pub record IsNamed (names : List (List ℕ)) (part : List ℕ) (p : ℕ) : Type 0 where
   pub low : 1 ≤ p
   pub high : p ≤ length names
   pub same : name_at names (p - 1) ≡ part
+  pub some : 1 ≤ length part
 
 -- the part is the number of processor p, and no name
 pub record IsNumbered (names : List (List ℕ)) (part : List ℕ) (p : ℕ) : Type 0 where

@@ -2,6 +2,7 @@ pub mod Windows
 pub mod Gathered
 pub mod Messages
 pub mod Rows
+pub mod Strokes
 pub mod Pictures
 pub mod Marks
 pub mod Escapes
@@ -14,3 +15,11 @@ pub mod Labels
 pub mod RoundNumbers
 pub mod BoundScales
 pub mod Axes
+pub mod Digits
+pub mod Clocks
+pub mod LongNames
+pub mod LogWords
+pub mod Words
+pub mod Titles
+pub mod TimeAxes
+pub mod Strips

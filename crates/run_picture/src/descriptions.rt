@@ -1,9 +1,11 @@
 //! What a picture says to readers that don't show it.
 
-use crate::labels::put_processor;
+use crate::clocks::Clock;
+use crate::labels::push_node;
 use crate::lanes::put_lane_count;
 use crate::pictures::Picture;
 use crate::svg::put;
+use crate::words::{Words, push_bound};
 use std::alloc::{AllocError, Global};
 use step_trace::{ProcSet, Row};
 
@@ -15,12 +17,12 @@ pub(crate) fn put_description(
     picture: &Picture,
     set: ProcSet,
     count: u64,
-    names: &[&str],
+    words: Words<'_>,
 ) -> Result<(), AllocError> {
     put_title(alloc, out, picture, count)?;
     out.extend_from_slice(b"<desc>")?;
-    put_correct(alloc, out, set, count, names)?;
-    put_bounds(alloc, out, &picture.corners)?;
+    put_correct(out, set, count, words.names)?;
+    put_bounds(alloc, out, &picture.corners, words.clock)?;
     out.extend_from_slice(b"</desc>\n")
 }
 
@@ -46,7 +48,6 @@ fn put_title(
 }
 
 fn put_correct(
-    alloc: Global,
     out: &mut Vec<u8>,
     set: ProcSet,
     count: u64,
@@ -60,7 +61,7 @@ fn put_correct(
         return out.extend_from_slice(b"All processors are taken as correct.");
     }
     out.extend_from_slice(b"Taken as correct:")?;
-    put_members(alloc, out, set, count, names)?;
+    put_members(out, set, count, names)?;
     out.extend_from_slice(b".")
 }
 
@@ -76,7 +77,6 @@ fn members_of(set: ProcSet, count: u64) -> u64 {
 }
 
 fn put_members(
-    alloc: Global,
     out: &mut Vec<u8>,
     set: ProcSet,
     count: u64,
@@ -86,7 +86,7 @@ fn put_members(
     for p in 1..count.min(64) + 1 {
         if set.contains(p) {
             out.extend_from_slice(before.as_bytes())?;
-            put_processor(alloc, out, names, p)?;
+            push_node(out, names, p)?;
             before = ", ";
         }
     }
@@ -94,23 +94,33 @@ fn put_members(
 }
 
 /// The bounds of the first row, and of the last one.
-fn put_bounds(alloc: Global, out: &mut Vec<u8>, corners: &[Row]) -> Result<(), AllocError> {
+fn put_bounds(
+    alloc: Global,
+    out: &mut Vec<u8>,
+    corners: &[Row],
+    clock: Option<Clock>,
+) -> Result<(), AllocError> {
     let count = corners.len();
     if count == 0 {
         return Ok(());
     }
-    put_row(alloc, out, " From", &corners[0])?;
+    put_row(alloc, out, " From", &corners[0], clock)?;
     if count > 1 {
-        put_row(alloc, out, "; from", &corners[count - 1])?;
+        put_row(alloc, out, "; from", &corners[count - 1], clock)?;
     }
     out.extend_from_slice(b".")
 }
 
-fn put_row(alloc: Global, out: &mut Vec<u8>, from: &str, row: &Row) -> Result<(), AllocError> {
-    let (gst, delta, phi) = (row.gst, row.delta, row.phi);
-    put(
-        alloc,
-        out,
-        format_args!("{from} tick {gst} on Δ = {delta} and Φ = {phi}"),
-    )
+fn put_row(
+    alloc: Global,
+    out: &mut Vec<u8>,
+    from: &str,
+    row: &Row,
+    clock: Option<Clock>,
+) -> Result<(), AllocError> {
+    let gst = row.gst;
+    put(alloc, out, format_args!("{from} tick {gst} on Δ = "))?;
+    push_bound(out, clock, row.delta)?;
+    out.extend_from_slice(" and Φ = ".as_bytes())?;
+    push_bound(out, clock, row.phi)
 }

@@ -202,7 +202,7 @@ fn height_at(y: u64, y_end: u64, part: u128, whole: u128) -> u64
 }
 
 /// So many parts of a length that has `whole` of them.
-fn share_of(length: u64, part: u128, whole: u128) -> u64
+pub(crate) fn share_of(length: u64, part: u128, whole: u128) -> u64
     requires length { length ≤ 50_000 }
     requires some { 1 ≤ whole }
     requires part { part ≤ whole }

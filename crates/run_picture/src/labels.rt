@@ -1,15 +1,18 @@
 //! What processors are called in a picture, and how wide that is. Lengths are tenths of a pixel.
 
-ghost use Rattle.std.specs.Prelude.{◌≡◌, ◌≤◌, ◌++◌, IfOk, OnOk, map};
-ghost use Rattle.run_picture.specs.Escapes.{escaped};
-ghost use Rattle.run_picture.specs.Labels.{byte_width, has_name, name_of, name_width};
-ghost use Rattle.run_picture.specs.ShortNames.{short_text, short_width};
+ghost use Rattle.std.specs.Prelude.{◌≡◌, ◌≤◌, ◌++◌, OnOk, map};
+ghost use Rattle.run_picture.specs.Labels.{byte_width, name_of, name_width};
+ghost use Rattle.run_picture.specs.ShortNames.{short_width};
+ghost use Rattle.run_picture.specs.Words.{label_text, node_text};
 
-use crate::escapes::push_escaped;
+use crate::digits::push_number;
+use crate::long_names::push_long;
 use crate::names::MAX_NAME_BYTES;
 use crate::short_names::{MOST_CHARACTERS, SHOWN_CHARACTERS, characters, push_short, start_of};
-use crate::svg::put;
-use std::alloc::{AllocError, Global};
+use std::alloc::AllocError;
+
+/// How many characters of a processor's name are shown in words.
+const NODE_CHARACTERS: usize = 64;
 
 /// How wide a name is that fits next to the lanes.
 const ROOM: u64 = 740;
@@ -20,49 +23,37 @@ const ELLIPSIS_WIDTH: u64 = 120;
 /// How far the widest names reach beyond the usual left edge: those of as many characters as are shown, all of them wide.
 pub(crate) const MOST_OVERHANG: u64 = 1_060;
 
-/// Appends the name of a processor, if it has one, and answers whether it has.
-pub(crate) fn push_name(
-    out: &mut Vec<u8>,
-    names: &[&str],
-    processor: u64,
-) -> Result<bool, AllocError>
-    ensures pushed { OnOk result (out.new.items ≡ out.old.items ++ escaped (name_of (map (λ x. x.now) names.now) processor)) }
-    ensures named { IfOk result (λ named. named ≡ has_name (map (λ x. x.now) names.now) processor) }
+/// The name of the processor of this number; nothing if it has none.
+fn name_of<'a>(names: &[&'a str], processor: u64) -> &'a [u8]
+    ensures { result.now ≡ name_of (map (λ x. x.now) names.now) processor }
 {
-    let Some(name) = names.get(processor.saturating_sub(1) as usize) else {
-        return Ok(false);
-    };
-    push_escaped(out, name.as_bytes())?;
-    Ok(true)
-}
-
-/// Appends what a processor is called in words: its name, or `processor` and its number.
-pub(crate) fn put_processor(
-    alloc: Global,
-    out: &mut Vec<u8>,
-    names: &[&str],
-    processor: u64,
-) -> Result<(), AllocError> {
-    if push_name(out, names, processor)? {
-        return Ok(());
+    if processor < 1 || processor > names.len() as u64 {
+        return &[];
     }
-    put(alloc, out, format_args!("processor {processor}"))
+    names[processor as usize - 1].as_bytes()
 }
 
-/// Appends the name of a processor, if it has one, shortened if it is long. Answers whether it has one.
-pub(crate) fn push_label(
-    out: &mut Vec<u8>,
-    names: &[&str],
-    processor: u64,
-) -> Result<bool, AllocError>
-    ensures pushed { OnOk result (out.new.items ≡ out.old.items ++ short_text (name_of (map (λ x. x.now) names.now) processor)) }
-    ensures named { IfOk result (λ named. named ≡ has_name (map (λ x. x.now) names.now) processor) }
+/// Appends what a processor is called: its name, shortened if it is very long, or `processor` and its number.
+pub fn push_node(out: &mut Vec<u8>, names: &[&str], processor: u64) -> Result<(), AllocError>
+    ensures { OnOk result (out.new.items ≡ out.old.items ++ node_text (map (λ x. x.now) names.now) processor) }
 {
-    let Some(name) = names.get(processor.saturating_sub(1) as usize) else {
-        return Ok(false);
-    };
-    push_short(out, name.as_bytes())?;
-    Ok(true)
+    let name = name_of(names, processor);
+    if name.len() > 0 {
+        return push_long(out, name, NODE_CHARACTERS);
+    }
+    out.extend_from_slice(b"processor ")?;
+    push_number(out, processor)
+}
+
+/// Appends what a processor is called beside its lane: its name, shortened if it is long, or its number.
+pub fn push_label(out: &mut Vec<u8>, names: &[&str], processor: u64) -> Result<(), AllocError>
+    ensures { OnOk result (out.new.items ≡ out.old.items ++ label_text (map (λ x. x.now) names.now) processor) }
+{
+    let name = name_of(names, processor);
+    if name.len() > 0 {
+        return push_short(out, name);
+    }
+    push_number(out, processor)
 }
 
 /// How far the widest name next to a lane reaches beyond the usual left edge.

@@ -85,11 +85,14 @@ fn lane_of(part: &str, names: &[&str]) -> Option<u64>
     Some(p)
 }
 
-/// The processor of this name, the first of them.
+/// The processor of this name, the first of them. None has an empty name.
 fn named(part: &str, names: &[&str]) -> Option<u64>
     ensures named { IfSome result (IsNamed (map (λ x. x.now) names.now) part.now) }
     ensures refused { IfNone result ((p : ℕ) → ¬ IsNamed (map (λ x. x.now) names.now) part.now p) }
 {
+    if part.len() == 0 {
+        return None;
+    }
     for i in 0..names.len() {
         if names[i] == part {
             return Some(i as u64 + 1);

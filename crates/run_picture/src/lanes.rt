@@ -3,20 +3,23 @@
 ghost use Rattle.std.specs.Prelude.{◌≡◌, codes, if◌then◌else◌};
 ghost use Rattle.step_trace.specs.Processors.{has_proc};
 
+use crate::clocks::Clock;
 use crate::frames::{Frame, LANES_TOP};
-use crate::labels::{push_label, put_processor};
+use crate::labels::{push_label, push_node};
 use crate::pictures::Picture;
 use crate::round_numbers::round_step;
 use crate::shown_lanes::lane_number;
 use crate::svg::put;
+use crate::time_axes::{TimeAxis, put_times};
 use crate::windows::Window;
+use crate::words::Words;
 use std::alloc::{AllocError, Global};
 use step_trace::ProcSet;
 
 /// How many numbers of ticks fit below the lanes.
 const MOST_LABELS: u64 = 14;
 
-/// Draws the heading, the lanes of a picture of processors 1 to `count`, and the axis of the ticks.
+/// Draws the heading, the lanes of a picture of processors 1 to `count`, and the axes of the ticks and of time.
 pub(crate) fn put_lanes(
     alloc: Global,
     out: &mut Vec<u8>,
@@ -24,15 +27,35 @@ pub(crate) fn put_lanes(
     picture: &Picture,
     count: u64,
     set: ProcSet,
-    names: &[&str],
+    words: Words<'_>,
 ) -> Result<(), AllocError> {
     put_heading(alloc, out, picture, count)?;
     for p in 1..count.min(64) + 1 {
         if frame.has(p) {
-            put_lane(alloc, out, frame, p, set, names)?;
+            put_lane(alloc, out, frame, p, set, words.names)?;
         }
     }
-    put_ticks(alloc, out, frame, picture.window)
+    put_ticks(alloc, out, frame, picture.window)?;
+    put_window_times(alloc, out, frame, picture.window, words.clock)
+}
+
+/// Round times below the ticks, if a clock tells them.
+fn put_window_times(
+    alloc: Global,
+    out: &mut Vec<u8>,
+    frame: &Frame,
+    window: Window,
+    clock: Option<Clock>,
+) -> Result<(), AllocError> {
+    let Some(clock) = clock else {
+        return Ok(());
+    };
+    let axis = TimeAxis {
+        clock,
+        first: window.first,
+        count: frame.count(),
+    };
+    put_times(alloc, out, axis, frame.lanes_end() + 320)
 }
 
 fn put_heading(
@@ -70,7 +93,7 @@ pub(crate) fn put_lane_count(
 }
 
 /// How the lane of a processor looks: in ink, if it is one of the set, and pale, if it isn't.
-fn look_of(set: ProcSet, p: u64) -> &'static str
+pub(crate) fn look_of(set: ProcSet, p: u64) -> &'static str
     ensures { result.now ≡ (if has_proc set p then codes "i" else codes "o") }
 {
     if set.contains(p) { "i" } else { "o" }
@@ -86,20 +109,13 @@ fn put_lane(
 ) -> Result<(), AllocError> {
     let (y, look) = (frame.y(p), look_of(set, p));
     put(alloc, out, format_args!("<g class=\"{look}\"><title>"))?;
-    put_processor(alloc, out, names, p)?;
+    push_node(out, names, p)?;
     put(
         alloc,
         out,
         format_args!("</title><path d=\"M900 {y}h10000\"/><text x=\"780\" y=\"{y}\" dy=\"40\">"),
     )?;
-    put_label(alloc, out, p, names)
-}
-
-/// The name of a processor, shortened if it is long, or its number.
-fn put_label(alloc: Global, out: &mut Vec<u8>, p: u64, names: &[&str]) -> Result<(), AllocError> {
-    if !push_label(out, names, p)? {
-        put(alloc, out, format_args!("{p}"))?;
-    }
+    push_label(out, names, p)?;
     out.extend_from_slice(b"</text></g>\n")
 }
 

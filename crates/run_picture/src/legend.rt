@@ -8,6 +8,7 @@ path{fill:none}
 .a{stroke:#e8e8e8;stroke-width:10}.b{stroke-width:25}.t path{fill:#fff;fill-opacity:0}
 .delta{fill:#0072B2;font-weight:600}.phi{fill:#B84A00;font-weight:600}
 .i path{stroke:#1a1a1a;stroke-width:12}.i text{font-weight:600}.o path{stroke:#bbb;stroke-width:8;stroke-dasharray:30 30}
+.s path{stroke-width:70;stroke-dasharray:none}.s text{font-size:100px}.u path{stroke-width:40}.u text{font-size:65px}
 .l{stroke:#9a9a9a;stroke-width:10}.d{stroke-dasharray:20 20}.w{stroke:#0072B2;stroke-width:22;stroke-dasharray:70 40}
 .g{fill:#D55E00;fill-opacity:.22}.z{fill:#fff;stroke:#1a1a1a;stroke-width:13}.r{stroke:#1a1a1a;stroke-width:16}
 @media screen and (prefers-color-scheme:dark){
@@ -28,4 +29,9 @@ pub(crate) const LEGEND: &str =
 <path d=\"M5600 -40h160\" class=\"l d\"/><text x=\"5840\">message that nobody takes</text>
 <path d=\"M0 150h200\" class=\"w\"/><text x=\"280\" y=\"190\">message not yet received: refutes each smaller Δ</text>
 <rect x=\"4500\" y=\"90\" width=\"160\" height=\"120\" rx=\"40\" class=\"g\"/><text x=\"4740\" y=\"190\">processor without a step: refutes each smaller Φ</text>
+";
+
+/// What the marks of strips mean, at the end of the first line.
+pub(crate) const STRIPS_LEGEND: &str =
+    "<rect x=\"8300\" y=\"-75\" width=\"160\" height=\"70\" fill=\"#1a1a1a\"/><text x=\"8540\">steps of all ticks</text>
 ";

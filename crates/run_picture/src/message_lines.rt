@@ -1,18 +1,17 @@
 //! Messages, as lines from their Sends to the Receives that take them. Lengths are tenths of a pixel.
 
 use crate::frames::{Frame, Line};
-use crate::labels::put_processor;
 use crate::messages::{Message, tick_at};
 use crate::svg::put;
+use crate::titles::{Made, push_message_title};
+use crate::words::Words;
 use std::alloc::{AllocError, Global};
 use step_trace::{Act, Trace};
 
-/// A message: the number of its Send and the tick of it, the processors, and the Receive that takes it.
+/// A message: its Send, its receiver, and the Receive that takes it.
 #[derive(Clone, Copy)]
 struct Sending {
-    no: u64,
-    tick: u64,
-    from: u64,
+    made: Made,
     to: u64,
     taken: Option<u64>,
 }
@@ -23,7 +22,7 @@ pub(crate) fn put_message(
     out: &mut Vec<u8>,
     frame: &Frame,
     trace: &Trace,
-    names: &[&str],
+    words: Words<'_>,
     message: &Message,
 ) -> Result<(), AllocError> {
     let Some(step) = trace.step(message.sent) else {
@@ -32,15 +31,18 @@ pub(crate) fn put_message(
     let Act::Send { to } = &step.act else {
         return Ok(());
     };
-    let sending = Sending {
+    let made = Made {
         no: message.sent,
         tick: tick_at(trace, message.sent),
-        from: step.proc,
+        processor: step.proc,
+    };
+    let sending = Sending {
+        made,
         to: *to,
         taken: message.taken,
     };
     put_way(alloc, out, frame, trace, sending)?;
-    put_title(alloc, out, trace, names, sending)
+    put_title(out, trace, words, sending)
 }
 
 /// The mark of a message, up to its title.
@@ -51,7 +53,7 @@ fn put_way(
     trace: &Trace,
     sending: Sending,
 ) -> Result<(), AllocError> {
-    let Sending { tick, from, to, .. } = sending;
+    let (tick, from, to) = (sending.made.tick, sending.made.processor, sending.to);
     let Some(taken) = sending.taken else {
         return put_line(alloc, out, frame.lost(tick, from, to), "l d");
     };
@@ -79,39 +81,17 @@ pub(crate) fn put_line(
 
 /// The end of the mark of a message: from whom to whom it is, where it was sent, and where it was received.
 fn put_title(
-    alloc: Global,
     out: &mut Vec<u8>,
     trace: &Trace,
-    names: &[&str],
+    words: Words<'_>,
     sending: Sending,
 ) -> Result<(), AllocError> {
-    let Sending {
-        no,
-        tick,
-        from,
-        to,
-        ..
-    } = sending;
-    put(alloc, out, format_args!("<title>message {no} from "))?;
-    put_processor(alloc, out, names, from)?;
-    out.extend_from_slice(b" to ")?;
-    put_processor(alloc, out, names, to)?;
-    put(
-        alloc,
-        out,
-        format_args!(": sent at step {no}, tick {tick}, "),
-    )?;
-    match sending.taken {
-        Some(taken) => {
-            let end = tick_at(trace, taken);
-            put(
-                alloc,
-                out,
-                format_args!("received at step {taken}, tick {end}"),
-            )?;
-        }
-        None => out.extend_from_slice(b"never received")?,
-    }
+    let end = match sending.taken {
+        Some(taken) => tick_at(trace, taken),
+        None => 0,
+    };
+    out.extend_from_slice(b"<title>")?;
+    push_message_title(out, words, sending.made, sending.to, sending.taken, end)?;
     out.extend_from_slice(b"</title></path>\n")
 }
 

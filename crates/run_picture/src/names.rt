@@ -89,7 +89,7 @@ fn is_refused_at(name: &[u8], i: usize) -> bool
 }
 
 /// The byte at this place; 0 after the last.
-fn byte_at(name: &[u8], i: usize) -> u8
+pub(crate) fn byte_at(name: &[u8], i: usize) -> u8
     ensures { result ≡ byte_at name.now i }
 {
     name.get(i).copied().unwrap_or(0)

@@ -5,18 +5,21 @@ ghost use Rattle.step_trace.specs.Fronts.{IsReport};
 ghost use Rattle.step_trace.specs.Traces.{IsWellFormed};
 ghost use Rattle.run_picture.specs.Gathered.{gathered};
 ghost use Rattle.run_picture.specs.Marks.{ShowsExactly, ShowsMisses, ShowsGaps};
-ghost use Rattle.run_picture.specs.Pictures.{shown_step, shown_message, shown_miss, shown_gap, corner, Shows};
+ghost use Rattle.run_picture.specs.Pictures.{all_ticks, shown_step, shown_message, shown_miss, shown_gap, corner, Shows};
+ghost use Rattle.run_picture.specs.Strokes.{ShowsSteps};
 
 use crate::gathering::push_some;
 use crate::messages::{self, Message};
 use crate::report_rows;
+use crate::strokes::{Strokes, columns_for, strokes_of};
 use crate::takers::takers;
 use crate::windows::Window;
 use std::alloc::{AllocError, Global};
 use step_trace::{ProcSet, Row, Trace};
 
 /// What a picture shows: the numbers of the steps in its window and its lanes, the messages that touch it, the rows
-/// whose misses and gaps do, and the corners of the staircase.
+/// whose misses and gaps do, and the corners of the staircase. Of all ticks it has the columns with steps, and the rows
+/// whose gaps are in its lanes.
 #[derive(Debug, Drop)]
 pub struct Picture {
     pub window: Window,
@@ -26,6 +29,8 @@ pub struct Picture {
     pub misses: Vec<Row>,
     pub gaps: Vec<Row>,
     pub corners: Vec<Row>,
+    pub strokes: Strokes,
+    pub stalls: Vec<Row>,
 }
 
 /// The picture of these ticks and lanes of a trace, with the rows of a report of it, in time that grows with the
@@ -43,6 +48,8 @@ pub fn picture_of(
     ensures exact { IfOk result (λ p. ShowsExactly trace.now window lanes p) }
     ensures misses { IfOk result (λ p. ShowsMisses trace.now rows.now window lanes p.misses.items) }
     ensures gaps { IfOk result (λ p. (set : ℕ) → IsReport set trace.now rows.now → ShowsGaps rows.now window lanes p.gaps.items) }
+    ensures strokes { IfOk result (λ p. ShowsSteps trace.now p.strokes) }
+    ensures stalls { IfOk result (λ p. (set : ℕ) → IsReport set trace.now rows.now → ShowsGaps rows.now (all_ticks trace.now) lanes p.stalls.items) }
     ensures more { OnErr result ((0 < length trace.now.steps) ⊎ (0 < length rows.now)) }
 {
     Ok(Picture {
@@ -53,6 +60,8 @@ pub fn picture_of(
         misses: misses(alloc, trace, window, lanes, rows)?,
         gaps: gaps(alloc, window, lanes, rows)?,
         corners: corners(alloc, trace.last_tick(), rows)?,
+        strokes: strokes_of(alloc, trace, columns_for(trace.last_tick()))?,
+        stalls: stalls(alloc, trace, lanes, rows)?,
     })
 }
 
@@ -131,6 +140,23 @@ fn gaps(alloc: Global, window: Window, lanes: ProcSet, rows: &[Row]) -> Result<V
         )?;
     }
     Ok(gaps)
+}
+
+/// The rows whose gaps are shown if all ticks are.
+fn stalls(
+    alloc: Global,
+    trace: &Trace,
+    lanes: ProcSet,
+    rows: &[Row],
+) -> Result<Vec<Row>, AllocError>
+    ensures listed { IfOk result (λ stalls. stalls.items ≡ gathered (shown_gap (all_ticks trace.now) lanes rows.now) (length rows.now)) }
+    ensures more { OnErr result (0 < length rows.now) }
+{
+    let all = Window {
+        first: 1,
+        to: trace.last_tick(),
+    };
+    gaps(alloc, all, lanes, rows)
 }
 
 fn corners(alloc: Global, last: u64, rows: &[Row]) -> Result<Vec<Row>, AllocError>

@@ -4,30 +4,41 @@ ghost use Rattle.std.specs.Prelude.{◌≡◌};
 ghost use Rattle.run_picture.specs.Axes.{bound_height, column_edge, column_middle};
 
 use crate::bound_scales::BoundScale;
+use crate::clocks::Clock;
 use crate::frames::{LEFT, WIDTH};
 use crate::pictures::Picture;
 use crate::round_numbers::round_step;
 use crate::svg::put;
+use crate::time_axes::{TimeAxis, put_times};
+use crate::titles::push_corner_title;
 use std::alloc::{AllocError, Global};
 use step_trace::{MAX_TICKS, Row};
 
-const TOP: u64 = 500;
+pub(crate) const TOP: u64 = 500;
 
-const HEIGHT: u64 = 1_700;
+pub(crate) const HEIGHT: u64 = 1_700;
 
 /// How many lines there are at round bounds above 0.
 const MOST_LINES: u64 = 6;
 
 /// The scales of both axes: the last tick, and that of bounds.
 #[derive(Clone, Copy)]
-struct Axes {
+pub(crate) struct Axes {
     last: u64,
     scale: BoundScale,
 }
 
 impl Axes {
+    /// The axes of a picture of a trace with this last tick.
+    pub(crate) fn of(picture: &Picture, last: u64) -> Self {
+        Axes {
+            last,
+            scale: BoundScale::up_to(greatest_bound(&picture.corners)),
+        }
+    }
+
     /// The left edge of a tick, or the right edge of all, if the tick is after the last.
-    fn edge(self, tick: u64) -> u64
+    pub(crate) fn edge(self, tick: u64) -> u64
         ensures { result ≡ column_edge self tick }
     {
         let last = self.last.clamp(1, MAX_TICKS);
@@ -81,24 +92,39 @@ impl Bound {
     }
 }
 
-/// Draws the staircase of a picture of a trace with this last tick.
+/// Draws the staircase of a picture, with times if a clock tells them. Its shade of the ticks that are drawn reaches so far
+/// below it.
 pub(crate) fn put_staircase(
     alloc: Global,
     out: &mut Vec<u8>,
+    axes: Axes,
     picture: &Picture,
-    last: u64,
+    below: u64,
+    clock: Option<Clock>,
 ) -> Result<(), AllocError> {
-    let axes = Axes {
-        last,
-        scale: BoundScale::up_to(greatest_bound(&picture.corners)),
-    };
     put_heading(alloc, out, picture, axes.scale)?;
-    put_shade(alloc, out, axes, picture)?;
+    put_shade(alloc, out, axes, picture, below)?;
     put_bounds_axis(alloc, out, axes)?;
-    put_ticks_axis(alloc, out, axes)?;
+    if let Some(clock) = clock {
+        put_bound_times(alloc, out, axes, clock)?;
+    }
     put_line(alloc, out, axes, &picture.corners, Bound::Communication)?;
     put_line(alloc, out, axes, &picture.corners, Bound::Processor)?;
-    put_titles(alloc, out, axes, &picture.corners)
+    put_titles(alloc, out, axes, &picture.corners, clock)
+}
+
+/// Draws the axis of all ticks, with times if a clock tells them.
+pub(crate) fn put_axis(
+    alloc: Global,
+    out: &mut Vec<u8>,
+    axes: Axes,
+    clock: Option<Clock>,
+) -> Result<(), AllocError> {
+    put_ticks_axis(alloc, out, axes)?;
+    match clock {
+        Some(clock) => put_all_times(alloc, out, axes, clock),
+        None => Ok(()),
+    }
 }
 
 fn greatest_bound(corners: &[Row]) -> u64 {
@@ -146,15 +172,17 @@ fn put_shade(
     out: &mut Vec<u8>,
     axes: Axes,
     picture: &Picture,
+    below: u64,
 ) -> Result<(), AllocError> {
     let (first, to) = (picture.window.first, picture.window.to);
     let x = axes.edge(first);
     let width = axes.edge(to.saturating_add(1)).saturating_sub(x);
+    let height = HEIGHT.saturating_add(below);
     put(
         alloc,
         out,
         format_args!(
-            "<rect x=\"{x}\" y=\"500\" width=\"{width}\" height=\"1700\" fill=\"#f3f1e7\"/>\n"
+            "<rect x=\"{x}\" y=\"500\" width=\"{width}\" height=\"{height}\" fill=\"#f3f1e7\"/>\n"
         ),
     )
 }
@@ -220,24 +248,73 @@ fn put_line(
     out.extend_from_slice(b"H10900\"/>\n")
 }
 
+/// How long the bounds of the lines are.
+fn put_bound_times(
+    alloc: Global,
+    out: &mut Vec<u8>,
+    axes: Axes,
+    clock: Clock,
+) -> Result<(), AllocError> {
+    for i in 0..MOST_LINES + 1 {
+        let Some(bound) = axes.scale.line(i, MOST_LINES) else {
+            return Ok(());
+        };
+        if bound > 0 {
+            put_bound_time(alloc, out, clock, bound, axes.y(bound))?;
+        }
+    }
+    Ok(())
+}
+
+fn put_bound_time(
+    alloc: Global,
+    out: &mut Vec<u8>,
+    clock: Clock,
+    bound: u64,
+    y: u64,
+) -> Result<(), AllocError> {
+    put(
+        alloc,
+        out,
+        format_args!("<text x=\"10960\" y=\"{y}\" dy=\"40\" class=\"n\">"),
+    )?;
+    clock.push_ticks(out, bound)?;
+    out.extend_from_slice(b"</text>\n")
+}
+
+/// Round times below all ticks.
+fn put_all_times(
+    alloc: Global,
+    out: &mut Vec<u8>,
+    axes: Axes,
+    clock: Clock,
+) -> Result<(), AllocError> {
+    let axis = TimeAxis {
+        clock,
+        first: 1,
+        count: axes.last,
+    };
+    put_times(alloc, out, axis, 2_520)
+}
+
 /// The bounds from each corner on, shown to a reader who points there.
 fn put_titles(
     alloc: Global,
     out: &mut Vec<u8>,
     axes: Axes,
     corners: &[Row],
+    clock: Option<Clock>,
 ) -> Result<(), AllocError> {
     out.extend_from_slice(b"<g class=\"t\">\n")?;
     for row in corners {
         let x = axes.edge(row.gst);
-        let (gst, delta, phi) = (row.gst, row.delta, row.phi);
         put(
             alloc,
             out,
-            format_args!(
-                "<path d=\"M{x} 500H10900V2200H{x}\"><title>from tick {gst} on: Δ = {delta}, Φ = {phi}</title></path>\n"
-            ),
+            format_args!("<path d=\"M{x} 500H10900V2200H{x}\"><title>"),
         )?;
+        push_corner_title(out, clock, row.gst, row.delta, row.phi)?;
+        out.extend_from_slice(b"</title></path>\n")?;
     }
     out.extend_from_slice(b"</g>\n")
 }

@@ -3,14 +3,12 @@
 ghost use Rattle.std.specs.Prelude.{◌≤◌};
 
 use crate::frames::Frame;
-use crate::labels::put_processor;
 use crate::messages::tick_at;
 use crate::svg::put;
+use crate::titles::{Made, push_receive_title, push_send_title};
+use crate::words::Words;
 use std::alloc::{AllocError, Global};
 use step_trace::{Act, Trace};
-
-/// How many ids the words of a Receive name.
-const NAMED_IDS: usize = 8;
 
 /// Draws the step of this number.
 pub(crate) fn put_step(
@@ -18,7 +16,7 @@ pub(crate) fn put_step(
     out: &mut Vec<u8>,
     frame: &Frame,
     trace: &Trace,
-    names: &[&str],
+    words: Words<'_>,
     no: u64,
 ) -> Result<(), AllocError> {
     let Some(step) = trace.step(no) else {
@@ -26,16 +24,18 @@ pub(crate) fn put_step(
     };
     let (tick, processor) = (tick_at(trace, no), step.proc);
     let mark = Mark {
-        no,
-        tick,
-        processor,
+        made: Made {
+            no,
+            tick,
+            processor,
+        },
         x: frame.middle(tick),
         y: frame.y(processor),
     };
     match &step.act {
-        Act::Send { to } => put_send(alloc, out, frame, names, mark, *to),
+        Act::Send { to } => put_send(alloc, out, frame, words, mark, *to),
         Act::Receive { ends, ids } => {
-            put_receive(alloc, out, frame, names, mark, *ends, ids.as_slice())
+            put_receive(alloc, out, frame, words, mark, *ends, ids.as_slice())
         }
     }
 }
@@ -43,9 +43,7 @@ pub(crate) fn put_step(
 /// The step of a mark, and the middle of the mark.
 #[derive(Clone, Copy)]
 struct Mark {
-    no: u64,
-    tick: u64,
-    processor: u64,
+    made: Made,
     x: u64,
     y: u64,
 }
@@ -54,7 +52,7 @@ fn put_send(
     alloc: Global,
     out: &mut Vec<u8>,
     frame: &Frame,
-    names: &[&str],
+    words: Words<'_>,
     mark: Mark,
     to: u64,
 ) -> Result<(), AllocError> {
@@ -62,12 +60,9 @@ fn put_send(
     put(
         alloc,
         out,
-        format_args!("<circle cx=\"{x}\" cy=\"{y}\" r=\"{size}\">"),
+        format_args!("<circle cx=\"{x}\" cy=\"{y}\" r=\"{size}\"><title>"),
     )?;
-    put_subject(alloc, out, names, mark)?;
-    let no = mark.no;
-    put(alloc, out, format_args!(" sends message {no} to "))?;
-    put_processor(alloc, out, names, to)?;
+    push_send_title(out, words, mark.made, to)?;
     out.extend_from_slice(b"</title></circle>\n")
 }
 
@@ -75,28 +70,18 @@ fn put_receive(
     alloc: Global,
     out: &mut Vec<u8>,
     frame: &Frame,
-    names: &[&str],
+    words: Words<'_>,
     mark: Mark,
     ends: bool,
     ids: &[u64],
 ) -> Result<(), AllocError> {
     put_square(alloc, out, frame, mark, ids.len() == 0)?;
-    put_subject(alloc, out, names, mark)?;
-    out.extend_from_slice(b" receives ")?;
-    put_ids(alloc, out, ids)?;
-    put_end(alloc, out, frame, mark, ends)
-}
-
-/// The beginning of the words of a step: which one it is, in which tick, and whose.
-fn put_subject(
-    alloc: Global,
-    out: &mut Vec<u8>,
-    names: &[&str],
-    mark: Mark,
-) -> Result<(), AllocError> {
-    let (no, tick) = (mark.no, mark.tick);
-    put(alloc, out, format_args!("<title>step {no}, tick {tick}: "))?;
-    put_processor(alloc, out, names, mark.processor)
+    push_receive_title(out, words, mark.made, ends, ids)?;
+    out.extend_from_slice(b"</title></rect>")?;
+    if ends {
+        put_end(alloc, out, frame, mark)?;
+    }
+    out.extend_from_slice(b"\n")
 }
 
 /// How far a mark goes from its middle.
@@ -120,50 +105,20 @@ fn put_square(
     put(
         alloc,
         out,
-        format_args!("<rect x=\"{left}\" y=\"{top}\" width=\"{wide}\" height=\"{wide}\"{class}>"),
+        format_args!(
+            "<rect x=\"{left}\" y=\"{top}\" width=\"{wide}\" height=\"{wide}\"{class}><title>"
+        ),
     )
 }
 
-/// The first ids, and how many more there are.
-fn put_ids(alloc: Global, out: &mut Vec<u8>, ids: &[u64]) -> Result<(), AllocError> {
-    if ids.len() == 0 {
-        return out.extend_from_slice(b"nothing");
-    }
-    let kind = if ids.len() == 1 {
-        "message"
-    } else {
-        "messages"
-    };
-    out.extend_from_slice(kind.as_bytes())?;
-    for id in &ids[..ids.len().min(NAMED_IDS)] {
-        put(alloc, out, format_args!(" {id}"))?;
-    }
-    let more = ids.len().saturating_sub(NAMED_IDS);
-    if more > 0 {
-        put(alloc, out, format_args!(" and {more} more"))?;
-    }
-    Ok(())
-}
-
-/// The end of the words and of the mark, with a bar next to it if the round ends.
-fn put_end(
-    alloc: Global,
-    out: &mut Vec<u8>,
-    frame: &Frame,
-    mark: Mark,
-    ends: bool,
-) -> Result<(), AllocError> {
-    if !ends {
-        return out.extend_from_slice(b"</title></rect>\n");
-    }
+/// A bar beside the mark of a Receive that ends its round.
+fn put_end(alloc: Global, out: &mut Vec<u8>, frame: &Frame, mark: Mark) -> Result<(), AllocError> {
     let far = radius(frame) + 25;
     let (right, top) = (mark.x.min(100_000) + far, mark.y.saturating_sub(far));
     let tall = far * 2;
     put(
         alloc,
         out,
-        format_args!(
-            " and ends its round</title></rect><path class=\"r\" d=\"M{right} {top}v{tall}\"/>\n"
-        ),
+        format_args!("<path class=\"r\" d=\"M{right} {top}v{tall}\"/>"),
     )
 }

@@ -4,14 +4,17 @@ ghost use Rattle.std.specs.Prelude.{◌≡◌, ◌-◌, ◌≤◌, length, take,
 
 use crate::descriptions::put_description;
 use crate::frames::Frame;
-use crate::labels::{MOST_OVERHANG, overhang};
+use crate::labels::overhang;
 use crate::lanes::put_lanes;
-use crate::legend::{LEGEND, STYLE};
+use crate::legend::{LEGEND, STRIPS_LEGEND, STYLE};
+use crate::log_words::{LogWords, clock_of};
 use crate::message_lines::put_message;
 use crate::pictures::Picture;
-use crate::staircase::put_staircase;
+use crate::staircase::{put_axis, put_staircase};
 use crate::step_marks::put_step;
+use crate::strips::{Strips, put_strips};
 use crate::witness_marks::{put_gap, put_miss};
+use crate::words::Words;
 use std::alloc::{AllocError, Global};
 use std::fmt::Display;
 use step_trace::{ProcSet, Row, Trace};
@@ -22,9 +25,10 @@ pub const MAX_LINES: usize = 10_000;
 /// How many misses are written, and how many gaps: the first, of the greatest bounds.
 pub const MAX_WITNESSES: usize = 1_000;
 
-/// The SVG of a picture of this trace, in UTF-8: the staircase, and in its lanes the steps of its ticks with their messages
-/// and the witnesses. The lanes of the set are in ink; `names` has the names of processors 1 on, and numbers label those
-/// that it has no name for.
+/// The SVG of a picture of this trace, in UTF-8: the staircase and a strip of the steps of each lane, both over all ticks; and
+/// in its lanes the steps of its ticks with their messages and the witnesses. If its ticks are all, there are no strips. The
+/// lanes of the set are in ink. Nodes, messages and steps are called as in the log, as far as that is known; if the length of
+/// a tick is, the axes have times, too.
 ///
 /// Fails only if out of memory.
 pub fn svg_text(
@@ -32,26 +36,52 @@ pub fn svg_text(
     trace: &Trace,
     picture: &Picture,
     set: ProcSet,
-    names: &[&str],
+    log: &LogWords<'_>,
 ) -> Result<Vec<u8>, AllocError> {
     let mut out = Vec::new(alloc);
+    let words = Words {
+        names: log.names,
+        said: log.said,
+        clock: clock_of(trace, log.said, log.unit),
+    };
     let count = trace.config().n().min(64);
     let frame = &Frame::new(picture.window, picture.lanes, count);
-    put_head(alloc, &mut out, frame, overhang(names))?;
-    put_description(alloc, &mut out, picture, set, count, names)?;
-    put_paper(alloc, &mut out, frame, overhang(names))?;
-    let last = trace.last_tick();
-    if last == 0 {
+    let strips = &Strips::of(picture, count, trace.last_tick());
+    let paper = Paper::of(frame, strips, words);
+    put_head(alloc, &mut out, paper)?;
+    put_description(alloc, &mut out, picture, set, count, words)?;
+    put_paper(alloc, &mut out, paper)?;
+    if trace.last_tick() == 0 {
         out.extend_from_slice(
             b"<text x=\"900\" y=\"300\" class=\"h\">The trace has no tick.</text>\n</svg>\n",
         )?;
         return Ok(out);
     }
-    put_staircase(alloc, &mut out, picture, last)?;
-    put_lanes(alloc, &mut out, frame, picture, count, set, names)?;
-    put_marks(alloc, &mut out, frame, trace, picture, names)?;
-    put_foot(alloc, &mut out, frame, picture)?;
+    put_all_ticks(alloc, &mut out, strips, picture, set, words)?;
+    put_lanes(alloc, &mut out, frame, picture, count, set, words)?;
+    put_marks(alloc, &mut out, frame, trace, picture, words)?;
+    put_foot(alloc, &mut out, frame, strips, picture)?;
     Ok(out)
+}
+
+/// What is drawn over all ticks. What follows, from their axis on, is moved down by the strips.
+fn put_all_ticks(
+    alloc: Global,
+    out: &mut Vec<u8>,
+    strips: &Strips,
+    picture: &Picture,
+    set: ProcSet,
+    words: Words<'_>,
+) -> Result<(), AllocError> {
+    let height = strips.height();
+    put_staircase(alloc, out, strips.axes, picture, height, words.clock)?;
+    put_strips(alloc, out, strips, picture, set, words)?;
+    put(
+        alloc,
+        out,
+        format_args!("<g transform=\"translate(0 {height})\">\n"),
+    )?;
+    put_axis(alloc, out, strips.axes, words.clock)
 }
 
 /// Appends the text of a value.
@@ -64,24 +94,37 @@ pub(crate) fn put<D: Display + Drop>(
     out.extend_from_slice(text.as_bytes())
 }
 
-/// The height of the page.
-fn page_height(frame: &Frame) -> u64
-    ensures { result ≤ 51_000 }
-{
-    frame.lanes_end() + 1_000
+/// The page: how far it reaches beyond the usual left edge, how wide and how high it is.
+#[derive(Clone, Copy)]
+struct Paper {
+    overhang: u64,
+    width: u64,
+    height: u64,
 }
 
-/// The page is wider by what names reach beyond its left edge.
-fn put_head(
-    alloc: Global,
-    out: &mut Vec<u8>,
-    frame: &Frame,
-    overhang: u64,
-) -> Result<(), AllocError>
-    requires { overhang ≤ MOST_OVERHANG }
-{
-    let height = page_height(frame);
-    let width = overhang + 11_200;
+impl Paper {
+    /// The page is wider by what names reach beyond its left edge, and by the times of bounds beyond its right one.
+    fn of(frame: &Frame, strips: &Strips, words: Words<'_>) -> Self {
+        let overhang = overhang(words.names);
+        let right = if words.clock.is_some() {
+            11_700
+        } else {
+            11_200
+        };
+        Paper {
+            overhang,
+            width: overhang + right,
+            height: frame.lanes_end() + strips.height() + 1_000,
+        }
+    }
+}
+
+fn put_head(alloc: Global, out: &mut Vec<u8>, paper: Paper) -> Result<(), AllocError> {
+    let Paper {
+        overhang,
+        width,
+        height,
+    } = paper;
     let minus = if overhang == 0 { "" } else { "-" };
     put(
         alloc,
@@ -93,16 +136,12 @@ fn put_head(
 }
 
 /// The looks of the marks, and the paper.
-fn put_paper(
-    alloc: Global,
-    out: &mut Vec<u8>,
-    frame: &Frame,
-    overhang: u64,
-) -> Result<(), AllocError>
-    requires { overhang ≤ MOST_OVERHANG }
-{
-    let height = page_height(frame);
-    let width = overhang + 11_200;
+fn put_paper(alloc: Global, out: &mut Vec<u8>, paper: Paper) -> Result<(), AllocError> {
+    let Paper {
+        overhang,
+        width,
+        height,
+    } = paper;
     put(alloc, out, format_args!("{STYLE}<rect"))?;
     if overhang > 0 {
         put(alloc, out, format_args!(" x=\"-{overhang}\""))?;
@@ -121,25 +160,25 @@ fn put_marks(
     frame: &Frame,
     trace: &Trace,
     picture: &Picture,
-    names: &[&str],
+    words: Words<'_>,
 ) -> Result<(), AllocError> {
-    put_gaps(alloc, out, frame, names, &picture.gaps)?;
+    put_gaps(alloc, out, frame, words, &picture.gaps)?;
     for message in latest(&picture.messages, MAX_LINES) {
-        put_message(alloc, out, frame, trace, names, message)?;
+        put_message(alloc, out, frame, trace, words, message)?;
     }
-    put_misses(alloc, out, frame, trace, names, &picture.misses)?;
-    put_steps(alloc, out, frame, trace, names, &picture.steps)
+    put_misses(alloc, out, frame, trace, words, &picture.misses)?;
+    put_steps(alloc, out, frame, trace, words, &picture.steps)
 }
 
 fn put_gaps(
     alloc: Global,
     out: &mut Vec<u8>,
     frame: &Frame,
-    names: &[&str],
+    words: Words<'_>,
     gaps: &[Row],
 ) -> Result<(), AllocError> {
     for row in earliest(gaps, MAX_WITNESSES) {
-        put_gap(alloc, out, frame, names, row)?;
+        put_gap(alloc, out, frame, words, row)?;
     }
     Ok(())
 }
@@ -149,11 +188,11 @@ fn put_misses(
     out: &mut Vec<u8>,
     frame: &Frame,
     trace: &Trace,
-    names: &[&str],
+    words: Words<'_>,
     misses: &[Row],
 ) -> Result<(), AllocError> {
     for row in earliest(misses, MAX_WITNESSES) {
-        put_miss(alloc, out, frame, trace, names, row)?;
+        put_miss(alloc, out, frame, trace, words, row)?;
     }
     Ok(())
 }
@@ -163,11 +202,11 @@ fn put_steps(
     out: &mut Vec<u8>,
     frame: &Frame,
     trace: &Trace,
-    names: &[&str],
+    words: Words<'_>,
     steps: &[u64],
 ) -> Result<(), AllocError> {
     for no in steps {
-        put_step(alloc, out, frame, trace, names, *no)?;
+        put_step(alloc, out, frame, trace, words, *no)?;
     }
     Ok(())
 }
@@ -180,7 +219,7 @@ fn latest<T>(list: &[T], most: usize) -> &[T]
 }
 
 /// The first of these, so many at most: in a report the witnesses of the greatest bounds.
-fn earliest(rows: &[Row], most: usize) -> &[Row]
+pub(crate) fn earliest(rows: &[Row], most: usize) -> &[Row]
     ensures { result.now ≡ take most rows.now }
 {
     &rows[..most.min(rows.len())]
@@ -191,14 +230,10 @@ fn put_foot(
     alloc: Global,
     out: &mut Vec<u8>,
     frame: &Frame,
+    strips: &Strips,
     picture: &Picture,
 ) -> Result<(), AllocError> {
-    let legend = frame.lanes_end() + 480;
-    put(
-        alloc,
-        out,
-        format_args!("<g transform=\"translate(900 {legend})\" class=\"k\">\n{LEGEND}</g>\n"),
-    )?;
+    put_legend(alloc, out, frame, strips)?;
     let y = frame.lanes_end() + 860;
     put_left_out(
         alloc,
@@ -224,7 +259,27 @@ fn put_foot(
         MAX_WITNESSES,
         "later gaps",
     )?;
-    out.extend_from_slice(b"</svg>\n")
+    out.extend_from_slice(b"</g>\n</svg>\n")
+}
+
+/// What the marks mean that there are.
+fn put_legend(
+    alloc: Global,
+    out: &mut Vec<u8>,
+    frame: &Frame,
+    strips: &Strips,
+) -> Result<(), AllocError> {
+    let y = frame.lanes_end() + 480;
+    let more = if strips.height() > 0 {
+        STRIPS_LEGEND
+    } else {
+        ""
+    };
+    put(
+        alloc,
+        out,
+        format_args!("<g transform=\"translate(900 {y})\" class=\"k\">\n{LEGEND}{more}</g>\n"),
+    )
 }
 
 /// How many of so many marks are left out, if at most `most` are drawn.

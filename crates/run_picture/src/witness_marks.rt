@@ -1,10 +1,11 @@
 //! The misses and gaps of a report. Lengths are tenths of a pixel.
 
 use crate::frames::Frame;
-use crate::labels::put_processor;
 use crate::message_lines::put_line;
 use crate::messages::{processor_at, tick_at};
 use crate::svg::put;
+use crate::titles::{Made, push_gap_title, push_miss_title};
+use crate::words::Words;
 use std::alloc::{AllocError, Global};
 use step_trace::{Row, Trace};
 
@@ -14,25 +15,23 @@ pub(crate) fn put_miss(
     out: &mut Vec<u8>,
     frame: &Frame,
     trace: &Trace,
-    names: &[&str],
+    words: Words<'_>,
     row: &Row,
 ) -> Result<(), AllocError> {
     let Some(miss) = row.miss else {
         return Ok(());
     };
-    let (sent, missed, gst, delta) = (miss.sent, miss.missed, row.gst, row.delta);
-    let (from, to) = (processor_at(trace, sent), processor_at(trace, missed));
-    let line = frame.line(tick_at(trace, sent), from, tick_at(trace, missed), to);
+    let (sent, from) = (miss.sent, processor_at(trace, miss.sent));
+    let missed = Made {
+        no: miss.missed,
+        tick: tick_at(trace, miss.missed),
+        processor: processor_at(trace, miss.missed),
+    };
+    let line = frame.line(tick_at(trace, sent), from, missed.tick, missed.processor);
     put_line(alloc, out, line, "w")?;
-    put(alloc, out, format_args!("<title>message {sent} from "))?;
-    put_processor(alloc, out, names, from)?;
-    out.extend_from_slice(b" to ")?;
-    put_processor(alloc, out, names, to)?;
-    put(
-        alloc,
-        out,
-        format_args!(" was not yet received at step {missed}: Δ({gst}) = {delta}</title></path>\n"),
-    )
+    out.extend_from_slice(b"<title>")?;
+    push_miss_title(out, words, missed, sent, from, row.gst, row.delta)?;
+    out.extend_from_slice(b"</title></path>\n")
 }
 
 /// Draws the gap of a row, as far as it lies in the window.
@@ -40,7 +39,7 @@ pub(crate) fn put_gap(
     alloc: Global,
     out: &mut Vec<u8>,
     frame: &Frame,
-    names: &[&str],
+    words: Words<'_>,
     row: &Row,
 ) -> Result<(), AllocError> {
     let Some(gap) = row.gap else {
@@ -56,13 +55,6 @@ pub(crate) fn put_gap(
             "<rect class=\"g\" x=\"{x}\" y=\"{y}\" width=\"{width}\" height=\"180\" rx=\"40\"><title>"
         ),
     )?;
-    put_processor(alloc, out, names, gap.proc)?;
-    let (from, to, gst, phi) = (gap.from, gap.to, row.gst, row.phi);
-    put(
-        alloc,
-        out,
-        format_args!(
-            " takes no step from tick {from} to tick {to}: Φ({gst}) = {phi}</title></rect>\n"
-        ),
-    )
+    push_gap_title(out, words, gap, row.gst, row.phi)?;
+    out.extend_from_slice(b"</title></rect>\n")
 }

@@ -7,3 +7,5 @@ pub mod Evidence
 pub mod Named
 pub mod Headlines
 pub mod MessageCounts
+pub mod Losses
+pub mod EndedSilences

@@ -66,7 +66,7 @@ fn counted(trace: &Trace, set: ProcSet, taken: &[bool], lasts: &[u64]) -> Messag
 }
 
 /// One more, if it counts.
-fn plus(count: u64, counts: bool) -> u64
+pub(crate) fn plus(count: u64, counts: bool) -> u64
     requires { count < 2 ^ 63 }
     ensures { result ≡ (if counts then count + 1 else count) }
 {
@@ -81,7 +81,7 @@ fn latest(before: Option<u64>, no: u64, counts: bool) -> Option<u64>
 }
 
 /// Whether a message is lost.
-fn is_lost(trace: &Trace, set: ProcSet, taken: &[bool], lasts: &[u64], no: u64) -> bool
+pub(crate) fn is_lost(trace: &Trace, set: ProcSet, taken: &[bool], lasts: &[u64], no: u64) -> bool
     requires within { IsWithin set trace.now.config.n }
     requires taken { (s : ℕ) → flag_at taken.now s ≡ is_taken trace.now.steps s }
     requires lasts { (p : ℕ) → p ≤ trace.now.config.n → tick_in lasts.now p ≡ last_receive p trace.now (length trace.now.steps) }
@@ -138,7 +138,7 @@ fn tick_in(ticks: &[u64], proc: u64) -> u64
 }
 
 /// For each processor the tick of its last Receive: 0 if there is none.
-fn last_receives(alloc: Global, trace: &Trace) -> Result<Vec<u64>, AllocError>
+pub(crate) fn last_receives(alloc: Global, trace: &Trace) -> Result<Vec<u64>, AllocError>
     ensures { IfOk result (λ lasts. (p : ℕ) → p ≤ trace.now.config.n → tick_in lasts.items p ≡ last_receive p trace.now (length trace.now.steps)) }
 {
     let mut lasts = vec![in alloc; 0; trace.config().n() as usize + 1]?;

@@ -13,7 +13,7 @@ use crate::line_faults::refused_line;
 use crate::outputs::{Output, stopped};
 use crate::run_lists::judge_runs;
 use command_faults::{Fault, print, status, tell};
-use command_line::jobs::{CheckJob, ImportJob, JudgeJob, PageJob, ReportJob};
+use command_line::jobs::{CheckJob, DrawJob, ImportJob, JudgeJob, PageJob, ReportJob};
 use command_line::{Job, read_command, refuse_words};
 use command_options::{RunOptions, SimulationOptions, Workers};
 use node_runs::{follower_for, run_nodes, run_simulation};
@@ -24,8 +24,9 @@ use std::thread::Threads;
 use std::time::Clock;
 use step_trace::{Correct, OpenGate};
 use text_commands::{
-    Answer, Replay, ToldPage, Upgrade, import_options, judgement_status, read_decisions,
-    read_table, run_check, run_import, run_judge, run_report, serve, verdict_status,
+    Answer, Replay, ToldDrawing, ToldPage, Upgrade, import_options, judgement_status,
+    read_decisions, read_table, run_check, run_import, run_judge, run_report, serve,
+    verdict_status,
 };
 use trace_text::Counting;
 
@@ -57,7 +58,7 @@ fn run<R: Threads + Wait + Clock + Sync>(rt: &HostRuntime, threads: &R) -> Resul
         Job::Check(job) => check(rt, job),
         Job::Judge(job) => judge(rt, job),
         Job::JudgeRuns(job) => judge_runs(rt, job),
-        Job::Draw(job) => answer(rt, job.file, &job.drawing),
+        Job::Draw(job) => draw(rt, job),
         Job::Page(job) => page(rt, job),
         Job::Import(job) => import(rt, job),
         Job::Help(text) => help(rt, text),
@@ -189,23 +190,39 @@ fn answer_to_input<A: Answer>(
     output.ended(served.map_err(|fault| trace.named(fault)))
 }
 
+/// Prints the picture of the trace in a file, by the table in another, if there is one. Both files are opened before one
+/// is read; the table is read first.
+fn draw(rt: &HostRuntime, job: DrawJob) -> Result<u8, Fault> {
+    let DrawJob {
+        file,
+        table,
+        drawing,
+    } = job;
+    let trace = Input::open(rt, file)?;
+    let table = table_in(rt, table)?;
+    answer_to_input(rt, trace, &ToldDrawing { drawing, table })
+}
+
 /// Prints the page about the trace in a file, by the table in another, if there is one. Both files are opened before
 /// one is read; the table is read first.
 fn page(rt: &HostRuntime, job: PageJob) -> Result<u8, Fault> {
     let PageJob { file, table, page } = job;
     let trace = Input::open(rt, file)?;
-    let table = match table {
-        Some(file) => Some(table_in(rt, file)?),
-        None => None,
-    };
+    let table = table_in(rt, table)?;
     answer_to_input(rt, trace, &ToldPage { page, table })
 }
 
-/// The text of the table in a file.
-fn table_in(rt: &HostRuntime, file: String) -> Result<Vec<u8>, Fault> {
+/// The text of the table in a file, if there is one.
+fn table_in(rt: &HostRuntime, file: Option<String>) -> Result<Option<Vec<u8>>, Fault> {
+    let Some(file) = file else {
+        return Ok(None);
+    };
     let mut table = Input::open(rt, file)?;
     let read = read_table(rt.alloc(), &mut Counting::new(&mut table));
-    read.map_err(|fault| table.named(fault))
+    match read {
+        Ok(text) => Ok(Some(text)),
+        Err(fault) => Err(table.named(fault)),
+    }
 }
 
 /// The text, where there is one.

@@ -1,5 +1,5 @@
 -- What the program makes of a trace in a picture.
-use Rattle.std.specs.Prelude.{ℕ, ◌≡◌, ◌||◌, Bool, true, false, is_some, List, [], Option, Some, None, Result, Ok, Err, String, string_bytes, ⊤}
+use Rattle.std.specs.Prelude.{ℕ, ◌≡◌, ◌||◌, Bool, true, false, is_some, List, [], Option, Some, None, Result, Ok, Err, String, option_map, string_bytes, ⊤}
 use Rattle.std.specs.Option.{unwrap_or}
 use Rattle.step_trace.specs.declared.rows.Row.{Row}
 use Rattle.step_trace.specs.Members.{all_to}
@@ -19,6 +19,7 @@ use Rattle.run_picture.specs.Names.{AreNames, IsNamesRefusal, parts_of}
 use Rattle.run_picture.specs.Pictures.{Shows}
 use Rattle.run_picture.specs.Windows.{window_of}
 use Rattle.run_page.specs.EvidenceTicks.{IsEvidenceWindow}
+use Rattle.step_tables.specs.Told.{Told}
 use Rattle.command_options.specs.declared.Drawing.{Drawing}
 use Rattle.command_faults.specs.declared.faults.Fault.{Fault}
 use Rattle.command_faults.specs.declared.faults.Fault.TheVariants as fault
@@ -28,6 +29,8 @@ use Rattle.command_faults.specs.declared.faults.PictureOption.TheVariants as opt
 use Rattle.command_faults.specs.declared.faults.SetOption.TheVariants as set_option
 use Rattle.text_verdicts.specs.Texts.{HasCorrect}
 use Rattle.text_commands.specs.Answers.{IsOutside}
+use Rattle.text_commands.specs.LogTables.{HasTable, IsTableFault, told_by}
+use Rattle.text_commands.specs.declared.drawings.ToldDrawing.{ToldDrawing}
 
 abbrev pub are_names_in : {B : Type 0} → Option (String B) → ℕ → Type 0
 are_names_in None count = ⊤
@@ -37,6 +40,15 @@ are_names_in (Some list) count = AreNames count (parts_of (string_bytes list))
 abbrev pub names_of_list : {B : Type 0} → Option (String B) → List (List ℕ)
 names_of_list None = []
 names_of_list (Some list) = parts_of (string_bytes list)
+
+-- the names of the processors: those that are listed; else those of the table, if there is one
+abbrev pub names_told : Option Told → List (List ℕ)
+names_told None = []
+names_told (Some told) = told.nodes
+
+abbrev pub names_by : {B : Type 0} → Option (String B) → Option Told → List (List ℕ)
+names_by None table = names_told table
+names_by (Some list) table = parts_of (string_bytes list)
 
 -- the drawing lists no names, or as many as there are processors
 abbrev pub AreNamesFor : Drawing → ℕ → Type 0
@@ -48,18 +60,19 @@ AreLanesIn None names count set = set ≡ all_to count
 AreLanesIn (Some list) names count set = AreLanes names (parts_of (string_bytes list)) count set
 
 -- the set has the processors whose lanes are asked for, if there are `count`
-abbrev pub AreLanesFor : Drawing → ℕ → ℕ → Type 0
-AreLanesFor d count set = AreLanesIn d.lanes (names_of_list d.names) count set
+abbrev pub AreLanesFor : Drawing → Option Told → ℕ → ℕ → Type 0
+AreLanesFor d table count set = AreLanesIn d.lanes (names_by d.names table) count set
 
 -- the ticks that are asked for, of a trace with this last tick; if none are, its first ones
 abbrev pub window_for : Drawing → ℕ → Result Window WindowError
 window_for d last = window_of last d.from d.to
 
--- a window of the trace is asked for, lanes of its processors, and as many names as there are processors, or none
-pub record IsDrawable (d : Drawing) (t : Recorded) : Type 0 where
+-- A window of the trace is asked for, lanes of its processors, and as many names as there are processors, or none. The
+-- table, if there is one, says this about the trace.
+pub record IsDrawable (d : Drawing) (table : Option Told) (t : Recorded) : Type 0 where
   pub named : AreNamesFor d t.config.n
   pub lanes : ℕ
-  pub listed : AreLanesFor d t.config.n lanes
+  pub listed : AreLanesFor d table t.config.n lanes
   pub window : Window
   pub asked : window_for d t.last ≡ Ok window
 
@@ -86,11 +99,19 @@ pub record IsPictureFor (set : ℕ) (d : Drawing) (lanes : ℕ) (t : Recorded) (
   pub misses : ShowsMisses t rows window lanes picture.misses.items
   pub gaps : ShowsGaps rows window lanes picture.gaps.items
 
--- The trace has all correct processors, and can be drawn as asked. The text is left open: what a mark looks like is
--- only tested.
-pub record IsDrawingOf (d : Drawing) (t : Recorded) (picture : List ℕ) : Type 0 where
+-- The trace has all correct processors; the text of the table, if there is one, is the trace's; and the trace can be
+-- drawn as asked. The text is left open: what a mark looks like is only tested.
+pub record IsDrawingBy (d : Drawing) (text : Option (List ℕ)) (t : Recorded) (picture : List ℕ) : Type 0 where
   pub within : HasCorrect d.correct t
-  pub drawable : IsDrawable d t
+  pub tabled : HasTable text t
+  pub drawable : IsDrawable d (told_by text t) t
+
+-- the text of the table of a drawing
+abbrev pub table_text_of : ToldDrawing → Option (List ℕ)
+table_text_of d = option_map (λ text. text.items) d.table
+
+abbrev pub IsDrawingOf : ToldDrawing → Recorded → List ℕ → Type 0
+IsDrawingOf d = IsDrawingBy d.drawing (table_text_of d)
 
 -- the option that a window is refused for
 abbrev pub option_of : WindowError → PictureOption
@@ -147,28 +168,32 @@ IsLanesFault lanes names count fault.Memory = ⊤
 IsLanesFault lanes names count _ = ⊥
 
 -- there are the names and the lanes that are asked for
-abbrev pub HasLanes : Drawing → ℕ → Type 0
-HasLanes d count = AreNamesFor d count × ((set : ℕ) × AreLanesFor d count set)
+abbrev pub HasLanes : Drawing → Option Told → ℕ → Type 0
+HasLanes d table count = AreNamesFor d count × ((set : ℕ) × AreLanesFor d table count set)
 
 -- why there is no picture of the trace: its names, or else its lanes, or its first tick, or its last one
-abbrev pub IsUndrawnFor : Drawing → Recorded → PictureOption → Type 0
-IsUndrawnFor d t (option.From from last) = HasLanes d t.config.n × (window_for d t.last ≡ Err (no_window.BadFrom from last))
-IsUndrawnFor d t (option.To to from) = HasLanes d t.config.n × (window_for d t.last ≡ Err (no_window.BadTo to from))
-IsUndrawnFor d t (option.NoLane place) = AreNamesFor d t.config.n × IsLanesFault d.lanes (names_of_list d.names) t.config.n (fault.Picture (option.NoLane place))
-IsUndrawnFor d t o = IsNamesFault d.names t.config.n (fault.Picture o)
+abbrev pub IsUndrawnFor : Drawing → Option Told → Recorded → PictureOption → Type 0
+IsUndrawnFor d table t (option.From from last) = HasLanes d table t.config.n × (window_for d t.last ≡ Err (no_window.BadFrom from last))
+IsUndrawnFor d table t (option.To to from) = HasLanes d table t.config.n × (window_for d t.last ≡ Err (no_window.BadTo to from))
+IsUndrawnFor d table t (option.NoLane place) = AreNamesFor d t.config.n × IsLanesFault d.lanes (names_by d.names table) t.config.n (fault.Picture (option.NoLane place))
+IsUndrawnFor d table t o = IsNamesFault d.names t.config.n (fault.Picture o)
 
 -- a lane is that of a processor which the trace hasn't
-abbrev pub IsLaneOutside : Drawing → Recorded → MemberOutside → Type 0
-IsLaneOutside d t o = AreNamesFor d t.config.n × IsLanesFault d.lanes (names_of_list d.names) t.config.n (fault.Set set_option.Lanes o)
+abbrev pub IsLaneOutside : Drawing → Option Told → Recorded → MemberOutside → Type 0
+IsLaneOutside d table t o = AreNamesFor d t.config.n × IsLanesFault d.lanes (names_by d.names table) t.config.n (fault.Set set_option.Lanes o)
 
-abbrev pub IsUndrawn : Drawing → Recorded → Fault → Type 0
-IsUndrawn d t (fault.Picture o) = IsUndrawnFor d t o
-IsUndrawn d t (fault.Set set_option.Lanes o) = IsLaneOutside d t o
-IsUndrawn d t fault.Memory = ⊤
-IsUndrawn d t _ = ⊥
+abbrev pub IsUndrawn : Drawing → Option Told → Recorded → Fault → Type 0
+IsUndrawn d table t (fault.Picture o) = IsUndrawnFor d table t o
+IsUndrawn d table t (fault.Set set_option.Lanes o) = IsLaneOutside d table t o
+IsUndrawn d table t fault.Memory = ⊤
+IsUndrawn d table t _ = ⊥
 
--- why the trace has no picture: a correct processor that it hasn't, or else an option
-abbrev pub IsUndrawnTrace : Drawing → Recorded → Fault → Type 0
-IsUndrawnTrace d t (fault.Picture o) = HasCorrect d.correct t × IsUndrawnFor d t o
-IsUndrawnTrace d t (fault.Set set_option.Lanes o) = HasCorrect d.correct t × IsLaneOutside d t o
-IsUndrawnTrace d t w = IsOutside d.correct t w
+-- why the trace has no picture: a correct processor that it hasn't, or else the table, or an option, in this order
+abbrev pub IsUndrawnBy : Drawing → Option (List ℕ) → Recorded → Fault → Type 0
+IsUndrawnBy d text t (fault.Table why) = HasCorrect d.correct t × IsTableFault text t (fault.Table why)
+IsUndrawnBy d text t (fault.Picture o) = HasCorrect d.correct t × HasTable text t × IsUndrawnFor d (told_by text t) t o
+IsUndrawnBy d text t (fault.Set set_option.Lanes o) = HasCorrect d.correct t × HasTable text t × IsLaneOutside d (told_by text t) t o
+IsUndrawnBy d text t w = IsOutside d.correct t w
+
+abbrev pub IsUndrawnTrace : ToldDrawing → Recorded → Fault → Type 0
+IsUndrawnTrace d = IsUndrawnBy d.drawing (table_text_of d)

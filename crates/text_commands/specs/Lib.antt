@@ -5,6 +5,7 @@ pub mod Answers
 pub mod Texts
 pub mod Reports
 pub mod ReportParts
+pub mod LogTables
 pub mod Drawings
 pub mod ReplayTexts
 pub mod Replays

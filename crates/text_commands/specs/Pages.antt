@@ -1,9 +1,6 @@
 -- What the program makes of a trace in a page.
-use Rattle.std.specs.Prelude.{ℕ, ◌≡◌, ◌≢◌, List, Option, Some, None, Ok, Err, IfSome, option_map, ⊤}
+use Rattle.std.specs.Prelude.{ℕ, List, Option, IfSome, option_map}
 use Rattle.step_trace.specs.Traces.{Recorded}
-use Rattle.step_tables.specs.declared.refusals.TableError.TheVariants as untabled
-use Rattle.step_tables.specs.Tables.{told_of_text}
-use Rattle.step_tables.specs.Told.{Told}
 use Rattle.command_options.specs.declared.Page.{Page}
 use Rattle.command_faults.specs.declared.faults.Fault.{Fault}
 use Rattle.command_faults.specs.declared.faults.Fault.TheVariants as fault
@@ -11,19 +8,9 @@ use Rattle.text_verdicts.specs.Cuts.{IsTickOf}
 use Rattle.text_verdicts.specs.Texts.{HasCorrect}
 use Rattle.text_commands.specs.Answers.{IsOutside}
 use Rattle.text_commands.specs.Drawings.{IsNamesFault, are_names_in}
+use Rattle.text_commands.specs.LogTables.{HasTable, IsTableFault}
 use Rattle.text_commands.specs.ReportParts.{IsAtFault}
 use Rattle.text_commands.specs.declared.pages.ToldPage.{ToldPage}
-
--- the text of a table, if there is one, is the table of the trace
-abbrev pub HasTable : Option (List ℕ) → Recorded → Type 0
-HasTable None t = ⊤
-HasTable (Some text) t = (told : Told) × (told_of_text t text ≡ Ok told)
-
--- why it is none: its first refusal, or out of memory
-abbrev pub IsTableFault : Option (List ℕ) → Recorded → Fault → Type 0
-IsTableFault (Some text) t (fault.Table why) = (told_of_text t text ≡ Err why) × (why ≢ untabled.Memory)
-IsTableFault (Some text) t fault.Memory = ⊤
-IsTableFault text t _ = ⊥
 
 -- as many names as processors are listed, or none, and the tick that is asked for, if one is, is one of the trace
 pub record IsTellable (p : Page) (t : Recorded) : Type 0 where

@@ -1,29 +1,40 @@
 //! The picture of a trace as SVG: the command `draw`.
 
-ghost use Rattle.std.specs.Prelude.{◌≡◌, IfErr, IfOk, MatchResult, Ok, OnOk};
+ghost use Rattle.std.specs.Prelude.{◌≡◌, IfErr, IfOk, MatchResult, Ok, OnOk, map};
 ghost use Rattle.step_trace.specs.Processors.{IsWithin};
-ghost use Rattle.text_commands.specs.Drawings.{IsDrawable, IsDrawnWindow, IsMarksFault, IsPictureFor, IsUndrawn, IsWindowFault, asks_for_ticks, option_of, window_for};
+ghost use Rattle.text_commands.specs.Drawings.{IsDrawable, IsDrawnWindow, IsMarksFault, IsPictureFor, IsUndrawn, IsWindowFault, asks_for_ticks, names_by, names_of_list, names_told, option_of, window_for};
 
 use crate::answers::Answer;
 use crate::lanes::lanes_for;
+use crate::log_tables::{nanoseconds_in, rows_of, table_for};
 use crate::names::names_for;
 use crate::report_parts::report_of;
 use crate::traces::set_of;
 use command_faults::{Fault, PictureOption};
 use command_options::Drawing;
 use run_page::evidence_window;
-use run_picture::{Picture, Window, WindowError, picture_of, svg_text, window_of};
+use run_picture::{LogWords, Picture, Window, WindowError, picture_of, svg_text, window_of};
 use std::alloc::{AllocError, Global};
+use step_tables::StepTable;
 use step_trace::{ProcSet, Row, Trace};
+
+/// What a picture is asked for, with the text of the table of the trace's steps, if there is one: then nodes and messages
+/// have the names that it gives.
+#[derive(Debug, Drop)]
+pub struct ToldDrawing {
+    pub drawing: Drawing,
+    pub table: Option<Vec<u8>>,
+}
 
 /// A picture: the bounds of every tick, for the correct processors, and the steps, messages and witnesses of some ticks.
 ///
 /// Declines a trace, in this order, by:
 /// - Set if a correct processor is above its number of processors;
+/// - Table with the first refusal of the table;
 /// - Picture for the names;
 /// - for the first lane that is none: Picture, or Set if it is above the number of processors;
 /// - Picture for the first tick and the last tick.
-impl Answer for Drawing {
+impl Answer for ToldDrawing {
     ghost use Rattle.text_commands.specs.Drawings.{IsDrawingOf, IsUndrawnTrace};
 
     ghost Gives = { λ d. IsDrawingOf d };
@@ -31,21 +42,60 @@ impl Answer for Drawing {
     ghost Declines = { λ d. IsUndrawnTrace d };
 
     fn answer(&self, alloc: Global, trace: Trace) -> Result<Vec<u8>, Fault> {
-        let set = set_of(self.correct, &trace)?;
-        drawn(alloc, &trace, set, self)
+        let set = set_of(self.drawing.correct, &trace)?;
+        let table = table_for(alloc, &self.table, &trace)?;
+        drawn(alloc, &trace, set, &self.drawing, &table)
     }
 }
 
-/// The picture of a trace, as SVG.
-fn drawn(alloc: Global, trace: &Trace, set: ProcSet, drawing: &Drawing) -> Result<Vec<u8>, Fault>
+/// The picture of a trace, as SVG, by what a table says about it.
+fn drawn(
+    alloc: Global,
+    trace: &Trace,
+    set: ProcSet,
+    drawing: &Drawing,
+    table: &Option<StepTable>,
+) -> Result<Vec<u8>, Fault>
     requires within { IsWithin set trace.now.config.n }
-    ensures drawable { OnOk result (IsDrawable drawing.now trace.now) }
-    ensures refused { IfErr result (IsUndrawn drawing.now trace.now) }
+    ensures drawable { OnOk result (IsDrawable drawing.now table.now trace.now) }
+    ensures refused { IfErr result (IsUndrawn drawing.now table.now trace.now) }
 {
-    let names = names_for(alloc, &drawing.names, trace.config().n())?;
+    let listed = names_for(alloc, &drawing.names, trace.config().n())?;
+    let names = names_by(alloc, drawing, listed, table)?;
     let lanes = lanes_for(alloc, &drawing.lanes, &names, trace.config().n())?;
     let picture = marks_for(alloc, trace, set, drawing, lanes)?;
-    Ok(svg_text(alloc, trace, &picture, set, &names)?)
+    let words = LogWords {
+        names: &names,
+        said: rows_of(table),
+        unit: nanoseconds_in(drawing.unit),
+    };
+    Ok(svg_text(alloc, trace, &picture, set, &words)?)
+}
+
+/// The names of the processors: the listed ones, if the drawing lists some, and else those of the table.
+fn names_by<'a>(
+    alloc: Global,
+    drawing: &'a Drawing,
+    listed: Vec<&'a str>,
+    table: &'a Option<StepTable>,
+) -> Result<Vec<&'a str>, AllocError>
+    requires { map (λ name. name.now) listed.items ≡ names_of_list drawing.now.names }
+    ensures { IfOk result (λ names. map (λ name. name.now) names.items ≡ names_by drawing.now.names table.now) }
+{
+    if drawing.names.is_some() {
+        return Ok(listed);
+    }
+    names_told(alloc, table)
+}
+
+/// The names that a table gives; none without a table.
+fn names_told(alloc: Global, table: &Option<StepTable>) -> Result<Vec<&str>, AllocError>
+    ensures { IfOk result (λ names. map (λ name. name.now) names.items ≡ names_told table.now) }
+{
+    match table {
+        Some(table) => table.names(alloc),
+        None => Ok(Vec::new(alloc)),
+    }
 }
 
 /// The marks of the ticks that are asked for and of these lanes, with the rows of the trace's report.

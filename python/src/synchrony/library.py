@@ -236,10 +236,16 @@ def draw(
     to_tick: Optional[int] = None,
     names: Optional[Iterable[str]] = None,
     lanes: Optional[Iterable[Union[int, str]]] = None,
+    table: Optional[Text] = None,
+    unit: Optional[str] = None,
 ) -> bytes:
     """A picture of the trace and its bounds, as SVG. If no tick is given, it shows the first evidence. `names` are names for the
-    processors, in their order. `lanes` are the only processors that are drawn, by their names or numbers."""
-    return _asked("draw", trace, correct=_set_of(correct)[1], from_tick=from_tick, to_tick=to_tick, names=names, lanes=lanes)
+    processors, in their order. `lanes` are the only processors that are drawn, by their names or numbers. `table` and
+    `unit` are those of `page`; `names` go before the names of the table."""
+    asked = {"correct": _set_of(correct)[1], "from_tick": from_tick, "to_tick": to_tick, "names": names, "lanes": lanes, "unit": unit}
+    if table is None:
+        return _asked("draw", trace, **asked)
+    return _asked("draw", trace, _bytes_of(table), "--table=table", **asked)
 
 
 def page(

@@ -2,14 +2,15 @@
 
 ghost use Rattle.std.specs.Prelude.{IfOk, IfErr, option_map};
 ghost use Rattle.clap.specs.Words.{found_of, rows_of};
-ghost use Rattle.command_line.specs.Arguments.{IsCommand, IsListFault};
-ghost use Rattle.command_line.specs.Commands.Draw.{IsDraw, draw_app, draw_given};
+ghost use Rattle.command_line.specs.Arguments.{IsCommand};
+ghost use Rattle.command_line.specs.Commands.Draw.{IsDraw, IsDrawFault, draw_app, draw_given};
 
 use crate::jobs::Job;
 use crate::jobs::arguments::{
     correct_argument, correct_in, file_argument, kept, new_command, optional_argument, text, tick,
     tick_argument,
 };
+use crate::jobs::page::{test_table, unit_in};
 use crate::line_errors::LineError;
 use clap::{ArgMatches, Command};
 use command_options::Drawing;
@@ -24,16 +25,24 @@ const TO_HELP: &str =
     "The last tick to draw, at most 999 after the first; 99 after it if only --from is given";
 
 const NAMES_HELP: &str =
-    "The names of all processors, in their order; their numbers if it is left out";
+    "The names of all processors, in their order; else those of --table, or their numbers";
 
 const LANES_HELP: &str =
     "Draws only these processors, by their names or numbers, and what passes between them";
 
-/// The picture of the trace in a file, as SVG.
+const TABLE_HELP: &str =
+    "The table of the trace's steps, from which it takes names, messages and records; - is standard input";
+
+const UNIT_HELP: &str =
+    "The unit of the table's times: s, ms, us or ns; time stamps since 2001 need none";
+
+/// The picture of the trace in a file, as SVG. One of the two files at most is standard input.
 #[derive(Debug, Drop)]
 pub struct DrawJob {
     /// The path of the file; `-` is standard input.
     pub file: String,
+    /// The path of the file with the table of the trace's steps, if it is given; `-` is standard input.
+    pub table: Option<String>,
     /// What the picture is asked for.
     pub drawing: Drawing,
 }
@@ -49,13 +58,16 @@ pub fn command<'a>(alloc: Global) -> Result<Command<'a>, AllocError>
         tick_argument(alloc, "to", TO_HELP),
         optional_argument(alloc, "names", "A,B,C", NAMES_HELP),
         optional_argument(alloc, "lanes", "A,B", LANES_HELP),
+        optional_argument(alloc, "table", "STEPS", TABLE_HELP),
+        optional_argument(alloc, "unit", "U", UNIT_HELP),
     ]?;
     new_command(alloc, "draw", ABOUT, help(), arguments)
 }
 
 /// The job that the words after `draw` ask for; None if one is missing.
 ///
-/// Refuses a list that isn't one. Memory may come instead.
+/// Refuses a list that isn't one; then two files that are both standard input; and then a unit that is none. Memory may
+/// come instead.
 pub fn job(alloc: Global, found: &ArgMatches<'_>) -> Option<Result<Job, LineError>>
     ensures { draw_given (rows_of (found_of found.now)) result }
 {
@@ -65,7 +77,9 @@ pub fn job(alloc: Global, found: &ArgMatches<'_>) -> Option<Result<Job, LineErro
     let to = tick(found, "to")?;
     let names = text(found, "names");
     let lanes = text(found, "lanes");
-    Some(draw(alloc, file, list, from, to, names, lanes))
+    let table = text(found, "table");
+    let unit = text(found, "unit");
+    Some(draw(alloc, file, list, from, to, names, lanes, table, unit))
 }
 
 /// The job of a picture with these words.
@@ -77,22 +91,32 @@ fn draw(
     to: Option<u64>,
     names: Option<&str>,
     lanes: Option<&str>,
+    table: Option<&str>,
+    unit: Option<&str>,
 ) -> Result<Job, LineError>
-    ensures job { IfOk result (IsDraw file.now list.now from to (option_map (λ n. n.now) names.entry) (option_map (λ n. n.now) lanes.entry)) }
-    ensures refused { IfErr result (IsListFault list.now) }
+    ensures job { IfOk result (IsDraw file.now list.now from to (option_map (λ n. n.now) names.entry) (option_map (λ n. n.now) lanes.entry) (option_map (λ t. t.now) table.entry) (option_map (λ u. u.now) unit.entry)) }
+    ensures refused { IfErr result (IsDrawFault file.now list.now (option_map (λ t. t.now) table.entry) (option_map (λ u. u.now) unit.entry)) }
 {
     let correct = correct_in(alloc, "correct", list)?;
+    test_table(alloc, file, None, table)?;
+    let unit = unit_in(alloc, unit)?;
     let file = String::from_str(alloc, file)?;
     let names = kept(alloc, names)?;
     let lanes = kept(alloc, lanes)?;
+    let table = kept(alloc, table)?;
     let drawing = Drawing {
         correct,
         from,
         to,
         names,
         lanes,
+        unit,
     };
-    Ok(Job::Draw(DrawJob { file, drawing }))
+    Ok(Job::Draw(DrawJob {
+        file,
+        table,
+        drawing,
+    }))
 }
 
 /// What a picture shows.
@@ -116,13 +140,19 @@ the ticks:
 The lanes of the processors in LIST are in ink, the others pale. Each step and
 each witness shows what it is when the pointer is on it. With --lanes there are
 the lanes of those processors alone, their steps and silences, and the messages
-from one of them to one of them. Each is given by its name, if --names has it,
-or else by its number. The bounds above stay those of all ticks and of LIST.
+from one of them to one of them. Each is given by its name, if --names or STEPS
+has it, or else by its number. The bounds above stay those of all ticks and of
+LIST.
 
 Without --from and --to these are the ticks of the first evidence: the silence or
 the late message, or both, that rules out smaller bounds from tick 1 on, with a
 seventh more at both ends. At most the first 1,000 of them are drawn. Without
 evidence they are the ticks 1 to 100.
+
+STEPS is the table that `import LOG --table` prints, by the same options as the
+trace. With it nodes and messages have their names of the log, and each step has
+the number of its record there. With the unit U of its times, as for `page`, each
+step has its time, too, and both axes have times, counted from the first tick on.
 
 Example, at the top of the repository:
   ./synchrony draw examples/decides-seven.trace --correct 1,2,3 >run.svg
@@ -130,12 +160,13 @@ Example, at the top of the repository:
 Exit status:
   0  the picture is printed, or this text
   2  the command line is refused, LIST is no list, or it has a processor above
-     the trace's number of processors; the names aren't as many different ones
-     as there are processors, each of 1 to 64 bytes without control characters;
-     a processor of --lanes is none of the trace; the first tick is none of it;
-     or the last one is before the first, or more than 999 after it
-  3  the trace is refused
+     the trace's number of processors; U isn't a unit; the names aren't as many
+     different ones as there are processors, each of 1 to 64 bytes without
+     control characters; a processor of --lanes is none of the trace; the first
+     tick is none of it; or the last one is before the first, or more than 999
+     after it
+  3  the trace is refused, or STEPS isn't the table of its steps
   5  out of memory
-  6  FILE can't be opened or read, or the output can't be written
+  6  a file can't be opened or read, or the output can't be written
 Faults go to standard error. Output begins once all of it is known."
 }

@@ -103,7 +103,7 @@ fn page(
 }
 
 /// Refuses a table together with names, and then one that is standard input as the trace is.
-fn test_table(
+pub(crate) fn test_table(
     alloc: Global,
     file: &str,
     names: Option<&str>,
@@ -126,7 +126,7 @@ fn test_table(
 }
 
 /// The unit of this name; none without a name.
-fn unit_in(alloc: Global, name: Option<&str>) -> Result<Option<TimeUnit>, LineError>
+pub(crate) fn unit_in(alloc: Global, name: Option<&str>) -> Result<Option<TimeUnit>, LineError>
     ensures unit { IfOk result (λ u. unit_given (option_map (λ text. text.now) name.entry) ≡ Some u) }
     ensures refused { IfErr result (IsUnitFault (option_map (λ text. text.now) name.entry)) }
 {

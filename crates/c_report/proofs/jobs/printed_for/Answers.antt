@@ -26,7 +26,7 @@ returns-in-Upgrade-clause-printed c = rw c.in-Upgrade.is (rw (sym c.as_str-in-Up
 
 -- src/jobs.rt:39:1
 pub returns-in-Draw-clause-printed : goal.returns-in-Draw-clause-printed
-returns-in-Draw-clause-printed c = rw c.in-Draw.is (rw (sym c.as_str-in-Draw.ensures.value) c.answer-in-Draw.ensures.printed)
+returns-in-Draw-clause-printed c = rw c.in-Draw.is c.draw.ensures.printed
 
 -- src/jobs.rt:39:1
 pub returns-in-Page-clause-printed : goal.returns-in-Page-clause-printed

@@ -1,7 +1,7 @@
 use Rattle.std.proofs.Common.{◌≡◌, ◌≢◌, ◌<◌, ◌≤◌, ◌∙◌, sym, map, length, arith}
 use Rattle.std.proofs.lemmas.List.{length-map}
 use Rattle.run_picture.specs.Names.{name_at}
-use Rattle.run_picture.proofs.LaneFacts.{named_at, unnamed}
+use Rattle.run_picture.proofs.LaneFacts.{named_at, some_left, unnamed}
 use Rattle.run_picture.proofs.NameLists.{below_more, other_name, same_name}
 use Rattle.run_picture.proofs.lane_lists.named.Goals as goal
 
@@ -10,6 +10,7 @@ returns-then-eq-clause-named c =
     let below : c.loop-i.i < length c.args.names.now = c.loop-i-test.true in
     let inside : c.loop-i.i < length (map (λ x. x.now) c.args.names.now) = rw length-map below in
     named_at (map (λ x. x.now) c.args.names.now) c.args.part.now c.loop-i.i inside (same_name c.args.names.now c.loop-i.i c.args.part.now below (sym c.if-eq.true ∙ c.eq.ensures))
+    (some_left (length c.args.part.now) c.if-part-eq0.false)
 
 pub loop-i-preserved : goal.loop-i-preserved
 loop-i-preserved c =

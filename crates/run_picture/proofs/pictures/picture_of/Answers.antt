@@ -1,3 +1,4 @@
+use Rattle.run_picture.specs.Pictures.{all_ticks}
 use Rattle.run_picture.proofs.ShownMarks.{steps_exact, messages_exact}
 use Rattle.run_picture.proofs.MissMarks.{misses_exact}
 use Rattle.run_picture.proofs.GapMarks.{gaps_exact}
@@ -14,3 +15,6 @@ returns-clause-misses c = λ m. rw c.in_ok-misses.ensures.listed (misses_exact c
 
 pub returns-clause-gaps : goal.returns-clause-gaps
 returns-clause-gaps c = λ set is. rw c.in_ok-gaps.ensures.listed (gaps_exact set c.args.trace.now c.args.window c.args.lanes c.args.rows.now is)
+
+pub returns-clause-stalls : goal.returns-clause-stalls
+returns-clause-stalls c = λ set is. rw c.in_ok-stalls.ensures.listed (gaps_exact set c.args.trace.now (all_ticks c.args.trace.now) c.args.lanes c.args.rows.now is)

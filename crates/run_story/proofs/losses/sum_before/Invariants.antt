@@ -1,0 +1,10 @@
+use Rattle.std.proofs.Common.{◌≡◌, ◌≤◌, ◌*◌}
+use Rattle.step_trace.specs.declared.traces.TheConstants.{MAX_STEPS}
+use Rattle.run_story.specs.Losses.{share_before, sum_to}
+use Rattle.run_story.proofs.losses.sum_before.Given as goal
+
+abbrev pub invariant-loop-k : goal.invariant-loop-k
+invariant-loop-k l = record {
+  sum : l.sum ≡ sum_to (share_before l.counts l.p) l.k;
+  few : l.sum ≤ l.k * MAX_STEPS;
+}
