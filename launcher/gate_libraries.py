@@ -10,6 +10,9 @@ from pathlib import Path
 
 import tree
 
+# What ./test leaves once `rt ci` has run.
+MARK = "out/gate"
+
 
 def kit():
     """The toolchain's folder."""
@@ -25,7 +28,11 @@ def library(top, name):
 
 
 def are_of_gate(top, crates, names):
-    """Whether these libraries are those that a whole run of `rt ci` left, each newer than what it is made of."""
+    """Whether these libraries are those that a whole run of `rt ci` left, each newer than what it is made of.
+
+    `rt ci` takes a library that an earlier run proved of the same files as it is, so in a fresh checkout it is older than
+    its files. Of such a run ./test leaves a mark, which is as old as the run's beginning.
+    """
     made = {}
     for name in names:
         home = top / "crates" / name
@@ -33,9 +40,10 @@ def are_of_gate(top, crates, names):
         if not mark.is_file() or (home / "out/rlib/stamp").exists():
             return False
         made[name] = mark.stat().st_mtime
-        if made[name] < max([newest([*tree.files_of(home), top / "crates.txt"]), *[made[it] for it in crates[name]]]):
-            return False
-    return bool(names)
+    files = {it: newest([*tree.files_of(top / "crates" / it), top / "crates.txt"]) for it in names}
+    is_marked = newest(it for it in [top / MARK] if it.is_file()) >= max(files.values(), default=0)
+    is_newer = lambda it: made[it] >= max([files[it], *[made[below] for below in crates[it]]])
+    return bool(names) and (is_marked or all(is_newer(it) for it in names))
 
 
 def words_over(top, crates, name, root, toolchain):
