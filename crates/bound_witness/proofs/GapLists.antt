@@ -6,14 +6,7 @@ use Rattle.std.proofs.lemmas.Bool.Decides.{nat_tests}
 use Rattle.std.proofs.lemmas.List.{append-nil}
 use Rattle.std.proofs.lemmas.List.Elements.{Contains-push, Contains-push_cases, Contains-append_left, Contains-get_or}
 use Rattle.std.proofs.lemmas.List.Quantifiers.{all_pairs_push}
-use Rattle.step_trace.specs.declared.rows.Gap.{Gap}
-use Rattle.step_trace.specs.Processors.{has_proc, IsWithin}
-use Rattle.step_trace.specs.Traces.{Recorded, IsStepOf}
-use Rattle.step_trace.specs.Ticks.{tick_of, IsTimed}
-use Rattle.step_trace.specs.Witnesses.{IsGap}
-use Rattle.step_trace.proofs.StepPositions.{step_at_within}
-use Rattle.step_trace.proofs.TickOrder.{own_ticks_rise}
-use Rattle.bound_witness.specs.LongestGaps.{IsLongestGap, Precedes, BeginsBy, ListsGapsBy, gap_between}
+use Rattle.bound_witness.proofs.Common.{Gap, has_proc, IsWithin, Recorded, IsStepOf, tick_of, IsTimed, IsGap, step_at_within, own_ticks_rise, IsLongestGap, Precedes, BeginsBy, ListsGapsBy, gap_between}
 use Rattle.bound_witness.proofs.GapsBetween.{IsEdge, IsEdge-end, IsEdge-step, SilentBetween, between, between-IsLongestGap, same_between}
 
 -- what begins by step k begins by each later step

@@ -2,11 +2,7 @@
 use Rattle.std.proofs.Common.{ℕ, ◌≡◌, ◌≢◌, ◌+◌, ◌-◌, ◌≤◌, inl, inr, Option, Some, None, false, arith, subst, sym}
 use Rattle.std.proofs.lemmas.Bool.{cases_lt}
 use Rattle.std.specs.Prelude.{MatchOption, is_some}
-use Rattle.step_trace.specs.declared.rows.Gap.{Gap}
-use Rattle.step_trace.specs.Traces.{Recorded}
-use Rattle.step_trace.specs.Bounds.{PhiHolds, StepsWithin, IsPhi}
-use Rattle.step_trace.specs.Witnesses.{IsGap, IsNamedGap, NamesGap}
-use Rattle.bound_witness.specs.WitnessSearches.{AllStepWithin, IsFirstSilent}
+use Rattle.bound_witness.proofs.Common.{Gap, Recorded, PhiHolds, StepsWithin, IsPhi, IsGap, IsNamedGap, NamesGap, AllStepWithin, IsFirstSilent}
 
 -- all members take a step in each window of this length within the trace that begins in tick x or later
 pub record AllStepFrom (set : ℕ) (trace : Recorded) (span x : ℕ) : Type 0 where
@@ -52,12 +48,10 @@ pub NamesGap-found : (set : ℕ) (trace : Recorded) (g f : ℕ) (found : Option 
     → MatchOption found (PhiHolds set trace g (f - 1)) (IsNamedGap set trace g (f - 1 + 1))
     → NamesGap set trace g f found
 NamesGap-found set trace g f None h k n =
-    let p = h.positive in
-    let e : f ≤ f - 1 = h.least (f - 1) (omega arith) n in
-    absurd (omega arith)
+    let e : f ≤ f - 1 = h.least (f - 1) (omega (arith, h.positive)) n in
+    absurd (omega (arith, h.positive))
 NamesGap-found set trace g f (Some w) h k n =
-    let p = h.positive in
-    (omega arith, subst (λ e. IsNamedGap set trace g e w) (omega arith) n)
+    (omega (arith, h.positive), subst (λ e. IsNamedGap set trace g e w) (omega (arith, h.positive)) n)
 
 -- what the first silent member says if there is one, and if there is none
 pub all_step : (set : ℕ) (trace : Recorded) (x f : ℕ) (o : Option ℕ) → is_some o ≡ false

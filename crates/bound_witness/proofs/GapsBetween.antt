@@ -1,13 +1,7 @@
 -- The interval between the ticks of two steps of a processor is a longest gap, if it isn't empty.
 use Rattle.std.proofs.Common.{ℕ, ◌≡◌, ◌+◌, ◌-◌, ◌<◌, ◌≤◌, inl, inr, IsTrue, refl, sym, arith, subst}
 use Rattle.std.proofs.lemmas.Bool.{cases_lt}
-use Rattle.step_trace.specs.declared.rows.Gap.{Gap}
-use Rattle.step_trace.specs.Processors.{has_proc}
-use Rattle.step_trace.specs.Traces.{Recorded, IsStepOf}
-use Rattle.step_trace.specs.Ticks.{tick_of, StepsIn}
-use Rattle.step_trace.specs.Witnesses.{IsGap}
-use Rattle.bound_witness.specs.LongestGaps.{IsLongestGap}
-use Rattle.step_trace.proofs.BoundLaws.{Gap-same}
+use Rattle.bound_witness.proofs.Common.{Gap, has_proc, Recorded, IsStepOf, tick_of, StepsIn, IsGap, IsLongestGap, Gap-same}
 
 -- no gap of p has tick x in it
 pub record IsEdge (set : ℕ) (trace : Recorded) (p x : ℕ) : Type 0 where

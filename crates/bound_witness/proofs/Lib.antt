@@ -1,3 +1,4 @@
+pub mod Common
 pub mod MissSearches
 pub mod GapSearches
 pub mod ReceiveSearches

@@ -2,16 +2,8 @@
 use Rattle.std.proofs.Common.{ℕ, ◌≡◌, ◌≢◌, ◌+◌, ◌-◌, ◌<◌, ◌≤◌, inl, inr, length, Option, Some, None, refl, arith, subst}
 use Rattle.std.proofs.lemmas.Bool.{cases_eq, cases_lt}
 use Rattle.std.specs.Prelude.{MatchOption}
-use Rattle.step_trace.specs.declared.rows.Miss.{Miss}
-use Rattle.step_trace.specs.Traces.{Recorded}
-use Rattle.step_trace.specs.Ticks.{tick_of, IsTimed}
-use Rattle.step_trace.specs.Bounds.{IsDelta}
-use Rattle.step_trace.specs.Witnesses.{IsMiss, IsNamedMiss, NamesMiss}
-use Rattle.step_trace.proofs.StepPositions.{step_at_within}
-use Rattle.step_trace.proofs.TickOrder.{ticks_rise}
-use Rattle.step_trace.proofs.BoundLaws.{Miss-same, MissRefutes-sound}
+use Rattle.bound_witness.proofs.Common.{Miss, Recorded, tick_of, IsTimed, IsDelta, IsMiss, IsNamedMiss, NamesMiss, step_at_within, ticks_rise, Miss-same, MissRefutes-sound, IsMissOf, HasNoMissOf, SentHasNoMissOf, IsMissOfSent}
 use Rattle.step_trace.proofs.BoundDecisions.{DeltaHolds-unrefuted}
-use Rattle.bound_witness.specs.WitnessSearches.{IsMissOf, HasNoMissOf, SentHasNoMissOf, IsMissOfSent}
 
 -- no message of number s or a greater one has such a miss
 pub record NoMissFrom (set : ℕ) (trace : Recorded) (g span s : ℕ) : Type 0 where
@@ -22,14 +14,13 @@ pub record NoMissFrom (set : ℕ) (trace : Recorded) (g span s : ℕ) : Type 0 w
 pub IsNamedMiss-found : (set : ℕ) (trace : Recorded) (g span k s : ℕ) (m : Miss) → IsTimed trace → s ≤ k + 1
     → IsMissOfSent set trace g span k m → NoMissFrom set trace g span s → IsNamedMiss set trace g (span + 1) m
 IsNamedMiss-found set trace g span k s m time next found b =
-    let z = found.miss.long in
     let f = found.miss.from in record {
       miss = found.miss.miss;
       from = found.miss.from;
-      long = omega arith;
+      long = omega (arith, found.miss.long);
       latest = λ o i l e. ticks_rise trace time o.sent m.sent _ _ i.message.sent found.miss.miss.message.sent
           (below o i l e);
-      greatest = λ o i q e. below o i (omega arith) e;
+      greatest = λ o i q e. below o i (omega (arith, found.miss.long)) e;
     } where
       below : (o : Miss) → IsMiss set trace o → g ≤ tick_of trace o.sent
           → tick_of trace o.sent + (span + 1) ≡ tick_of trace o.missed + 1 → o.sent ≤ m.sent
@@ -78,5 +69,4 @@ NamesMiss-found set trace g d None h k n =
     ])) in
     absurd (omega arith)
 NamesMiss-found set trace g d (Some m) h k n =
-    let p = h.positive in
-    (omega arith, subst (λ e. IsNamedMiss set trace g e m) (omega arith) n)
+    (omega (arith, h.positive), subst (λ e. IsNamedMiss set trace g e m) (omega (arith, h.positive)) n)

@@ -2,13 +2,7 @@
 -- bound.
 use Rattle.std.proofs.Common.{ℕ, ◌≡◌, ◌+◌, ◌<◌, ◌≤◌, ◌↔◌, inl, inr, refl, arith, subst, sym}
 use Rattle.std.proofs.lemmas.Bool.{cases_lt}
-use Rattle.step_trace.specs.declared.rows.Miss.{Miss}
-use Rattle.step_trace.specs.Traces.{Recorded, IsReceiveOf}
-use Rattle.step_trace.specs.Ticks.{tick_of, IsTimed}
-use Rattle.step_trace.specs.Bounds.{IsMessage, IsDelivered, DeltaHoldsFor}
-use Rattle.step_trace.specs.Witnesses.{IsMiss}
-use Rattle.step_trace.proofs.TickPositions.{tick_of-limit}
-use Rattle.step_trace.proofs.BoundLaws.{IsMessage-receiver}
+use Rattle.bound_witness.proofs.Common.{Miss, Recorded, IsReceiveOf, tick_of, IsTimed, IsMessage, IsDelivered, DeltaHoldsFor, IsMiss, tick_of-limit, IsMessage-receiver}
 use Rattle.bound_witness.specs.LastMisses.{HasNoMiss, IsLastMiss}
 use Rattle.bound_witness.specs.TickWindows.{IsReceiveBetween, NoReceiveBetween, IsLastReceiveBetween}
 
@@ -82,6 +76,5 @@ pub DeltaHoldsFor-refuted : (set : ℕ) (trace : Recorded) (sent b d x y r : ℕ
     → IsReceiveBetween trace r b x y → ¬ DeltaHoldsFor set trace sent d
 DeltaHoldsFor-refuted set trace sent b d x y r time v e h i f =
     let from = i.from in
-    let before = i.before in
     let l = (e (tick_of trace r) (tick_of-limit trace time r)).0 (f.on_time r b v i.receive (omega (arith, h, from))) in
-    absurd (omega (arith, l, before))
+    absurd (omega (arith, l, i.before))

@@ -5,13 +5,7 @@ use Rattle.std.proofs.lemmas.Bool.{eqb-true, eqb-false}
 use Rattle.std.proofs.lemmas.Option.{none-some}
 use Rattle.std.proofs.lemmas.List.{length-set, length-replicate, get_or-set_same, get_or-set_other, get_or-replicate}
 use Rattle.std.proofs.Math.ListN.{replicate}
-use Rattle.step_trace.specs.declared.steps.Step.{Step}
-use Rattle.step_trace.specs.Configurations.{Setup, IsProc}
-use Rattle.step_trace.specs.Traces.{step_at}
-use Rattle.step_buffers.specs.HeardTables.{act_ends, passed, before, round_at}
-use Rattle.step_buffers.proofs.StepPrefixes.{passed-before}
-use Rattle.step_buffers.proofs.GrownNodes.{passed-stays}
-use Rattle.deciding_runs.specs.RoundCounts.{AreRounds}
+use Rattle.deciding_runs.proofs.Common.{Step, Setup, IsProc, step_at, act_ends, passed, before, round_at, passed-before, passed-stays, AreRounds}
 use Rattle.deciding_runs.proofs.EndedRounds.{take-one_more, passed-one_more}
 
 -- the round after a step is one more than the processor passed with it
@@ -25,26 +19,20 @@ round-here steps p i = let e : suc i - 1 ≡ i = omega arith in ap (λ n. passed
 pub round_at-ended : (steps : List Step) (k : ℕ) (x : Step) → step_at steps k ≡ Some x → act_ends x.act ≡ true → round_at steps x.proc (k + 1) ≡ round_at steps x.proc k + 1
 round_at-ended steps zero x h ends = absurd (none-some _ h)
 round_at-ended steps (suc i) x h ends =
-    let more = passed-one_more steps x.proc i x h refl ends in
-    let after = round-after steps x.proc i in
-    let here = round-here steps x.proc i in
-    omega arith
+    omega (arith, round-here steps x.proc i, round-after steps x.proc i, passed-one_more steps x.proc i x h refl ends)
 
 -- any other step leaves the round unchanged
 pub round_at-stays : (steps : List Step) (k : ℕ) (x : Step) (p : ℕ) → step_at steps k ≡ Some x → (x.proc == p && act_ends x.act) ≡ false → round_at steps p (k + 1) ≡ round_at steps p k
 round_at-stays steps zero x p h other = absurd (none-some _ h)
 round_at-stays steps (suc i) x p h other =
     let same : passed (take (suc i) steps) p ≡ passed (take i steps) p = ap (λ xs. passed xs p) (take-one_more steps i x h) ∙ passed-stays (take i steps) x p other in
-    let after = round-after steps p i in
-    let here = round-here steps p i in
-    omega arith
+    omega (arith, round-here steps p i, round-after steps p i)
 
 -- a round that a step ends has been passed
 pub round_at-passed : (steps : List Step) (k : ℕ) (x : Step) → step_at steps k ≡ Some x → act_ends x.act ≡ true → round_at steps x.proc k ≤ passed steps x.proc
 round_at-passed steps k x h ends =
-    let next = round_at-ended steps k x h ends in
     let within : passed (before steps (k + 1)) x.proc ≤ passed steps x.proc = passed-before steps x.proc (k + 1) in
-    omega arith
+    omega (arith, round_at-ended steps k x h ends)
 
 and-none : (a : Bool) → (a && false) ≡ false
 and-none true = refl
@@ -79,7 +67,5 @@ AreRounds-ended c steps k x rounds proc h ends are = record {
     of p is true t = subst (λ q. slice_index_or (slice_set rounds (x.proc - 1) next) (q - 1) 0 ≡ round_at steps q (k + 1)) (eqb-true x.proc p t) here
     of p is false t =
         let differ = eqb-false x.proc p t in
-        let low = is.0 in
-        let first = proc.0 in
-        get_or-set_other rounds (x.proc - 1) (p - 1) next 0 (λ e. differ (omega arith))
+        get_or-set_other rounds (x.proc - 1) (p - 1) next 0 (λ e. differ (omega (arith, proc.0, is.0)))
         ∙ are.each p is ∙ sym (round_at-stays steps k x p h (ap (λ b. b && act_ends x.act) t))

@@ -3,19 +3,10 @@ use Rattle.std.proofs.Common.{ℕ, zero, suc, ◌≡◌, ◌<◌, ◌≤◌, ◌
 use Rattle.std.specs.Prelude.{Contains}
 use Rattle.std.proofs.lemmas.Bool.{cases_lt}
 use Rattle.std.proofs.lemmas.Option.{slice_get_within, get_or_from_slice_get}
-use Rattle.step_trace.specs.declared.steps.Step.{Step}
-use Rattle.step_trace.specs.Configurations.{Setup, IsSetup}
-use Rattle.step_trace.specs.Processors.{has_proc}
-use Rattle.step_trace.proofs.ListMembers.{Contains-from_filter}
-use Rattle.lock_phases.specs.declared.bodies.Body.{Body}
+use Rattle.deciding_runs.proofs.Common.{Step, Setup, IsSetup, has_proc, Contains-from_filter, Body, deciding_round, HaveDecided, IsSend, IsRun, node_at, sent_before, AreTogether, IsTakenInTime, may_hear, IsTakenAt, IsTakenBefore, HasHeardOf, TakesInOrder, IsHeardOut, HearOut}
 use Rattle.lock_phases.specs.NodeFunctions.{out}
 use Rattle.round_model.specs.RoundStates.{processors, state_after}
-use Rattle.round_model.specs.BoundedDecision.{deciding_round, HaveDecided}
 use Rattle.step_buffers.specs.HeardTables.{passed, before, round_at, heard_table}
-use Rattle.step_buffers.specs.Runs.{IsSend, IsRun, node_at, sent_before}
-use Rattle.deciding_runs.specs.Together.{AreTogether, IsTakenInTime}
-use Rattle.deciding_runs.specs.Audible.{may_hear}
-use Rattle.deciding_runs.specs.HeardOut.{IsTakenAt, IsTakenBefore, HasHeardOf, TakesInOrder, IsHeardOut, HearOut}
 use Rattle.deciding_runs.proofs.EndedRounds.{passed-ending}
 use Rattle.deciding_runs.proofs.SentMessages.{round_destinations}
 use Rattle.deciding_runs.proofs.RoundTellers.{tells-may_hear}
@@ -50,9 +41,7 @@ taken-when_heard c steps p q rounds k s run order sent round heard = go (cases_l
     go : (suc rounds < round_at steps q heard.message) ⊎ (round_at steps q heard.message ≤ suc rounds) → IsTakenBefore steps p k s
     go (inl l) =
         let was = order s heard.message heard.place sent heard.sent (sent-before steps q s heard.message (omega arith)) heard.take in
-        let by = was.by in
-        let until = heard.by in
-        record { place = was.place; take = was.take; by = omega arith }
+        record { place = was.place; take = was.take; by = omega (arith, heard.by, was.by) }
     go (inr l) =
         let later = heard.later in
         let same : heard.message ≡ s = sent-once c steps q p rounds heard.message s run heard.sent sent (omega arith) round in

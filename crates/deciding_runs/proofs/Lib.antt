@@ -1,3 +1,4 @@
+pub mod Common
 mod SilentSenders
 mod FirstPlaces
 mod EndedRounds

@@ -3,36 +3,19 @@ use Rattle.std.proofs.Common.{ℕ, ◌≡◌, ◌≢◌, ◌+◌, ◌-◌, ◌<�
 use Rattle.std.specs.Prelude.{Contains, count_by, slice_set}
 use Rattle.std.proofs.lemmas.Bool.{cases_lt, cases_eq, eqb-true, leb-true, and_parts}
 use Rattle.std.proofs.lemmas.List.{length-append, length-take-le, take-append-drop, get_or-set_same, get_or-set_other, get_or-map, get_or_past, length-map}
-use Rattle.step_trace.specs.declared.steps.Step.{Step}
-use Rattle.step_trace.specs.Configurations.{Setup, IsProc}
-use Rattle.step_trace.proofs.StepPositions.{step_at_within}
-use Rattle.lock_phases.specs.Nodes.{State}
+use Rattle.deciding_runs.proofs.Common.{Step, Setup, IsProc, step_at_within, State, Contains-nil, processors, Contains-processors, step_at-prefix_old, round_at-prefix, Peer, has_proc, IsWithin, member-positive, node_before, may_hear, HasHeardOf, IsHeardOut, peer_of, unheard, after_hearing, after_phase, is_heard_of, is_awaited, awaited_count, Paced, is_complete, WereHeard, EndsComplete}
 use Rattle.lock_phases.proofs.Membership.{Contains-cons_cases}
-use Rattle.step_trace.proofs.ListMembers.{Contains-nil}
 use Rattle.std.proofs.lemmas.List.Sums.{sum_by-cons}
-use Rattle.round_model.specs.RoundStates.{processors}
-use Rattle.round_model.proofs.HeardLists.{Contains-processors}
-use Rattle.step_buffers.proofs.StepPrefixes.{step_at-prefix_old, round_at-prefix}
-use Rattle.deciding_runs.specs.declared.peers.Peer.{Peer}
-use Rattle.step_trace.specs.Processors.{has_proc, IsWithin}
-use Rattle.round_model.proofs.BoundedDecisions.{member-positive}
-use Rattle.step_buffers.specs.Runs.{node_before}
-use Rattle.deciding_runs.specs.Audible.{may_hear}
-use Rattle.deciding_runs.specs.HeardOut.{HasHeardOf, IsHeardOut}
-use Rattle.deciding_runs.specs.Peers.{peer_of, unheard, after_hearing, after_phase, is_heard_of, is_awaited, awaited_count}
-use Rattle.deciding_runs.specs.Paces.{Paced, is_complete, WereHeard, EndsComplete}
 
 -- what was heard stays heard
 pub HasHeardOf-longer : (steps more : List Step) (p q round k : ℕ) → HasHeardOf steps p q round k → HasHeardOf (steps ++ more) p q round k
 HasHeardOf-longer steps more p q round k is =
     let within = step_at_within steps is.message _ is.sent in
-    let inside = within.1 in
-    let same = round_at-prefix steps more q is.message (omega arith) in
-    let later = is.later in
+    let same = round_at-prefix steps more q is.message (omega (arith, within.1)) in
     record {
       message = is.message;
       sent = step_at-prefix_old steps more is.message _ is.sent;
-      later = omega arith;
+      later = omega (arith, is.later, within.1);
       place = is.place;
       take = record { ids = is.take.ids; ends = is.take.ends; step = step_at-prefix_old steps more is.place _ is.take.step; taken = is.take.taken };
       by = is.by;

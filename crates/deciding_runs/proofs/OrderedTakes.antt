@@ -2,22 +2,10 @@
 use Rattle.std.proofs.Common.{ℕ, ◌≡◌, ◌-◌, ◌<◌, ◌≤◌, List, ◌++◌, length, drop, Some, Bool, true, false, refl, sym, ap, subst, ◌∙◌, arith, eq-eqb}
 use Rattle.std.specs.Prelude.{Contains}
 use Rattle.std.proofs.lemmas.List.{take-append-drop, length-take-le}
-use Rattle.step_trace.specs.declared.steps.Act.{Act}
+use Rattle.deciding_runs.proofs.Common.{Act, Step, Setup, step_at, IsWellFormed, act_ids, step_at_within, Contains-filter, before, numbers, buffer, waits_for, IsSend, step_at-prefix, IsWellFormed-prefix, Contains-numbers, IsTakenAt, IsTakenBefore, TakesInOrder, TakesAll}
 use Rattle.step_trace.specs.declared.steps.Act.TheVariants.{Send, Receive}
-use Rattle.step_trace.specs.declared.steps.Step.{Step}
-use Rattle.step_trace.specs.Configurations.{Setup}
-use Rattle.step_trace.specs.Traces.{step_at, IsWellFormed}
-use Rattle.step_trace.specs.Steps.{act_ids}
 use Rattle.step_trace.specs.PushRefusals.{is_taken}
-use Rattle.step_trace.proofs.StepPositions.{step_at_within}
-use Rattle.step_trace.proofs.ListMembers.{Contains-filter}
-use Rattle.step_buffers.specs.HeardTables.{before, numbers}
-use Rattle.step_buffers.specs.Buffers.{buffer, waits_for}
-use Rattle.step_buffers.specs.Runs.{IsSend}
-use Rattle.step_buffers.proofs.StepPrefixes.{step_at-prefix, IsWellFormed-prefix}
-use Rattle.step_buffers.proofs.HeardSenders.{Contains-numbers}
 use Rattle.step_buffers.proofs.KeptInboxes.{IsTakenBy-receiver}
-use Rattle.deciding_runs.specs.HeardOut.{IsTakenAt, IsTakenBefore, TakesInOrder, TakesAll}
 
 -- who takes something makes a Receive
 taken-at : (steps : List Step) (p k s : ℕ) (x : Step) → step_at steps k ≡ Some x → x.proc ≡ p → Contains (act_ids x.act) s → IsTakenAt steps p k s

@@ -1,11 +1,6 @@
 -- Processors whose paces end their rounds as complete decide.
 use Rattle.std.proofs.Common.{ℕ, List, arith}
-use Rattle.step_trace.specs.declared.steps.Step.{Step}
-use Rattle.step_trace.specs.Configurations.{Setup, IsSetup}
-use Rattle.round_model.specs.BoundedDecision.{deciding_round, HaveDecided}
-use Rattle.step_buffers.specs.Runs.{IsRun, node_at}
-use Rattle.deciding_runs.specs.HeardOut.{HearOut}
-use Rattle.deciding_runs.specs.Paces.{EndRoundsComplete}
+use Rattle.deciding_runs.proofs.Common.{Step, Setup, IsSetup, deciding_round, HaveDecided, IsRun, node_at, HearOut, EndRoundsComplete}
 use Rattle.deciding_runs.proofs.HeardOutRounds.{hearing-decides}
 use Rattle.deciding_runs.proofs.NotedPeers.{IsHeardOut-ended}
 use Rattle.deciding_runs.proofs.OrderedTakes.{TakesInOrder-all}

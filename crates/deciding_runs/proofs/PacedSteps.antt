@@ -5,23 +5,10 @@ use Rattle.std.proofs.lemmas.Bool.{cases_lt}
 use Rattle.std.proofs.lemmas.List.{length-append, length-set}
 use Rattle.std.proofs.lemmas.Option.{same_Some}
 use Rattle.step_trace.specs.declared.steps.Act.TheVariants as act
-use Rattle.step_trace.specs.declared.steps.Step.{Step}
-use Rattle.step_trace.specs.Configurations.{Setup, IsProc}
-use Rattle.step_trace.specs.Traces.{step_at, IsWellFormed}
-use Rattle.step_trace.proofs.StepPositions.{step_at_within, step_at_last}
-use Rattle.step_trace.proofs.ListMembers.{Contains-head, Contains-rest}
-use Rattle.lock_phases.specs.Rounds.{part_of}
-use Rattle.step_buffers.specs.HeardTables.{passed, round_at}
-use Rattle.step_buffers.specs.Runs.{IsSend}
-use Rattle.step_buffers.specs.Buffers.{buffer}
+use Rattle.deciding_runs.proofs.Common.{Step, Setup, IsProc, step_at, IsWellFormed, step_at_within, step_at_last, Contains-head, Contains-rest, part_of, passed, round_at, IsSend, buffer, next_send, step_of, step_at-prefix_old, round_at-prefix, Peer, HasHeardOf, Paced, WereHeard, heard_message, heard_waiting, ends_round, paced_move, after_receive, after_move}
 use Rattle.step_buffers.specs.Origins.{sender_of, round_ahead}
-use Rattle.step_buffers.specs.Moves.{next_send, step_of}
 use Rattle.step_buffers.proofs.BufferSteps.{IsWaiting-from_buffer}
 use Rattle.step_buffers.proofs.MessageOrigins.{sender_of-sent, round_ahead-ahead, round_ahead-past}
-use Rattle.step_buffers.proofs.StepPrefixes.{step_at-prefix_old, round_at-prefix}
-use Rattle.deciding_runs.specs.declared.peers.Peer.{Peer}
-use Rattle.deciding_runs.specs.HeardOut.{HasHeardOf}
-use Rattle.deciding_runs.specs.Paces.{Paced, WereHeard, heard_message, heard_waiting, ends_round, paced_move, after_receive, after_move}
 use Rattle.deciding_runs.proofs.NotedPeers.{WereHeard-longer, WereHeard-noted, WereHeard-phase}
 
 module _ (c : Setup) (steps : List Step) (p : ℕ) (ends : Bool) (w : IsWellFormed c steps) where

@@ -2,12 +2,9 @@
 use Rattle.std.proofs.Common.{ℕ, zero, suc, ◌≡◌, inl, inr, Bool, true, false, ◌==◌, ◌&&◌, ◌||◌, not, cond, Option, Some, None, is_some, refl, sym, ap, subst, ◌∙◌, arith}
 use Rattle.std.specs.Prelude.{option_map}
 use Rattle.std.proofs.lemmas.Bool.{eqb-true, and_parts, and_from}
-use Rattle.step_trace.specs.Configurations.{Setup}
+use Rattle.deciding_runs.proofs.Common.{Setup, Body, phase_of, part_of, owner, Listing, Locking, Acknowledging, State, messages_heard-said, state_after-opening, state_after-next, may_hear}
 use Rattle.lock_phases.specs.declared.bodies.Kind.{Kind}
 use Rattle.lock_phases.specs.declared.bodies.Kind.TheVariants.{Lock, Ack}
-use Rattle.lock_phases.specs.declared.bodies.Body.{Body}
-use Rattle.lock_phases.specs.Rounds.{phase_of, part_of, owner, Listing, Locking, Acknowledging}
-use Rattle.lock_phases.specs.Nodes.{State}
 use Rattle.lock_phases.specs.Messages.{sender_of}
 use Rattle.lock_phases.specs.NodeFunctions.{out}
 use Rattle.lock_phases.specs.Hearing.{IsToldToLock, Says}
@@ -17,9 +14,6 @@ use Rattle.lock_phases.proofs.LockingLaws.{locking-keeps, locking-untold}
 use Rattle.lock_phases.proofs.AcknowledgingLaws.{acknowledging-keeps}
 use Rattle.lock_phases.proofs.ReleasingLaws.{releasing-keeps}
 use Rattle.round_model.specs.RoundStates.{Table, messages_heard, state_after}
-use Rattle.round_model.proofs.HeardMessages.{messages_heard-said}
-use Rattle.round_model.proofs.RoundEquations.{state_after-opening, state_after-next}
-use Rattle.deciding_runs.specs.Audible.{may_hear}
 
 -- at the beginning of a phase nobody owes an acknowledgement
 owes-none : (c : Setup) (table : Table) (rounds q : ℕ) → part_of (suc rounds) ≡ 1 → (state_after c table rounds q).owes_ack ≡ false

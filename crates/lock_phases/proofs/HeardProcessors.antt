@@ -3,8 +3,7 @@ use Rattle.std.proofs.Common.{ℕ, ◌≡◌, ◌+◌, ◌<◌, ◌≤◌, Bool,
 use Rattle.std.specs.Prelude.{Contains, count_by}
 use Rattle.std.specs.List.{range_with_len}
 use Rattle.std.proofs.lemmas.List.FromFn.{length-range_with_len, get_or-range_with_len}
-use Rattle.step_trace.specs.Configurations.{Setup, IsProc}
-use Rattle.lock_phases.specs.Messages.{Message}
+use Rattle.lock_phases.proofs.Common.{Setup, IsProc, Message}
 use Rattle.lock_phases.specs.Hearing.{IsHeardToSay, heard_from, number_of}
 use Rattle.lock_phases.proofs.Counting.{count_by-filter_map, count_by-le_filter_map}
 

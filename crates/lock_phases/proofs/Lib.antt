@@ -1,3 +1,4 @@
+pub mod Common
 pub mod Membership
 pub mod Counting
 pub mod RoundLaws

@@ -3,14 +3,8 @@ use Rattle.std.proofs.Common.{ℕ, ◌≡◌, ◌≢◌, ◌-◌, ◌≤◌, inl
 use Rattle.std.specs.List.{range_with_len}
 use Rattle.std.proofs.lemmas.Bool.{not-true, ne_eqb, cases_lt, false_from_ne_true}
 use Rattle.std.proofs.lemmas.List.FromFn.{length-range_with_len}
-use Rattle.step_trace.specs.Configurations.{Setup, IsSetup}
-use Rattle.lock_phases.specs.Rounds.{phase_of, part_of, owner, Listing}
-use Rattle.lock_phases.specs.Nodes.{State}
-use Rattle.lock_phases.specs.Messages.{Message}
-use Rattle.lock_phases.specs.Quorums.{least_listed}
+use Rattle.lock_phases.proofs.Common.{Setup, IsSetup, phase_of, part_of, owner, Listing, State, Message, least_listed, heard_from, lists_with, listing, ListingKeeps, IsProposal, IsMadeByQuorum, IsRefusedByFew}
 use Rattle.lock_phases.specs.NodeFunctions.{next}
-use Rattle.lock_phases.specs.Hearing.{heard_from, lists_with, listing}
-use Rattle.lock_phases.specs.NodeLaws.{ListingKeeps, IsProposal, IsMadeByQuorum, IsRefusedByFew}
 use Rattle.lock_phases.proofs.Counting.{count_by-disjoint}
 use Rattle.lock_phases.proofs.RoundLaws.{part_at-listing, next-in}
 use Rattle.lock_phases.proofs.QuorumLaws.{IsLeastListed-from_some, least_listed-not_None}
@@ -69,10 +63,7 @@ listing-quorum c s round heard_of setup e v lists_it enough heard =
     go (next c s (owner c.n (phase_of round)) round (heard_from c.n heard_of)).proposal (listing-proposal c s round (heard_from c.n heard_of) setup e)
   where
     go : (o : Option ℕ) → IsProposal (c.n - c.t) (heard_from c.n heard_of) o → is_some o ≡ true
-    go None none =
-        let many = heard-many c heard_of (listing v) lists_it heard in
-        let few = none v in
-        absurd (omega arith)
+    go None none = absurd (omega (arith, none v, heard-many c heard_of (listing v) lists_it heard))
     go (Some w) least = refl
 
 -- The quorum step: at most t processors refuse the proposal, since the N - t lists that have it are of others.

@@ -4,13 +4,8 @@ use Rattle.std.specs.Prelude.{Contains}
 use Rattle.std.specs.List.{list_any}
 use Rattle.std.specs.List.Sorted.{IsStrictlyIncreasing}
 use Rattle.std.proofs.lemmas.Bool.{eqb-true, ne_eqb, leb-true, le-leb, and_parts, not-true}
-use Rattle.step_trace.proofs.ListMembers.{Contains-head, Contains-rest, Contains-nil, Contains-filter, Contains-from_filter, Contains-map, list_any-found, list_any-at, rising-tail, rising-first}
-use Rattle.lock_phases.specs.declared.bodies.Kind.{Kind}
+use Rattle.lock_phases.proofs.Common.{Contains-head, Contains-rest, Contains-nil, Contains-filter, Contains-from_filter, Contains-map, list_any-found, list_any-at, rising-tail, rising-first, Kind, LockPair, value_of, phase_of_lock, Message, sender_of, body_of, locked_value, told_locks, is_acceptable, heard_lock, put_lock, releases, is_released, kept_locks, IsToldToLock, IsTold, IsReleasedByTold}
 use Rattle.lock_phases.specs.declared.bodies.Kind.TheVariants.{List as Listed, Lock, Ack, Locks}
-use Rattle.lock_phases.specs.Nodes.{LockPair, value_of, phase_of_lock}
-use Rattle.lock_phases.specs.Messages.{Message, sender_of, body_of, locked_value, told_locks}
-use Rattle.lock_phases.specs.Locks.{is_acceptable, heard_lock, put_lock, releases, is_released, kept_locks}
-use Rattle.lock_phases.specs.Hearing.{IsToldToLock, IsTold, IsReleasedByTold}
 use Rattle.lock_phases.proofs.Membership.{Contains-cons_cases}
 
 -- a lock that is held after v was locked is that one, or was held before

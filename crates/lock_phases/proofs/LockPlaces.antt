@@ -2,8 +2,7 @@
 use Rattle.std.proofs.Common.{ℕ, ◌≡◌, ◌<◌, ◌≤◌, List, [], ◌∷◌, length, get_or, set, refl, ap, zero, suc, arith, eq-eqb}
 use Rattle.std.specs.Prelude.{insert}
 use Rattle.std.proofs.lemmas.Bool.{lt-ltb, le-ltb, ne_eqb}
-use Rattle.lock_phases.specs.Locks.{put_lock}
-use Rattle.lock_phases.specs.Nodes.{LockPair, value_of}
+use Rattle.lock_phases.proofs.Common.{put_lock, LockPair, value_of}
 
 -- a value below the first one is locked before it
 pub put_lock-below : (v p : ℕ) (x : LockPair) (xs : List LockPair) → v < value_of x → put_lock v p (x ∷ xs) ≡ (v, p) ∷ x ∷ xs

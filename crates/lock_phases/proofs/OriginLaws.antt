@@ -2,16 +2,8 @@
 use Rattle.std.proofs.Common.{ℕ, ◌≡◌, ◌⊎◌, inl, inr, Bool, true, false, cond, eqb, ◌&&◌, List, map, Option, Some, None, is_some, is_none, refl, sym, subst, ◌∙◌}
 use Rattle.std.specs.Prelude.{Contains}
 use Rattle.std.specs.List.Sorted.{IsStrictlyIncreasing}
-use Rattle.step_trace.specs.Configurations.{Setup}
-use Rattle.lock_phases.specs.Rounds.{phase_of, part_of, owner, Part, Listing, Locking, Acknowledging, Releasing, part_at}
-use Rattle.lock_phases.specs.Nodes.{State, IsRising, value_of}
-use Rattle.lock_phases.specs.Messages.{Message}
-use Rattle.lock_phases.specs.Values.{take_in}
-use Rattle.lock_phases.specs.Locks.{heard_lock}
-use Rattle.lock_phases.specs.Quorums.{least_listed}
+use Rattle.lock_phases.proofs.Common.{Setup, phase_of, part_of, owner, Part, Listing, Locking, Acknowledging, Releasing, part_at, State, IsRising, value_of, Message, take_in, heard_lock, least_listed, IsHeardProper, IsHeardListed, TakesIn}
 use Rattle.lock_phases.specs.NodeFunctions.{after_locking, next_in, next}
-use Rattle.lock_phases.specs.Hearing.{IsHeardProper, IsHeardListed}
-use Rattle.lock_phases.specs.NodeLaws.{TakesIn}
 use Rattle.lock_phases.proofs.RoundLaws.{with_proper_heard}
 use Rattle.lock_phases.proofs.ProperLaws.{Contains-take_in_cases, Contains-take_in_old, Contains-take_in_heard}
 use Rattle.lock_phases.proofs.QuorumLaws.{least_listed-listed}

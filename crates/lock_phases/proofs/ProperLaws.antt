@@ -2,9 +2,7 @@
 use Rattle.std.proofs.Common.{ℕ, ◌≡◌, ◌⊎◌, inl, inr, Bool, true, false, cond, ltb, eqb, List, [], ◌∷◌, refl, sym, ◌∙◌, subst, zero, arith}
 use Rattle.std.specs.Prelude.{Contains}
 use Rattle.std.proofs.lemmas.Bool.{eqb-true}
-use Rattle.step_trace.proofs.ListMembers.{Contains-head, Contains-rest, Contains-nil}
-use Rattle.lock_phases.specs.Messages.{Message, body_of}
-use Rattle.lock_phases.specs.Values.{insert_value, insert_values, take_in}
+use Rattle.lock_phases.proofs.Common.{Contains-head, Contains-rest, Contains-nil, Message, body_of, insert_value, insert_values, take_in}
 use Rattle.lock_phases.proofs.Membership.{Contains-cons_cases}
 
 -- a value is the new one, or was there

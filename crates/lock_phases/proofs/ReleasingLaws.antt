@@ -1,12 +1,7 @@
 -- A lock-release round: a lock goes exactly if a lock on another value, of no lower phase, is heard.
 use Rattle.std.proofs.Common.{ℕ, ◌≡◌, ◌∙◌, List, refl, sym, subst}
-use Rattle.step_trace.specs.Configurations.{Setup}
-use Rattle.lock_phases.specs.Rounds.{phase_of, part_of, Releasing}
-use Rattle.lock_phases.specs.Nodes.{State}
-use Rattle.lock_phases.specs.Messages.{Message}
-use Rattle.lock_phases.specs.Locks.{is_released}
+use Rattle.lock_phases.proofs.Common.{Setup, phase_of, part_of, Releasing, State, Message, is_released, ReleasingKeeps}
 use Rattle.lock_phases.specs.NodeFunctions.{next_in, next}
-use Rattle.lock_phases.specs.NodeLaws.{ReleasingKeeps}
 use Rattle.lock_phases.proofs.RoundLaws.{part_at-releasing, next-in, with_proper_heard}
 use Rattle.lock_phases.proofs.LockLaws.{Contains-from_kept_locks, Contains-kept_locks, is_released-by, is_released-told}
 use Rattle.std.proofs.lemmas.Bool.{false_from_ne_true}

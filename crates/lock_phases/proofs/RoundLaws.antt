@@ -1,11 +1,7 @@
 -- From round to round, and the node functions by the part of the round.
 use Rattle.std.proofs.Common.{ℕ, ◌≡◌, ◌≤◌, ◌⊎◌, inl, inr, zero, suc, List, ap, arith}
 use Rattle.std.specs.Prelude.{option_map}
-use Rattle.step_trace.specs.Configurations.{Setup}
-use Rattle.lock_phases.specs.Rounds.{phase_of, part_of, owner, Part, Listing, Locking, Acknowledging, Releasing, part_at}
-use Rattle.lock_phases.specs.Nodes.{State}
-use Rattle.lock_phases.specs.Messages.{Message}
-use Rattle.lock_phases.specs.Values.{take_in}
+use Rattle.lock_phases.proofs.Common.{Setup, phase_of, part_of, owner, Part, Listing, Locking, Acknowledging, Releasing, part_at, State, Message, take_in}
 use Rattle.lock_phases.specs.NodeFunctions.{kind_sent, out, next_in, next}
 
 -- the parts count from 1

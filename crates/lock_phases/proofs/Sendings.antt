@@ -1,12 +1,8 @@
 -- Whether a node sends anything, and what it says if it does (section 3).
 use Rattle.std.proofs.Common.{ℕ, ◌≡◌, Bool, true, false, cond, eqb, ◌&&◌, Option, Some, None, refl, sym, ap, ◌∙◌}
 use Rattle.std.specs.Prelude.{is_some, option_map}
-use Rattle.step_trace.specs.Configurations.{Setup}
-use Rattle.lock_phases.specs.declared.bodies.Kind.{Kind}
+use Rattle.lock_phases.proofs.Common.{Setup, Kind, Body, phase_of, part_of, owner, Part, Listing, Locking, Acknowledging, Releasing, part_at, State}
 use Rattle.lock_phases.specs.declared.bodies.Kind.TheVariants.{List as Listed, Lock, Ack}
-use Rattle.lock_phases.specs.declared.bodies.Body.{Body}
-use Rattle.lock_phases.specs.Rounds.{phase_of, part_of, owner, Part, Listing, Locking, Acknowledging, Releasing, part_at}
-use Rattle.lock_phases.specs.Nodes.{State}
 use Rattle.lock_phases.specs.NodeFunctions.{kind_in, kind_sent, kind_out, out, values_to_list}
 
 -- whether a node sends anything in each part of a phase: lists and acknowledgements go to the owner,

@@ -1,17 +1,9 @@
 -- What a body says about the node that sends it (section 3).
 use Rattle.std.proofs.Common.{ℕ, ◌≡◌, Bool, true, false, cond, eqb, ◌&&◌, Option, Some, None, refl, subst}
 use Rattle.std.specs.Prelude.{Contains, option_map}
-use Rattle.step_trace.specs.Configurations.{Setup}
-use Rattle.step_trace.proofs.ListMembers.{Contains-nil, Contains-from_filter}
-use Rattle.lock_phases.specs.declared.bodies.Kind.{Kind}
+use Rattle.lock_phases.proofs.Common.{Setup, Contains-nil, Contains-from_filter, Kind, Body, phase_of, part_of, owner, Part, Listing, Locking, Acknowledging, Releasing, part_at, State, LockPair, listed_values, is_ack, told_locks, is_acceptable, Says, IsSaidBy}
 use Rattle.lock_phases.specs.declared.bodies.Kind.TheVariants.{List as Listed, Lock, Ack, Locks}
-use Rattle.lock_phases.specs.declared.bodies.Body.{Body}
-use Rattle.lock_phases.specs.Rounds.{phase_of, part_of, owner, Part, Listing, Locking, Acknowledging, Releasing, part_at}
-use Rattle.lock_phases.specs.Nodes.{State, LockPair}
-use Rattle.lock_phases.specs.Messages.{listed_values, is_ack, told_locks}
-use Rattle.lock_phases.specs.Locks.{is_acceptable}
 use Rattle.lock_phases.specs.NodeFunctions.{kind_sent, out, values_to_list}
-use Rattle.lock_phases.specs.Hearing.{Says, IsSaidBy}
 
 -- what is sent says so
 kind_sent-says : (part : Part) (s : State) (owner me to : ℕ) (kind : Kind) → kind_sent part s owner me to ≡ Some kind → Says s kind

@@ -2,16 +2,7 @@
 -- acknowledged it.
 use Rattle.std.proofs.Common.{ℕ, ◌≡◌, ◌+◌, ◌≤◌, ◌⊎◌, inl, inr, true, Some, refl, sym, ap, subst, ◌∙◌, arith}
 use Rattle.std.specs.Prelude.{Contains, count_by}
-use Rattle.step_trace.specs.Configurations.{Setup}
-use Rattle.lock_phases.specs.Rounds.{phase_of, part_of, owner}
-use Rattle.lock_phases.specs.Nodes.{State, LockPair, value_of, phase_of_lock}
-use Rattle.lock_phases.specs.Messages.{body_of}
-use Rattle.lock_phases.specs.Hearing.{IsHeardToSay, acknowledging}
-use Rattle.lock_phases.specs.NodeLaws.{AcknowledgingKeeps, IsAcknowledged}
-use Rattle.lock_phases.proofs.Counting.{count_by-le}
-use Rattle.lock_phases.proofs.AcknowledgingLaws.{acknowledging-keeps, acknowledging-acknowledged}
-use Rattle.lock_phases.proofs.SentBodies.{ack-said_by}
-use Rattle.round_model.specs.RoundStates.{Table, processors, messages_heard}
+use Rattle.round_model.proofs.Common.{Setup, phase_of, part_of, owner, State, LockPair, value_of, phase_of_lock, body_of, IsHeardToSay, acknowledging, AcknowledgingKeeps, IsAcknowledged, count_by-le, acknowledging-keeps, acknowledging-acknowledged, ack-said_by, Table, processors, messages_heard}
 use Rattle.round_model.proofs.HeardMessages.{heard_of, heard_of-sender, nodes_after}
 use Rattle.round_model.proofs.Invariants.{is_locked_since, is_locked_since-lock, IsAnchored, holders-kept, IsSafe, FlagsMeanFreshLocks-unset}
 

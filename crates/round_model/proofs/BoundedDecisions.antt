@@ -3,12 +3,9 @@
 use Rattle.std.proofs.Common.{ℕ, zero, suc, ◌≡◌, ◌+◌, ◌-◌, ◌*◌, ◌/◌, ◌%◌, ◌<◌, ◌≤◌, ◌⊎◌, inl, inr, Bool, true, Option, Some, None, is_some, refl, sym, ap, subst, ◌∙◌, arith}
 use Rattle.std.proofs.lemmas.Bool.{cases_lt}
 use Rattle.std.proofs.lemmas.Nat.{div-add-mod', mod-mul-add, mod_below}
-use Rattle.step_trace.specs.Configurations.{Setup, IsSetup}
-use Rattle.step_trace.specs.Processors.{has_proc, IsWithin}
-use Rattle.lock_phases.specs.Rounds.{phase_of, part_of, owner}
+use Rattle.round_model.proofs.Common.{Setup, IsSetup, has_proc, IsWithin, phase_of, part_of, owner, HearsAllOf, IsInTouch, settling_phase, deciding_round, HaveDecided, HoldOneValue, LocksAreProper}
 use Rattle.lock_phases.specs.Hearing.{number_of}
 use Rattle.round_model.specs.RoundStates.{Table, initial_value, state_after}
-use Rattle.round_model.specs.BoundedDecision.{HearsAllOf, IsInTouch, settling_phase, deciding_round, HaveDecided, HoldOneValue, LocksAreProper}
 use Rattle.round_model.proofs.AgreedDecisions.{decision-stays_later}
 use Rattle.round_model.proofs.ProperNodes.{KeepsProper-state_after, initial_value-proper}
 use Rattle.round_model.proofs.OneLock.{HearOneAnother, held-one_value, held-proper}

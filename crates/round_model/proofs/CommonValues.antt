@@ -4,12 +4,7 @@ use Rattle.std.proofs.Common.{ℕ, ◌≡◌, Bool, true, false, ◌&&◌, List,
 use Rattle.std.specs.Prelude.{Contains}
 use Rattle.std.specs.List.{list_any}
 use Rattle.std.proofs.lemmas.Bool.{and_parts}
-use Rattle.step_trace.specs.Configurations.{Setup}
-use Rattle.step_trace.proofs.ListMembers.{Contains-head, Contains-nil, list_any-found, list_any-at}
-use Rattle.lock_phases.specs.Rounds.{part_of}
-use Rattle.lock_phases.specs.Nodes.{State, LockPair, value_of}
-use Rattle.lock_phases.proofs.SendingLaws.{list-has}
-use Rattle.round_model.specs.RoundStates.{Table, processors}
+use Rattle.round_model.proofs.Common.{Setup, Contains-head, Contains-nil, list_any-found, list_any-at, part_of, State, LockPair, value_of, list-has, Table, processors}
 use Rattle.round_model.proofs.HeardMessages.{nodes_after}
 use Rattle.round_model.proofs.HeardLists.{Contains-processors}
 use Rattle.round_model.proofs.ProperNodes.{KeepsProper}

@@ -2,21 +2,11 @@
 -- rounds, and that all list one value when it begins.
 use Rattle.std.proofs.Common.{ℕ, suc, ◌≡◌, ◌-◌, ◌≤◌, Bool, true, Option, Some, None, is_some, refl, sym, ap, subst, ◌∙◌, arith}
 use Rattle.std.specs.Prelude.{Contains, option_map}
-use Rattle.step_trace.specs.Configurations.{Setup, IsSetup}
+use Rattle.round_model.proofs.Common.{Setup, IsSetup, Body, phase_of, part_of, owner, State, Message, lists-from_Contains, list-sent, lock-sent, acknowledgement-sent, listing-quorum, locking-keeps, locking-told, acknowledging-quorum, Table, messages_heard}
 use Rattle.lock_phases.specs.declared.bodies.Kind.{Kind}
 use Rattle.lock_phases.specs.declared.bodies.Kind.TheVariants.{List as Listed, Lock, Ack}
-use Rattle.lock_phases.specs.declared.bodies.Body.{Body}
-use Rattle.lock_phases.specs.Rounds.{phase_of, part_of, owner}
-use Rattle.lock_phases.specs.Nodes.{State}
-use Rattle.lock_phases.specs.Messages.{Message}
 use Rattle.lock_phases.specs.NodeFunctions.{out, values_to_list}
 use Rattle.lock_phases.specs.Hearing.{IsHeardToSay, listing, acknowledging, number_of, with_proper}
-use Rattle.lock_phases.proofs.QuorumLaws.{lists-from_Contains}
-use Rattle.lock_phases.proofs.SendingLaws.{list-sent, lock-sent, acknowledgement-sent}
-use Rattle.lock_phases.proofs.ListingLaws.{listing-quorum}
-use Rattle.lock_phases.proofs.LockingLaws.{locking-keeps, locking-told}
-use Rattle.lock_phases.proofs.AcknowledgingLaws.{acknowledging-quorum}
-use Rattle.round_model.specs.RoundStates.{Table, messages_heard}
 use Rattle.round_model.proofs.HeardMessages.{heard_of, nodes_after}
 use Rattle.round_model.proofs.HeardLists.{messages_heard-has}
 use Rattle.round_model.proofs.SendersHeard.{heard_of-heard, messages_heard-rise}

@@ -2,15 +2,8 @@
 use Rattle.std.proofs.Common.{ℕ, ◌≡◌, ◌+◌, ◌<◌, Bool, true, false, cond, Option, Some, None, refl, sym, subst, ◌∙◌, arith}
 use Rattle.std.specs.Prelude.{Contains, option_map, if◌then◌else◌}
 use Rattle.std.proofs.lemmas.List.FromFn.{length-range_with_len, get_or-range_with_len}
-use Rattle.step_trace.specs.Configurations.{Setup, IsProc}
-use Rattle.lock_phases.specs.declared.bodies.Body.{Body}
-use Rattle.lock_phases.specs.Nodes.{State}
-use Rattle.lock_phases.specs.Messages.{Message, sender_of, body_of}
+use Rattle.round_model.proofs.Common.{Setup, IsProc, Body, State, Message, sender_of, body_of, Contains-from_filter_map, IsSaidBy, out-said_by, Table, processors, messages_heard}
 use Rattle.lock_phases.specs.NodeFunctions.{out, next}
-use Rattle.lock_phases.proofs.Membership.{Contains-from_filter_map}
-use Rattle.lock_phases.specs.Hearing.{IsSaidBy}
-use Rattle.lock_phases.proofs.SentBodies.{out-said_by}
-use Rattle.round_model.specs.RoundStates.{Table, processors, messages_heard}
 
 -- what p hears of a sender, if anything
 abbrev pub heard_of : Setup → Table → (ℕ → State) → ℕ → ℕ → ℕ → Option Message

@@ -2,8 +2,7 @@
 use Rattle.std.proofs.Common.{ℕ, ◌≡◌, ◌-◌, ◌<◌, ◌≤◌, List, [], length, get_or, set, All, false, arith, ap, ◌∙◌}
 use Rattle.std.proofs.lemmas.List.{length-set, get_or-set_same}
 use Rattle.std.proofs.lemmas.List.Elements.{All-set, All-get_or, All-nil, All-weaker}
-use Rattle.step_trace.specs.Processors.{has_proc, IsWithin}
-use Rattle.round_model.specs.HeardSets.{HeardTable, IsHeardTable, heard_set, table_of, numbered}
+use Rattle.round_model.proofs.Common.{has_proc, IsWithin, HeardTable, IsHeardTable, heard_set, table_of, numbered}
 use Rattle.round_model.proofs.NumberedElements.{numbered-at, numbered-all}
 
 -- the set has no member

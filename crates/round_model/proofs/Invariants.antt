@@ -4,13 +4,7 @@ use Rattle.std.proofs.Common.{ℕ, ◌≡◌, ◌+◌, ◌≤◌, ◌<◌, inl, 
 use Rattle.std.specs.Prelude.{Contains, count_by, ◌==◌}
 use Rattle.std.specs.List.{list_any}
 use Rattle.std.proofs.lemmas.Bool.{eqb-true, leb-true, le-leb, cases_lt, and_parts}
-use Rattle.step_trace.specs.Configurations.{Setup}
-use Rattle.step_trace.proofs.ListMembers.{list_any-found, list_any-at}
-use Rattle.lock_phases.specs.Rounds.{owner}
-use Rattle.lock_phases.specs.Nodes.{State, LockPair, value_of, phase_of_lock}
-use Rattle.lock_phases.proofs.Membership.{count_by-found}
-use Rattle.lock_phases.proofs.Counting.{count_by-le}
-use Rattle.round_model.specs.RoundStates.{processors}
+use Rattle.round_model.proofs.Common.{Setup, list_any-found, list_any-at, owner, State, LockPair, value_of, phase_of_lock, count_by-found, count_by-le, processors}
 
 -- Each lock is of a phase that has begun; before the locking round is over, of an earlier one.
 pub record LocksArePast (nodes : ℕ → State) (phase part : ℕ) : Type 0 where
@@ -93,8 +87,7 @@ same-earlier c nodes phase part v w a b l =
     let more = b.holders in
     let j = count_by-found (λ i. is_locked_since b.anchor w (nodes i).locks) (processors c) (omega arith) in
     let h = IsLockSince-from_test b.anchor w (nodes j.0).locks j.2 in
-    let since = h.since in
-    sym h.value ∙ a.sole j.0 h.lock h.held (omega arith)
+    sym h.value ∙ a.sole j.0 h.lock h.held (omega (arith, h.since))
 
 -- any two anchored values are equal
 pub IsAnchored-same : (c : Setup) (nodes : ℕ → State) (phase part v w : ℕ) → IsAnchored c nodes phase part v → IsAnchored c nodes phase part w → v ≡ w

@@ -2,17 +2,8 @@
 use Rattle.std.proofs.Common.{inl, inr, ℕ, ◌≡◌, true, Some, sym, ap, subst, ◌∙◌, arith}
 use Rattle.std.specs.Prelude.{Contains}
 use Rattle.std.proofs.lemmas.Bool.{cases_eq}
-use Rattle.step_trace.specs.Configurations.{Setup, IsSetup}
-use Rattle.lock_phases.specs.Rounds.{phase_of, part_of, owner}
-use Rattle.lock_phases.specs.Nodes.{State, LockPair}
-use Rattle.lock_phases.specs.Messages.{body_of}
-use Rattle.lock_phases.specs.Hearing.{IsHeardToSay, listing}
-use Rattle.lock_phases.specs.NodeLaws.{ListingKeeps}
+use Rattle.round_model.proofs.Common.{Setup, IsSetup, phase_of, part_of, owner, State, LockPair, body_of, IsHeardToSay, listing, ListingKeeps, Contains-from_lists, listing-keeps, listing-refused, listed-said_by, Table, messages_heard}
 use Rattle.lock_phases.proofs.LockLaws.{is_acceptable-locked}
-use Rattle.lock_phases.proofs.QuorumLaws.{Contains-from_lists}
-use Rattle.lock_phases.proofs.ListingLaws.{listing-keeps, listing-refused}
-use Rattle.lock_phases.proofs.SentBodies.{listed-said_by}
-use Rattle.round_model.specs.RoundStates.{Table, messages_heard}
 use Rattle.round_model.proofs.HeardMessages.{heard_of, heard_of-sender, nodes_after}
 use Rattle.round_model.proofs.Invariants.{is_locked_since, IsLockSince-from_test, IsAnchored, holders-kept, IsSafe, FlagsMeanFreshLocks-unset}
 
@@ -25,8 +16,7 @@ proposed-anchored c table nodes round v w setup e a proposes = elim (cases_eq w 
   | inr other ↦ (
       let few = listing-refused c (nodes o) round (heard_of c table nodes o round) setup e w
       (λ j. is_locked_since a.anchor v (nodes j).locks) proposes (silent other) in
-      let many = a.holders in
-      absurd (omega arith))
+      absurd (omega (arith, a.holders)))
 ]
   where
     o : ℕ

@@ -1,17 +1,9 @@
 -- A locking round keeps the invariants: what is locked is the owner's proposal.
 use Rattle.std.proofs.Common.{ℕ, ◌≡◌, ◌≤◌, ◌⊎◌, inl, inr, true, Some, refl, sym, subst, ◌∙◌, arith}
 use Rattle.std.specs.Prelude.{Contains}
-use Rattle.step_trace.specs.Configurations.{Setup}
-use Rattle.lock_phases.specs.Rounds.{phase_of, part_of, owner}
-use Rattle.lock_phases.specs.Nodes.{State, LockPair, value_of, phase_of_lock}
-use Rattle.lock_phases.specs.Hearing.{IsToldToLock}
-use Rattle.lock_phases.specs.NodeLaws.{LockingKeeps, LockingLocks}
-use Rattle.lock_phases.proofs.LockingLaws.{locking-keeps, locking-locks}
-use Rattle.lock_phases.proofs.SentBodies.{lock-said_by}
-use Rattle.round_model.specs.RoundStates.{Table, messages_heard}
+use Rattle.round_model.proofs.Common.{Setup, phase_of, part_of, owner, State, LockPair, value_of, phase_of_lock, IsToldToLock, LockingKeeps, LockingLocks, locking-keeps, locking-locks, lock-said_by, Table, messages_heard, sender_of, body_of}
 use Rattle.round_model.proofs.HeardMessages.{nodes_after, messages_heard-said}
 use Rattle.round_model.proofs.Invariants.{is_locked_since, IsLockSince-from_test, is_locked_since-lock, IsAnchored, holders-kept, IsSafe}
-use Rattle.lock_phases.specs.Messages.{sender_of, body_of}
 
 -- a processor that hears a Lock on a value hears the owner's proposal
 told-proposed : (c : Setup) (table : Table) (nodes : ℕ → State) (round p o v : ℕ) → IsToldToLock o (messages_heard c table nodes p round) v

@@ -1,12 +1,8 @@
 -- What holds of the nodes of the members of a set holds of them in the list of all nodes.
 use Rattle.std.proofs.Common.{ℕ, ◌≡◌, true, sym, subst}
 use Rattle.std.specs.Prelude.{Contains, is_some}
-use Rattle.step_trace.specs.Configurations.{Setup}
-use Rattle.step_trace.specs.Processors.{has_proc, IsWithin}
-use Rattle.lock_phases.specs.Nodes.{State, value_of}
+use Rattle.round_model.proofs.Common.{Setup, has_proc, IsWithin, State, value_of, node_of, HaveDecided, HoldOneValue, LocksAreProper}
 use Rattle.round_model.specs.RoundStates.{Table, state_after, states_after}
-use Rattle.round_model.specs.NodeLists.{node_of}
-use Rattle.round_model.specs.BoundedDecision.{HaveDecided, HoldOneValue, LocksAreProper}
 use Rattle.round_model.proofs.RoundEquations.{node_of-states_after}
 use Rattle.round_model.proofs.BoundedDecisions.{member-positive}
 

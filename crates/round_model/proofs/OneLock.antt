@@ -3,16 +3,8 @@
 use Rattle.std.proofs.Common.{ℕ, ◌≡◌, ◌≤◌, inl, inr, Bool, true, List, sym, arith}
 use Rattle.std.specs.Prelude.{Contains}
 use Rattle.std.proofs.lemmas.Bool.{cases_lt, cases_eq}
-use Rattle.step_trace.specs.Configurations.{Setup, IsProc}
+use Rattle.round_model.proofs.Common.{Setup, IsProc, part_of, State, LockPair, value_of, phase_of_lock, Message, IsTold, with_proper, proper-taken_in, locks-sent, releasing-keeps, Table, messages_heard}
 use Rattle.lock_phases.specs.declared.bodies.Kind.TheVariants.{Locks}
-use Rattle.lock_phases.specs.Rounds.{part_of}
-use Rattle.lock_phases.specs.Nodes.{State, LockPair, value_of, phase_of_lock}
-use Rattle.lock_phases.specs.Messages.{Message}
-use Rattle.lock_phases.specs.Hearing.{IsTold, with_proper}
-use Rattle.lock_phases.proofs.OriginLaws.{proper-taken_in}
-use Rattle.lock_phases.proofs.SendingLaws.{locks-sent}
-use Rattle.lock_phases.proofs.ReleasingLaws.{releasing-keeps}
-use Rattle.round_model.specs.RoundStates.{Table, messages_heard}
 use Rattle.round_model.proofs.HeardMessages.{nodes_after}
 use Rattle.round_model.proofs.HeardLists.{messages_heard-has}
 use Rattle.round_model.proofs.ProperNodes.{KeepsProper}

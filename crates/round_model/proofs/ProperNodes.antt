@@ -1,21 +1,8 @@
 -- What a node has locked or proposes is in its own PROPER, and so is its initial value, for any loss of messages.
 use Rattle.std.proofs.Common.{ℕ, ◌≡◌, ◌⊎◌, inl, inr, zero, suc, Some, List, [], sym, subst}
 use Rattle.std.specs.Prelude.{Contains}
-use Rattle.step_trace.specs.Configurations.{Setup}
-use Rattle.step_trace.proofs.ListMembers.{Contains-head, Contains-nil}
-use Rattle.lock_phases.specs.Rounds.{phase_of, part_of, owner}
-use Rattle.lock_phases.specs.Nodes.{State, LockPair, value_of, phase_of_lock}
-use Rattle.lock_phases.specs.Messages.{Message, sender_of, body_of}
+use Rattle.round_model.proofs.Common.{Setup, Contains-head, Contains-nil, phase_of, part_of, owner, State, LockPair, value_of, phase_of_lock, Message, sender_of, body_of, IsHeardListed, IsToldToLock, TakesIn, part_of-cases, listing-keeps, locking-locks, acknowledging-keeps, releasing-keeps, proper-taken_in, proposal-origin, listed-said_by, lock-said_by}
 use Rattle.lock_phases.specs.NodeFunctions.{next}
-use Rattle.lock_phases.specs.Hearing.{IsHeardListed, IsToldToLock}
-use Rattle.lock_phases.specs.NodeLaws.{TakesIn}
-use Rattle.lock_phases.proofs.RoundLaws.{part_of-cases}
-use Rattle.lock_phases.proofs.ListingLaws.{listing-keeps}
-use Rattle.lock_phases.proofs.LockingLaws.{locking-locks}
-use Rattle.lock_phases.proofs.AcknowledgingLaws.{acknowledging-keeps}
-use Rattle.lock_phases.proofs.ReleasingLaws.{releasing-keeps}
-use Rattle.lock_phases.proofs.OriginLaws.{proper-taken_in, proposal-origin}
-use Rattle.lock_phases.proofs.SentBodies.{listed-said_by, lock-said_by}
 use Rattle.round_model.specs.RoundStates.{Table, initial_value, messages_heard, state_after}
 use Rattle.round_model.proofs.HeardMessages.{nodes_after, messages_heard-said}
 

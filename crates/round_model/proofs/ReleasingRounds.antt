@@ -1,16 +1,8 @@
 -- A lock-release round keeps the invariants: no lock on an anchored value is released, held since its anchor.
 use Rattle.std.proofs.Common.{ℕ, ◌≡◌, ◌+◌, ◌≤◌, true, sym, ◌∙◌, arith}
-use Rattle.step_trace.specs.Configurations.{Setup}
-use Rattle.lock_phases.specs.Rounds.{phase_of, part_of}
-use Rattle.lock_phases.specs.Nodes.{State, LockPair, value_of, phase_of_lock}
-use Rattle.lock_phases.specs.Hearing.{IsTold}
-use Rattle.lock_phases.specs.NodeLaws.{ReleasingKeeps}
-use Rattle.lock_phases.proofs.ReleasingLaws.{releasing-keeps}
-use Rattle.lock_phases.proofs.SentBodies.{told-said_by}
-use Rattle.round_model.specs.RoundStates.{Table, messages_heard}
+use Rattle.round_model.proofs.Common.{Setup, phase_of, part_of, State, LockPair, value_of, phase_of_lock, IsTold, ReleasingKeeps, releasing-keeps, told-said_by, Table, messages_heard, sender_of, body_of}
 use Rattle.round_model.proofs.HeardMessages.{nodes_after, messages_heard-said}
 use Rattle.round_model.proofs.Invariants.{is_locked_since, IsLockSince-from_test, is_locked_since-lock, IsAnchored, holders-kept, IsSafe, FlagsMeanFreshLocks-unset}
-use Rattle.lock_phases.specs.Messages.{sender_of, body_of}
 
 -- the invariants after a lock-release round
 pub IsSafe-releasing : (c : Setup) (table : Table) (nodes : ℕ → State) (round : ℕ) → part_of round ≡ 4 → IsSafe c nodes (phase_of round) 4

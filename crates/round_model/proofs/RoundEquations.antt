@@ -1,11 +1,9 @@
 -- The round state, from round to round: of one processor, and of all as a list.
 use Rattle.std.proofs.Common.{ℕ, suc, ◌≡◌, ◌-◌, map, refl, sym, arith}
 use Rattle.std.proofs.lemmas.List.FromFn.{get_or-map-range_with_len}
-use Rattle.step_trace.specs.Configurations.{Setup, IsProc}
-use Rattle.lock_phases.specs.Nodes.{opening}
+use Rattle.round_model.proofs.Common.{Setup, IsProc, opening, node_of, nodes_after_round}
 use Rattle.lock_phases.specs.NodeFunctions.{next}
 use Rattle.round_model.specs.RoundStates.{Table, processors, initial_value, messages_heard, state_after, states_after}
-use Rattle.round_model.specs.NodeLists.{node_of, nodes_after_round}
 use Rattle.round_model.proofs.ProcessorRanges.{map-range_with_len-agree}
 use Rattle.round_model.proofs.SendersHeard.{messages_heard-agree}
 

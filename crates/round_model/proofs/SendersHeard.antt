@@ -5,12 +5,8 @@ use Rattle.std.specs.List.{filter_map, cons_option}
 use Rattle.std.specs.List.Sorted.{IsStrictlyIncreasing}
 use Rattle.std.proofs.lemmas.List.Elements.{All-weaker, All-filter}
 use Rattle.std.proofs.lemmas.List.Kept.{IsStrictlyIncreasing-filter}
-use Rattle.step_trace.specs.Configurations.{Setup, IsProc}
-use Rattle.lock_phases.specs.declared.bodies.Body.{Body}
-use Rattle.lock_phases.specs.Nodes.{State}
-use Rattle.lock_phases.specs.Messages.{Message, sender_of}
+use Rattle.round_model.proofs.Common.{Setup, IsProc, Body, State, Message, sender_of, Table, processors, messages_heard}
 use Rattle.lock_phases.specs.NodeFunctions.{out}
-use Rattle.round_model.specs.RoundStates.{Table, processors, messages_heard}
 use Rattle.round_model.proofs.HeardMessages.{heard_of}
 use Rattle.round_model.proofs.ProcessorRanges.{filter_map-range_with_len-agree, IsStrictlyIncreasing-range_with_len, All-range_with_len, All-from_map}
 

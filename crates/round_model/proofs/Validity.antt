@@ -2,14 +2,7 @@
 use Rattle.std.proofs.Common.{ℕ, ◌≡◌, ◌-◌, ◌⊎◌, inl, inr, zero, suc, Some, List, [], sym, subst, arith}
 use Rattle.std.specs.Prelude.{Contains}
 use Rattle.std.proofs.lemmas.List.Elements.{Contains-get_or}
-use Rattle.step_trace.specs.Configurations.{Setup, IsSetup, IsProc}
-use Rattle.step_trace.proofs.ListMembers.{Contains-nil}
-use Rattle.lock_phases.specs.Nodes.{State}
-use Rattle.lock_phases.specs.Messages.{Message, sender_of, body_of}
-use Rattle.lock_phases.specs.Hearing.{IsHeardProper, IsHeardListed}
-use Rattle.lock_phases.proofs.Membership.{Contains-cons_cases}
-use Rattle.lock_phases.proofs.OriginLaws.{proper-origin, proposal-origin, decision-origin}
-use Rattle.lock_phases.proofs.SentBodies.{listed-said_by}
+use Rattle.round_model.proofs.Common.{Setup, IsSetup, IsProc, Contains-nil, State, Message, sender_of, body_of, IsHeardProper, IsHeardListed, Contains-cons_cases, proper-origin, proposal-origin, decision-origin, listed-said_by}
 use Rattle.round_model.specs.RoundStates.{Table, initial_value, messages_heard, state_after}
 use Rattle.round_model.proofs.HeardMessages.{nodes_after, messages_heard-said}
 
@@ -58,10 +51,7 @@ HasInitialValues-state_after c table zero setup p is = record {
   where
     own : (v : ℕ) → (v ≡ initial_value c p) ⊎ Contains [] v → Contains c.init v
     own v (inl e) =
-        let n = setup.values in
-        let high = is.1 in
-        let low = is.0 in
-        subst (Contains c.init) (sym e) (Contains-get_or c.init (p - 1) 0 (omega arith))
+        subst (Contains c.init) (sym e) (Contains-get_or c.init (p - 1) 0 (omega (arith, is.0, is.1, setup.values)))
     own v (inr d) = absurd (Contains-nil v d)
 HasInitialValues-state_after c table (suc rounds) setup p is =
     HasInitialValues-after c table (state_after c table rounds) (suc rounds) (HasInitialValues-state_after c table rounds setup) p is

@@ -2,8 +2,7 @@
 use Rattle.std.proofs.Common.{ℕ, ◌≡◌, ◌<◌, ◌≤◌, List, [], All, Contains, false, not, ap, arith}
 use Rattle.std.proofs.lemmas.Bool.{lt-leb}
 use Rattle.std.proofs.lemmas.List.Elements.{All-contains}
-use Rattle.simulated_runs.specs.declared.trays.Posted.{Posted}
-use Rattle.simulated_runs.specs.Trays.{due_ids, ids_of, is_due, not_due}
+use Rattle.simulated_runs.proofs.Common.{Posted, due_ids, ids_of, is_due, not_due}
 use Rattle.simulated_runs.proofs.Filters.{filter-all, filter-none}
 
 before-earliest : (x earliest : ℕ) (posted : List Posted) → All (λ m. earliest ≤ m.due) posted → x < earliest

@@ -1,15 +1,8 @@
 -- A bound that the numbers of steps keep is kept by their ticks.
 use Rattle.std.proofs.Common.{ℕ, ◌+◌, ◌≤◌, List, Option, Some, None, IfSome, length, arith}
 use Rattle.step_trace.specs.Bounds.{DeltaHolds, IsDelivered, PhiHolds, StepsWithin}
-use Rattle.step_trace.specs.Configurations.{Setup}
+use Rattle.simulated_runs.proofs.Common.{Setup, Recorded, step_at_within, Crash, StatedBounds, Posted, Turn, AreLive, IsTakenBy, KeepsDelta, KeepsPhi, StepsFrom}
 use Rattle.step_trace.specs.Ticks.{IsOnePerTick, tick_of}
-use Rattle.step_trace.specs.Traces.{Recorded}
-use Rattle.step_trace.proofs.StepPositions.{step_at_within}
-use Rattle.command_options.specs.declared.simulations.Crash.{Crash}
-use Rattle.command_options.specs.declared.simulations.StatedBounds.{StatedBounds}
-use Rattle.simulated_runs.specs.declared.trays.Posted.{Posted}
-use Rattle.simulated_runs.specs.declared.turns.Turn.{Turn}
-use Rattle.simulated_runs.specs.KeptBounds.{AreLive, IsTakenBy, KeepsDelta, KeepsPhi, StepsFrom}
 
 within-ticks : (trace : Recorded) (p x f : ℕ) → IsOnePerTick trace → StepsFrom trace.steps p x f → StepsWithin trace p x f
 within-ticks trace p x f one w = record {
@@ -33,8 +26,7 @@ delivered trace s r y one early late w =
     let a = one.each s early in
     let b = one.each w.place inside in
     let after = w.after in
-    let until = w.until in
-    record { place = w.place; after = omega arith; until = omega arith; takes = w.takes }
+    record { place = w.place; after = omega (arith, w.until); until = omega (arith, w.until); takes = w.takes }
 
 pub DeltaHolds-kept : (bounds : Option StatedBounds) (trays : List (List Posted)) (trace : Recorded) → IsOnePerTick trace
     → IfSome bounds (λ b. KeepsDelta b.gst b.delta trace.steps trays)

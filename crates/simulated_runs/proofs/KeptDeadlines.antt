@@ -1,14 +1,7 @@
 -- The processor bound is kept by one step more.
 use Rattle.std.proofs.Common.{ℕ, suc, ◌≡◌, ◌+◌, ◌<◌, ◌≤◌, ◌⊎◌, inl, inr, List, [], ◌∷◌, ◌++◌, Some, length, max, slice_get, refl, sym, ap, subst, ◌∙◌, arith, length-append}
 use Rattle.std.proofs.lemmas.Bool.{cases_lt}
-use Rattle.step_trace.specs.declared.steps.Step.{Step}
-use Rattle.step_trace.specs.Configurations.{Setup}
-use Rattle.step_trace.specs.Traces.{step_at, IsStepOf}
-use Rattle.step_trace.proofs.StepPositions.{step_at-push_old, step_at_last, step_at_within}
-use Rattle.command_options.specs.declared.simulations.Crash.{Crash}
-use Rattle.simulated_runs.specs.declared.turns.Turn.{Turn}
-use Rattle.simulated_runs.specs.Turns.{ArePassed, IsTurnIn, MayStep, next_turn}
-use Rattle.simulated_runs.specs.KeptBounds.{IsLive, IsSinceStep, KeepsPhi, StepsFrom}
+use Rattle.simulated_runs.proofs.Common.{Step, Setup, step_at, IsStepOf, step_at-push_old, step_at_last, step_at_within, Crash, Turn, ArePassed, IsTurnIn, MayStep, next_turn, IsLive, IsSinceStep, KeepsPhi, StepsFrom}
 
 -- steps stay
 step-old : (steps : List Step) (x : Step) (k p : ℕ) → IsStepOf steps k p → IsStepOf (steps ++ x ∷ []) k p

@@ -3,23 +3,10 @@ use Rattle.std.proofs.Common.{ℕ, suc, ◌≡◌, ◌≢◌, ◌+◌, ◌<◌, 
 use Rattle.std.specs.List.{list_any}
 use Rattle.std.proofs.lemmas.Bool.{cases_eq, and_from, le-leb}
 use Rattle.std.proofs.lemmas.List.Elements.{Contains-append_left, Contains-append_right, Contains-append_cases}
-use Rattle.step_trace.specs.declared.steps.Act.TheVariants.{Receive}
-use Rattle.step_trace.specs.declared.steps.Step.{Step}
-use Rattle.step_trace.specs.Configurations.{Setup}
-use Rattle.step_trace.specs.Traces.{IsReceiveOf, IsSentTo, IsWellFormed, step_at}
+use Rattle.simulated_runs.proofs.Common.{Receive, Step, Setup, IsReceiveOf, IsSentTo, IsWellFormed, step_at, Contains-head, Contains-cons_cases, Contains-nil, Contains-map, Contains-filter, Contains-from_filter, list_any-at, step_at-push_cases, step_at-push_old, step_at_last, step_at_within, taken_at-from_is_taken, buffer, waits_for, sending, receiving, buffer-sent_to, buffer-sent_elsewhere, buffer-received, Posted, due_ids, is_due, not_due, StatedBounds, IsPosted, tray_of, with_tray, DeltaGoesOn, IsTakenBy, KeepsDelta}
 use Rattle.step_trace.specs.PushRefusals.{is_sent_to, is_taken}
-use Rattle.step_trace.proofs.ListMembers.{Contains-head, Contains-cons_cases, Contains-nil, Contains-map, Contains-filter, Contains-from_filter, list_any-at}
-use Rattle.step_trace.proofs.StepPositions.{step_at-push_cases, step_at-push_old, step_at_last, step_at_within, taken_at-from_is_taken}
-use Rattle.step_buffers.specs.Buffers.{buffer, waits_for}
 use Rattle.step_buffers.specs.HeardTables.{numbers}
-use Rattle.step_buffers.specs.NextSteps.{sending, receiving}
-use Rattle.step_buffers.proofs.BufferSteps.{buffer-sent_to, buffer-sent_elsewhere, buffer-received}
 use Rattle.step_buffers.proofs.HeardSenders.{Contains-numbers}
-use Rattle.simulated_runs.specs.declared.trays.Posted.{Posted}
-use Rattle.simulated_runs.specs.Trays.{due_ids, is_due, not_due}
-use Rattle.command_options.specs.declared.simulations.StatedBounds.{StatedBounds}
-use Rattle.simulated_runs.specs.Posts.{IsPosted, tray_of, with_tray}
-use Rattle.simulated_runs.specs.KeptBounds.{DeltaGoesOn, IsTakenBy, KeepsDelta}
 use Rattle.simulated_runs.proofs.UnderWay.{tray-other, tray-same}
 
 taken-old : (steps : List Step) (x : Step) (s r : ℕ) → IsTakenBy steps s r → IsTakenBy (steps ++ x ∷ []) s r

@@ -3,15 +3,7 @@ use Rattle.std.proofs.Common.{ℕ, ◌≡◌, ◌+◌, ◌-◌, ◌≤◌, inl, 
 use Rattle.std.specs.List.{list_any, range_with_len}
 use Rattle.std.proofs.lemmas.List.Elements.{All-contains_itself}
 use Rattle.std.proofs.lemmas.List.FromFn.{length-map-range_with_len, get_or-map-range_with_len}
-use Rattle.step_trace.specs.declared.steps.Step.{Step}
-use Rattle.step_trace.specs.Configurations.{Setup, IsSetup}
-use Rattle.step_trace.proofs.StepPositions.{step_at-push_cases}
-use Rattle.step_trace.proofs.ListMembers.{Contains-head, Contains-nil, Contains-cons_cases, Contains-from_filter}
-use Rattle.round_model.proofs.HeardMessages.{IsProc-from_processors}
-use Rattle.command_options.specs.declared.simulations.Crash.{Crash}
-use Rattle.command_options.specs.Simulations.{IsUp, is_crash_of, is_live, live}
-use Rattle.simulated_runs.specs.Crashes.{IsUpIn, StepBeforeCrashes, last_tick, lasts_of}
-use Rattle.simulated_runs.specs.KeptBounds.{IsLive}
+use Rattle.simulated_runs.proofs.Common.{Step, Setup, IsSetup, step_at-push_cases, Contains-head, Contains-nil, Contains-cons_cases, Contains-from_filter, IsProc-from_processors, Crash, IsUp, is_crash_of, is_live, live, IsUpIn, StepBeforeCrashes, last_tick, lasts_of, IsLive}
 
 abbrev lasting : ℕ → ℕ → Crash → ℕ
 lasting p last crash = if crash.proc == p then min last crash.tick else last

@@ -1,3 +1,4 @@
+pub mod Common
 mod PassedTurns
 mod Processors
 mod Filters

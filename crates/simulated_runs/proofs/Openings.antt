@@ -3,30 +3,14 @@ use Rattle.std.proofs.Common.{ℕ, suc, zero, ◌≡◌, ◌+◌, ◌*◌, ◌-�
 use Rattle.std.specs.List.{range_with_len}
 use Rattle.std.proofs.lemmas.Option.{same_Some, none-some, slice_get_within, slice_get-get_or}
 use Rattle.std.proofs.lemmas.List.{length-replicate, get_or-replicate, length-map}
-use Rattle.step_trace.specs.declared.steps.Step.{Step}
-use Rattle.step_trace.specs.Configurations.{Setup, IsSetup}
-use Rattle.step_trace.specs.Traces.{step_at}
+use Rattle.simulated_runs.proofs.Common.{Step, Setup, IsSetup, step_at, Contains-nil, Contains-slice_get, Contains-filter, Contains-from_filter, IsProc-from_processors, Crash, StatedBounds, is_live, live, Posted, Turn, Simulation, last_tick, lasts_of, IsLive, KeepsDelta, KeepsPhi, tray_of, IsTurnIn, AreUnderWay, IsUnderWay, AreOpeningTurns, HasRun}
 use Rattle.std.proofs.lemmas.List.FromFn.{length-map-range_with_len}
-use Rattle.step_trace.proofs.ListMembers.{Contains-nil, Contains-slice_get, Contains-filter, Contains-from_filter}
-use Rattle.round_model.proofs.HeardMessages.{IsProc-from_processors}
 use Rattle.round_model.proofs.HeardLists.{Contains-processors}
 use Rattle.deciding_runs.specs.Paces.{Paced, opening_pace}
-use Rattle.command_options.specs.declared.simulations.Crash.{Crash}
-use Rattle.command_options.specs.declared.simulations.StatedBounds.{StatedBounds}
 use Rattle.command_options.specs.declared.simulations.TheConstants.{MAX_BOUND}
-use Rattle.command_options.specs.Simulations.{is_live, live}
-use Rattle.simulated_runs.specs.declared.trays.Posted.{Posted}
-use Rattle.simulated_runs.specs.declared.turns.Turn.{Turn}
 use Rattle.simulated_runs.specs.declared.turns.Turns.{Turns}
-use Rattle.simulated_runs.specs.declared.simulations.Simulation.{Simulation}
-use Rattle.simulated_runs.specs.Crashes.{last_tick, lasts_of}
-use Rattle.simulated_runs.specs.KeptBounds.{IsLive, KeepsDelta, KeepsPhi}
 use Rattle.simulated_runs.specs.Nominations.{IsNominating}
-use Rattle.simulated_runs.specs.Posts.{tray_of}
-use Rattle.simulated_runs.specs.Turns.{IsTurnIn}
-use Rattle.simulated_runs.specs.UnderWay.{AreUnderWay, IsUnderWay}
 use Rattle.simulated_runs.proofs.KeptDues.{KeepsDelta-opening}
-use Rattle.simulated_runs.specs.Simulations.{AreOpeningTurns, HasRun}
 
 -- what was mapped
 mapped-at : {X Y : Type 0} (f : X → Y) (xs : List X) (k : ℕ) (y : Y) → slice_get (map f xs) k ≡ Some y → (x : X) × (slice_get xs k ≡ Some x) × (f x ≡ y)
@@ -59,9 +43,8 @@ KeepsPhi-opening c crashes gst phi few = record {
   few = let a = length-map (live c.n crashes) (turn_of (gst + phi)) in omega arith;
   in_time = λ k t h.
       let w = mapped-at (turn_of (gst + phi)) (live c.n crashes) k t h in
-      let l = within (live c.n crashes) k w.0 w.1 in
       let due : gst + phi ≡ t.deadline = ap (λ (z : Turn). z.deadline) w.2 in
-      omega arith;
+      omega (arith, within (live c.n crashes) k w.0 w.1);
   since = λ t h.
       let w = mapped-at (turn_of (gst + phi)) (live c.n crashes) h.0 t h.1 in
       let due : gst + phi ≡ t.deadline = ap (λ (z : Turn). z.deadline) w.2 in

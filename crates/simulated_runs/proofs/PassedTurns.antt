@@ -3,9 +3,7 @@ use Rattle.std.proofs.Common.{ℕ, zero, suc, ◌≡◌, ◌≢◌, ◌+◌, ◌
 use Rattle.std.proofs.lemmas.Bool.{cases_lt}
 use Rattle.std.proofs.lemmas.List.Edits.{length-remove}
 use Rattle.std.proofs.lemmas.Option.{same_Some}
-use Rattle.step_trace.proofs.StepPositions.{slice_get-push_cases, slice_get-push_old, slice_get-last}
-use Rattle.simulated_runs.specs.declared.turns.Turn.{Turn}
-use Rattle.simulated_runs.specs.Turns.{AreInTime, ArePassed, HasTurn, IsFirstTurn, IsTurnIn, MayStep, next_turn}
+use Rattle.simulated_runs.proofs.Common.{slice_get-push_cases, slice_get-push_old, slice_get-last, Turn, AreInTime, ArePassed, HasTurn, IsFirstTurn, IsTurnIn, MayStep, next_turn}
 
 -- what is left of a list was before the place that was taken out, or behind it
 pub removed-place : {X : Type 0} (xs : List X) (j k : ℕ) (x : X) → slice_get (remove xs j) k ≡ Some x

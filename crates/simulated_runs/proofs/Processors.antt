@@ -4,9 +4,7 @@ use Rattle.std.specs.List.{range_with_len}
 use Rattle.std.proofs.lemmas.List.FromFn.{map-range_with_len_more}
 use Rattle.std.proofs.lemmas.List.Elements.{filter-append}
 use Rattle.round_model.proofs.ProcessorRanges.{range_with_len-more}
-use Rattle.command_options.specs.declared.simulations.Crash.{Crash}
-use Rattle.command_options.specs.Simulations.{is_live}
-use Rattle.simulated_runs.specs.Crashes.{last_tick}
+use Rattle.simulated_runs.proofs.Common.{Crash, is_live, last_tick}
 
 pub live-more : (crashes : List Crash) (i : ℕ) → filter (is_live crashes) (range_with_len 1 (i + 1))
     ≡ filter (is_live crashes) (range_with_len 1 i) ++ cond (is_live crashes (i + 1)) ((i + 1) ∷ []) []

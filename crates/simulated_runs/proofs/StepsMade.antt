@@ -1,15 +1,6 @@
 -- What is kept of a run, after one step more.
 use Rattle.std.proofs.Common.{ℕ, ◌≡◌, ◌+◌, ◌<◌, inl, inr, List, [], ◌∷◌, Option, Some, None, IfSome, length, sym, ap, subst, ◌∙◌, arith, length-append}
-use Rattle.step_trace.specs.declared.steps.Step.{Step}
-use Rattle.step_trace.specs.Configurations.{Setup}
-use Rattle.command_options.specs.declared.simulations.Crash.{Crash}
-use Rattle.command_options.specs.declared.simulations.StatedBounds.{StatedBounds}
-use Rattle.simulated_runs.specs.declared.turns.Turn.{Turn}
-use Rattle.simulated_runs.specs.declared.simulations.Simulation.{Simulation}
-use Rattle.simulated_runs.specs.Turns.{ArePassed, IsTurnIn}
-use Rattle.simulated_runs.specs.Crashes.{IsSomeUp, IsUpIn, StepBeforeCrashes, lasts_of}
-use Rattle.simulated_runs.specs.KeptBounds.{DeltaGoesOn, IsLive, KeepsDelta, KeepsPhi}
-use Rattle.simulated_runs.specs.Simulations.{HasRun, IsReady, IsStepped}
+use Rattle.simulated_runs.proofs.Common.{Step, Setup, Crash, StatedBounds, Turn, Simulation, ArePassed, IsTurnIn, IsSomeUp, IsUpIn, StepBeforeCrashes, lasts_of, DeltaGoesOn, IsLive, KeepsDelta, KeepsPhi, HasRun, IsReady, IsStepped}
 use Rattle.simulated_runs.proofs.LastTicks.{IsUpIn-live, StepBeforeCrashes-stepped}
 use Rattle.simulated_runs.proofs.KeptDeadlines.{KeepsPhi-stepped}
 

@@ -4,22 +4,9 @@ use Rattle.std.specs.List.{list_any}
 use Rattle.std.proofs.lemmas.Bool.{cases_eq, false_from_ne_true}
 use Rattle.std.proofs.lemmas.Option.{same_Some}
 use Rattle.std.proofs.lemmas.List.Elements.{Contains-append_left, Contains-append_right, Contains-append_cases}
-use Rattle.step_trace.specs.declared.steps.Act.TheVariants.{Send}
-use Rattle.step_trace.specs.declared.steps.Step.{Step}
-use Rattle.step_trace.specs.Configurations.{Setup}
+use Rattle.simulated_runs.proofs.Common.{Send, Step, Setup, IsWellFormed, Contains-head, Contains-cons_cases, Contains-nil, Contains-from_map, Contains-filter, Contains-from_filter, step_at_within, buffer, sending, receiving, buffer-sent_to, buffer-sent_elsewhere, buffer-received, IsWaiting-from_buffer, StatedBounds, Posted, due_ids, is_due, not_due, IsPosted, tray_of, with_tray, AreUnderWay, IsUnderWay}
 use Rattle.step_trace.specs.Steps.{act_dest}
-use Rattle.step_trace.specs.Traces.{IsWellFormed}
-use Rattle.step_trace.proofs.ListMembers.{Contains-head, Contains-cons_cases, Contains-nil, Contains-from_map, Contains-filter, Contains-from_filter}
-use Rattle.step_trace.proofs.StepPositions.{step_at_within}
-use Rattle.step_buffers.specs.Buffers.{buffer}
-use Rattle.step_buffers.specs.NextSteps.{sending, receiving}
-use Rattle.step_buffers.proofs.BufferSteps.{buffer-sent_to, buffer-sent_elsewhere, buffer-received, IsWaiting-from_buffer}
 use Rattle.step_buffers.proofs.RemovedIds.{Contains-from_is_in}
-use Rattle.command_options.specs.declared.simulations.StatedBounds.{StatedBounds}
-use Rattle.simulated_runs.specs.declared.trays.Posted.{Posted}
-use Rattle.simulated_runs.specs.Trays.{due_ids, is_due, not_due}
-use Rattle.simulated_runs.specs.Posts.{IsPosted, tray_of, with_tray}
-use Rattle.simulated_runs.specs.UnderWay.{AreUnderWay, IsUnderWay}
 
 -- a tray that was put in its place, and the others
 pub tray-same : (trays : List (List Posted)) (p : ℕ) (tray : List Posted) → 1 ≤ p → p ≤ length trays → tray_of (with_tray trays p tray) p ≡ tray

@@ -11,23 +11,9 @@ use Rattle.std.proofs.lemmas.List.Elements.{filter-append}
 use Rattle.std.proofs.lemmas.List.Folds.{list_any-append}
 use Rattle.std.proofs.lemmas.List.Kept.{IsStrictlyIncreasing-filter}
 use Rattle.step_trace.specs.declared.steps.Act.{Act}
-use Rattle.step_trace.specs.declared.steps.Act.TheVariants.{Send, Receive}
-use Rattle.step_trace.specs.declared.steps.Step.{Step}
-use Rattle.step_trace.specs.Configurations.{Setup}
-use Rattle.step_trace.specs.Steps.{act_dest, act_takes, act_sends_to}
-use Rattle.step_trace.specs.Traces.{step_at, IsWellFormed}
-use Rattle.step_trace.specs.PushRefusals.{is_sent_to, is_taken}
-use Rattle.step_trace.proofs.StepPositions.{step_at_within, step_at_last, taken_at-from_is_taken}
-use Rattle.step_trace.proofs.ListMembers.{Contains-from_filter}
-use Rattle.round_model.proofs.ProcessorRanges.{range_with_len-more, IsStrictlyIncreasing-range_with_len, All-range_with_len}
-use Rattle.step_buffers.specs.HeardTables.{numbers}
-use Rattle.step_buffers.specs.Buffers.{waits_for, buffer}
-use Rattle.step_buffers.specs.Runs.{IsSend}
-use Rattle.step_buffers.specs.NextSteps.{sending, receiving}
+use Rattle.step_buffers.proofs.Common.{Send, Receive, Step, Setup, act_dest, act_takes, act_sends_to, step_at, IsWellFormed, is_sent_to, is_taken, step_at_within, step_at_last, taken_at-from_is_taken, Contains-from_filter, range_with_len-more, IsStrictlyIncreasing-range_with_len, All-range_with_len, numbers, waits_for, buffer, IsSend, sending, receiving, Fits-from_well_formed, sent_from}
 use Rattle.step_buffers.proofs.StepPrefixes.{step_at-prefix, IsWellFormed-prefix}
 use Rattle.step_buffers.proofs.RemovedIds.{filter-agree, filter-all, Contains-from_is_in}
-use Rattle.step_trace.proofs.FittingSteps.{Fits-from_well_formed}
-use Rattle.step_trace.proofs.Refusals.{sent_from}
 
 -- two filters one after the other
 filter-twice : (f g : ℕ → Bool) (xs : List ℕ) → filter (λ x. f x && g x) xs ≡ filter g (filter f xs)

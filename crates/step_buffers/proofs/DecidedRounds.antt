@@ -1,20 +1,15 @@
 -- Agreement and validity in a trace, whose processors are in different rounds. Decisions that stay, and since which
 -- round a processor has its own, as the trace grows by a step.
 use Rattle.std.proofs.Common.{ℕ, ◌≡◌, ◌+◌, ◌-◌, List, ◌++◌, Some, subst, arith, zero, suc, ◌≢◌, ◌<◌, ◌≤◌, ◌⊎◌, inl, inr, Option, None, [], ◌∷◌, true, false, ◌==◌, ◌&&◌, refl, sym, ap, ◌∙◌}
-use Rattle.step_trace.specs.declared.steps.Step.{Step}
-use Rattle.step_trace.specs.Configurations.{Setup, IsSetup, IsProc}
-use Rattle.step_trace.specs.Traces.{IsWellFormed}
-use Rattle.lock_phases.specs.Nodes.{State}
+use Rattle.step_buffers.proofs.Common.{Step, Setup, IsSetup, IsProc, IsWellFormed, State, node_at, IsDecidedSince}
 use Rattle.round_model.specs.RoundStates.{state_after}
 use Rattle.round_model.specs.Agreement.{Agree, DecidesInitialValue}
 use Rattle.round_model.proofs.AgreedDecisions.{Agree-state_after, DecidesInitialValue-state_after, decision-stays_later}
 use Rattle.step_buffers.specs.HeardTables.{passed, heard_table, act_ends}
-use Rattle.step_buffers.specs.Runs.{node_at}
 use Rattle.step_buffers.proofs.StepPrefixes.{passed-append}
 use Rattle.step_buffers.proofs.HeardSenders.{state_after-prefix}
 use Rattle.std.proofs.lemmas.Bool.{cases_lt}
 use Rattle.std.proofs.lemmas.Option.{none-some}
-use Rattle.step_buffers.specs.Worlds.{IsDecidedSince}
 use Rattle.step_buffers.proofs.GrownNodes.{passed-ends, passed-stays}
 
 pub Agree-node_at : (c : Setup) (steps : List Step) (p q : ℕ) → IsSetup c → Agree (node_at c steps p) (node_at c steps q)
@@ -78,8 +73,7 @@ kept c steps x old new since w ends is now same =
     go : (r : ℕ) → r ≤ passed (steps ++ x ∷ []) x.proc → since ≤ r + 1 → (passed steps x.proc < r) ⊎ (r ≤ passed steps x.proc)
         → (state_after c (heard_table (steps ++ x ∷ [])) r x.proc).decision ≡ new
     go r l high (inl late) =
-        let more = passed-ends steps x ends in
-        let last : r ≡ passed (steps ++ x ∷ []) x.proc = omega arith in
+        let last : r ≡ passed (steps ++ x ∷ []) x.proc = omega (arith, passed-ends steps x ends) in
         ap (λ n. (state_after c (heard_table (steps ++ x ∷ [])) n x.proc).decision) last ∙ sym now
     go r l high (inr before) = decision-prefix c steps (x ∷ []) r x.proc w before ∙ is.after r before high ∙ sym same
 

@@ -5,22 +5,16 @@ use Rattle.std.proofs.Common.{ℕ, zero, suc, ◌≡◌, ◌+◌, ◌-◌, ◌�
 use Rattle.std.specs.Prelude.{count_by, slice_get}
 use Rattle.std.specs.List.{range_with_len}
 use Rattle.std.proofs.lemmas.List.Sums.{sum_by-append, sum_by-cons, count_by-le-length}
-use Rattle.step_trace.specs.declared.steps.Step.{Step}
-use Rattle.round_model.proofs.ProcessorRanges.{range_with_len-more}
+use Rattle.step_buffers.proofs.Common.{Step, range_with_len-more, Setup, step_at, IsWellFormed, step_at_within, step_at-push_cases, state_after-next, messages_heard-local}
 use Rattle.step_buffers.specs.HeardTables.{is_sent_in, passed, before, round_at, act_ends, heard_table}
 use Rattle.step_buffers.specs.Runs.{sent_before, next_destination, IsDue, IsRun, node_at, body_of, destinations}
 use Rattle.step_buffers.proofs.HeardSenders.{IsSentIn-from_test, is_sent_in-from_send, same_tests, IsSentIn-longer, IsSentIn-prefix, state_after-prefix, IsHeard-from_table}
-use Rattle.step_trace.specs.Configurations.{Setup}
-use Rattle.step_trace.specs.Traces.{step_at, IsWellFormed}
-use Rattle.step_trace.proofs.StepPositions.{step_at_within, step_at-push_cases}
 use Rattle.step_buffers.proofs.StepPrefixes.{step_at-prefix_old, before-prefix, passed-before, IsWellFormed-prefix, passed-append, round_at-prefix}
 use Rattle.std.proofs.lemmas.List.{length-append}
 use Rattle.std.proofs.lemmas.Bool.{and_from}
 use Rattle.std.proofs.Math.Seq.{take-length}
 use Rattle.lock_phases.specs.NodeFunctions.{out, next}
 use Rattle.round_model.specs.RoundStates.{messages_heard, state_after}
-use Rattle.round_model.proofs.RoundEquations.{state_after-next}
-use Rattle.round_model.proofs.SettledStates.{messages_heard-local}
 
 -- a count over a range with one more number
 pub count_by-more : (test : ℕ → Bool) (n : ℕ) → count_by test (range_with_len 1 (suc n)) ≡ count_by test (range_with_len 1 n) + cond (test (suc n)) 1 0
@@ -85,10 +79,9 @@ IsRun-push c steps x run w due = record {
     go : (k : ℕ) (y : Step) → (step_at steps k ≡ Some y) ⊎ ((k ≡ length steps + 1) × (x ≡ y)) → IsDue (next_destination c (steps ++ x ∷ []) y.proc k) y.act
     go k y (inl old) = let b = step_at_within steps k y old in let within = b.1 in longer y k (omega arith) (run.each k y old)
     go k y (inr new) =
-        let place = new.0 in
-        longer y k (omega arith)
+        longer y k (omega (arith, new.0))
         (subst (λ (z : Step). IsDue (next_destination c steps z.proc k) z.act) new.1
-        (subst (λ n. IsDue (next_destination c steps x.proc n) x.act) (sym place) due))
+        (subst (λ n. IsDue (next_destination c steps x.proc n) x.act) (sym new.0) due))
 
 passed-one : (x : Step) (p : ℕ) → passed (x ∷ []) p ≡ cond (x.proc == p && act_ends x.act) 1 0
 passed-one x p =
@@ -129,13 +122,9 @@ sender-passed c steps x p rounds q w h =
     let t = is.take in
     let b = step_at_within (steps ++ x ∷ []) t.place t.step t.stands in
     let e = w.earlier t.place is.message t.step t.stands t.taken in
-    let high = b.1 in
-    let low = e.0 in
     let long : length (steps ++ x ∷ []) ≡ length steps + 1 = length-append steps (x ∷ []) in
-    let same = round_at-prefix steps (x ∷ []) q is.message (omega arith) in
-    let sent = is.sent.round in
-    let grown = passed-before steps q is.message in
-    omega arith
+    let same = round_at-prefix steps (x ∷ []) q is.message (omega (arith, e.0, b.1)) in
+    omega (arith, passed-before steps q is.message, is.sent.round, e.0, b.1)
 
 -- The node of a processor whose round ends: it computes from its node and from what it heard, of the nodes that the
 -- others had after so many rounds. It depends on no row of the longer trace but the new one.
@@ -144,7 +133,6 @@ pub node_at-ends : (c : Setup) (steps : List Step) (x : Step) → IsWellFormed c
     ≡ next c (node_at c steps x.proc) x.proc (suc (passed steps x.proc))
     (messages_heard c (heard_table (steps ++ x ∷ [])) (state_after c (heard_table steps) (passed steps x.proc)) x.proc (suc (passed steps x.proc)))
 node_at-ends c steps x w ends =
-    let n = passed steps x.proc in
     let old = IsWellFormed-prefix c steps (x ∷ []) w in
     ap (λ r. state_after c (heard_table (steps ++ x ∷ [])) r x.proc) (passed-ends steps x ends)
     ∙ state_after-next c (heard_table (steps ++ x ∷ [])) (passed steps x.proc) x.proc

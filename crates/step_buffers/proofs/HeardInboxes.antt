@@ -7,31 +7,15 @@ use Rattle.std.specs.List.{filter_map, cons_option, range_with_len}
 use Rattle.std.proofs.lemmas.Bool.{eqb-true}
 use Rattle.std.proofs.lemmas.Option.{same_Some, none-some}
 use Rattle.std.proofs.lemmas.List.Kept.{IsStrictlyIncreasing-filter}
-use Rattle.step_trace.proofs.ListMembers.{Contains-nil, Contains-head, Contains-rest, Contains-filter, Contains-from_filter, Contains-from_map}
-use Rattle.lock_phases.specs.declared.bodies.Body.{Body}
+use Rattle.step_buffers.proofs.Common.{Contains-nil, Contains-head, Contains-rest, Contains-filter, Contains-from_filter, Contains-from_map, Body, IsStrictlyIncreasing-range_with_len, filter_map-range_with_len-more, Letter, letter_at, said_by, body_from, heard_from, round_of, of_round, heard_in, Send, Step, Setup, IsProc, IsWellFormed, is_taken, step_at_within, taken_from_at, Fits-from_well_formed, State, node_at, body_of, IsSend, Entry, ids_of, receiving, IsInbox, IsLetter, AreLetters}
 use Rattle.lock_phases.specs.Messages.{Message, sender_of}
 use Rattle.lock_phases.proofs.Membership.{Contains-cons_cases, Contains-from_filter_map, Contains-filter_map}
-use Rattle.round_model.proofs.ProcessorRanges.{IsStrictlyIncreasing-range_with_len, filter_map-range_with_len-more}
 use Rattle.round_model.proofs.HeardLists.{AreRising, IsBodyHeard, Contains-processors, messages_heard-by_elements}
-use Rattle.step_buffers.specs.declared.letters.Letter.{Letter}
-use Rattle.step_buffers.specs.Letters.{letter_at, said_by, body_from, heard_from, round_of, of_round, heard_in}
 use Rattle.std.proofs.lemmas.List.{length-append}
 use Rattle.std.proofs.lemmas.List.Elements.{All-weaker, All-contains, All-contains_itself, Contains-append_left, Contains-append_right, Contains-append_cases}
-use Rattle.step_trace.specs.declared.steps.Act.TheVariants.{Send}
-use Rattle.step_trace.specs.declared.steps.Step.{Step}
-use Rattle.step_trace.specs.Configurations.{Setup, IsProc}
-use Rattle.step_trace.specs.Traces.{IsWellFormed}
-use Rattle.step_trace.specs.PushRefusals.{is_taken}
-use Rattle.step_trace.proofs.StepPositions.{step_at_within, taken_from_at}
-use Rattle.step_trace.proofs.FittingSteps.{Fits-from_well_formed}
-use Rattle.lock_phases.specs.Nodes.{State}
 use Rattle.lock_phases.specs.NodeFunctions.{out, next}
 use Rattle.round_model.specs.RoundStates.{processors, state_after, messages_heard}
 use Rattle.step_buffers.specs.HeardTables.{passed, before, round_at, heard_table}
-use Rattle.step_buffers.specs.Runs.{node_at, body_of, IsSend}
-use Rattle.step_buffers.specs.Inboxes.{Entry, ids_of}
-use Rattle.step_buffers.specs.NextSteps.{receiving}
-use Rattle.step_buffers.specs.Worlds.{IsInbox, IsLetter, AreLetters}
 use Rattle.step_buffers.proofs.StepPrefixes.{passed-before, round_at-prefix}
 use Rattle.step_buffers.proofs.HeardSenders.{IsHeard-from_table, heard_table-from_heard}
 use Rattle.step_buffers.proofs.GrownNodes.{passed-ends, node_at-ends}

@@ -6,15 +6,9 @@ use Rattle.std.specs.List.{list_any}
 use Rattle.std.specs.Option.{option_map_or}
 use Rattle.std.proofs.lemmas.Bool.{eqb-true, leb-true, le-leb, and_parts, and_from, cases_lt}
 use Rattle.std.proofs.lemmas.List.FromFn.{length-range_with_len, get_or-range_with_len}
-use Rattle.step_trace.specs.declared.steps.Step.{Step}
-use Rattle.step_trace.specs.Steps.{act_ids, act_sends}
-use Rattle.step_trace.specs.Traces.{step_at, IsWellFormed}
-use Rattle.step_trace.proofs.StepPositions.{step_at_within}
-use Rattle.step_trace.proofs.ListMembers.{list_any-found, list_any-at}
+use Rattle.step_buffers.proofs.Common.{Step, act_ids, act_sends, step_at, IsWellFormed, step_at_within, list_any-found, list_any-at, Setup, IsSettled, state_after-settled}
 use Rattle.step_buffers.specs.HeardTables.{passed, round_at, numbers, is_sent_in, hears_at, heard_table}
-use Rattle.step_trace.specs.Configurations.{Setup}
 use Rattle.round_model.specs.RoundStates.{state_after}
-use Rattle.round_model.proofs.SettledStates.{IsSettled, state_after-settled}
 use Rattle.step_buffers.proofs.StepPrefixes.{step_at-prefix, passed-append, passed-before, round_at-prefix, round_at-past}
 
 -- step k is one that passes a test
@@ -211,9 +205,7 @@ pub heard_table-sender : (steps : List Step) (p rounds q : ℕ) → heard_table 
     → rounds ≤ passed steps q
 heard_table-sender steps p rounds q h =
     let is = IsHeard-from_table steps p (suc rounds) q h in
-    let sent = is.sent.round in
-    let grown = passed-before steps q is.message in
-    omega arith
+    omega (arith, passed-before steps q is.message, is.sent.round)
 
 -- the nodes of the rounds that their processors have passed are settled
 pub passed-settled : (c : Setup) (steps more : List Step) → IsWellFormed c steps

@@ -5,18 +5,7 @@ use Rattle.std.specs.Option.{option_map_or}
 use Rattle.std.proofs.Math.Bool.{or-true}
 use Rattle.std.proofs.lemmas.Option.{same_Some}
 use Rattle.std.proofs.lemmas.List.{length-append}
-use Rattle.step_trace.specs.declared.steps.Act.TheVariants.{Send}
-use Rattle.step_trace.specs.declared.steps.Step.{Step}
-use Rattle.step_trace.specs.Configurations.{Setup}
-use Rattle.step_trace.specs.Steps.{act_ids, act_takes, act_dest}
-use Rattle.step_trace.specs.Traces.{IsWellFormed}
-use Rattle.step_trace.specs.PushRefusals.{is_taken}
-use Rattle.step_trace.proofs.StepPositions.{step_at_within, step_at-push_cases, act_takes-from_Contains, taken_from_at, taken_at-from_is_taken}
-use Rattle.step_buffers.specs.declared.letters.Letter.{Letter}
-use Rattle.step_buffers.specs.HeardTables.{passed, round_at}
-use Rattle.step_buffers.specs.Runs.{IsSend}
-use Rattle.step_buffers.specs.Letters.{letter_at, round_of}
-use Rattle.step_buffers.specs.Worlds.{IsKept, IsLetter, AreLetters, IsEntry, IsInbox}
+use Rattle.step_buffers.proofs.Common.{Send, Step, Setup, act_ids, act_takes, act_dest, IsWellFormed, is_taken, step_at_within, step_at-push_cases, act_takes-from_Contains, taken_from_at, taken_at-from_is_taken, Letter, passed, round_at, IsSend, letter_at, round_of, IsKept, IsLetter, AreLetters, IsEntry, IsInbox, Fits-from_well_formed, Contains-nil, Contains-filter, Contains-from_filter, Contains-map, Contains-from_map, Entry, ids_of, kept_of, is_ahead, ahead, IsEntered, Held, kept_ids, IsMoved}
 use Rattle.step_buffers.proofs.StepPrefixes.{step_at-prefix, step_at-prefix_old, round_at-prefix}
 use Rattle.step_buffers.proofs.HeardSenders.{IsTakenBy}
 use Rattle.step_buffers.proofs.BufferSteps.{is_taken-push}
@@ -24,9 +13,6 @@ use Rattle.std.specs.List.Sorted.{IsPermutation}
 use Rattle.std.proofs.lemmas.Bool.{le-leb, leb-true}
 use Rattle.std.proofs.lemmas.List.Elements.{All-contains, Contains-append_left, Contains-append_right, Contains-append_cases}
 use Rattle.std.proofs.lemmas.List.Sorted.{IsPermutation-sym, Contains-permutation}
-use Rattle.step_trace.proofs.FittingSteps.{Fits-from_well_formed}
-use Rattle.step_trace.proofs.ListMembers.{Contains-nil, Contains-filter, Contains-from_filter, Contains-map, Contains-from_map}
-use Rattle.step_buffers.specs.Inboxes.{Entry, ids_of, kept_of, is_ahead, ahead, IsEntered, Held, kept_ids, IsMoved}
 
 -- who takes a message is the one to whom it was sent
 pub IsTakenBy-receiver : (c : Setup) (steps : List Step) (q p s : ℕ) → IsWellFormed c steps → IsSend steps q p s → is_taken steps s ≡ true → IsTakenBy steps p s
@@ -61,13 +47,11 @@ module _ (steps : List Step) (x : Step) where
   pub IsKept-from_after : (p r s : ℕ) → IsKeptAfter steps x p r s → IsKept (steps ++ x ∷ []) p r s
   IsKept-from_after p r s is =
       let longer = sent-longer is.sender p s is.sent in
-      let ahead = is.ahead in
-      let same = longer.1 in
       record {
         sender = is.sender;
         sent = longer.0;
         taken = is_taken-push steps x s ∙ how is.how;
-        ahead = omega arith;
+        ahead = omega (arith, longer.1, is.ahead);
       }
     where
       how : (is_taken steps s ≡ true) ⊎ ((x.proc ≡ p) × Contains (act_ids x.act) s) → (is_taken steps s || act_takes x.act s) ≡ true
@@ -83,11 +67,10 @@ module _ (steps : List Step) (x : Step) where
       let e = w.earlier t.place s t.step t.stands t.taken in
       let before = e.0 in
       let same = round_at-prefix steps (x ∷ []) is.sender s (omega arith) in
-      let ahead = is.ahead in
       record {
         sender = is.sender;
-        sent = sym (step_at-prefix steps (x ∷ []) s (omega arith)) ∙ is.sent;
-        ahead = omega arith;
+        sent = sym (step_at-prefix steps (x ∷ []) s (omega (arith, is.ahead))) ∙ is.sent;
+        ahead = omega (arith, is.ahead);
         how = elim (step_at-push_cases steps x t.step t.place t.stands) [
           | inl old ↦ inl (taken_from_at steps t.place s (t.step, old, t.taken))
           | inr new ↦ inr (ap (λ (z : Step). z.proc) new.1 ∙ t.taker, subst (λ (z : Step). Contains (act_ids z.act) s) (sym new.1) t.taken)
@@ -205,8 +188,7 @@ IsInbox-took c steps x r near new_near later new_later letters w are now same en
       | inl before ↦ IsEntry-longer steps x x.proc e (is.entries e before)
       | inr here ↦
           let a = IsKeptAfter-from_kept steps x c x.proc r e.0.1 w (forth e.0.1 (later-kept new_near new_later e d)) in
-          let ahead = a.ahead in
-          let known = round_of-ahead c steps letters are a.sender x.proc e.0.1 a.sent (omega arith) in
+          let known = round_of-ahead c steps letters are a.sender x.proc e.0.1 a.sent (omega (arith, a.ahead)) in
           IsEntry-longer steps x x.proc e (record { sender = a.sender; sent = a.sent; round = sym known ∙ sym here.1 })
     ]
 

@@ -3,25 +3,13 @@ use Rattle.std.proofs.Common.{ℕ, zero, suc, ◌≡◌, ◌+◌, ◌≤◌, ◌
 use Rattle.std.proofs.Math.Seq.{get_or-append_seam}
 use Rattle.std.proofs.lemmas.Option.{same_Some, none-some}
 use Rattle.std.proofs.lemmas.List.{length-append, get_or_append_left}
-use Rattle.step_trace.specs.declared.steps.Act.TheVariants.{Send}
-use Rattle.step_trace.specs.declared.steps.Step.{Step}
-use Rattle.step_trace.specs.Configurations.{Setup}
-use Rattle.step_trace.specs.Steps.{act_dest}
-use Rattle.step_trace.specs.Traces.{step_at, IsWellFormed}
-use Rattle.step_trace.proofs.StepPositions.{step_at_within, step_at-push_cases}
+use Rattle.step_buffers.proofs.Common.{Send, Step, Setup, act_dest, step_at, IsWellFormed, step_at_within, step_at-push_cases, Letter, passed, round_at, node_at, IsSend, letter_at, round_of, letter_left, sending, receiving, IsLetter, IsKeptOrPast, AreLetters, is_in}
 use Rattle.lock_phases.specs.NodeFunctions.{out}
-use Rattle.step_buffers.specs.declared.letters.Letter.{Letter}
-use Rattle.step_buffers.specs.HeardTables.{passed, round_at}
-use Rattle.step_buffers.specs.Runs.{node_at, IsSend}
-use Rattle.step_buffers.specs.Letters.{letter_at, round_of, letter_left}
-use Rattle.step_buffers.specs.NextSteps.{sending, receiving}
-use Rattle.step_buffers.specs.Worlds.{IsLetter, IsKeptOrPast, AreLetters}
 use Rattle.step_buffers.proofs.StepPrefixes.{round_at-prefix, passed-append}
 use Rattle.step_buffers.proofs.GrownNodes.{body_of-prefix, body_of-now, before-now}
 use Rattle.std.specs.Prelude.{Contains, nat_lt}
 use Rattle.std.specs.Option.{option_map_or}
 use Rattle.std.proofs.lemmas.Bool.{ltb-true}
-use Rattle.step_buffers.specs.Moves.{is_in}
 use Rattle.step_buffers.proofs.RemovedIds.{Contains-from_is_in}
 
 -- a place before the last one
@@ -58,17 +46,14 @@ AreLetters-push c steps x letters o w are new = record {
         elim (are.messages q to s old) [
           | inl m ↦ inl (m.0, same ∙ m.1, IsLetter-longer c steps x q to s m.0 w within m.2)
           | inr e ↦
-              let past = e.1 in
               let sum = passed-append steps (x ∷ []) to in
-              let round = round_at-prefix steps (x ∷ []) q s (omega arith) in
-              inr (same ∙ e.0, omega arith)
+              let round = round_at-prefix steps (x ∷ []) q s (omega (arith, e.1)) in
+              inr (same ∙ e.0, omega (arith, e.1))
         ]
     go q to s (inr last) =
         let m = new.each q to last.1 in
-        let place = last.0 in
-        let places = are.places in
-        let e : suc (length steps) ≡ s = omega arith in
-        let f : suc (length letters) ≡ s = omega arith in
+        let e : suc (length steps) ≡ s = omega (arith, are.places, last.0) in
+        let f : suc (length letters) ≡ s = omega (arith, are.places, last.0) in
         inl (m.0, subst (λ n. letter_at (letters ++ o ∷ []) n ≡ Some m.0) f (get_or-append_seam letters o [] None ∙ m.1), subst (λ n. IsLetter c (steps ++ x ∷ []) q to n m.0) e m.2)
 
 -- a Send
@@ -150,8 +135,7 @@ AreLetters-released c steps p round ids letters after are now sent places left =
         let other : Step = record { proc = of_p.0; act = Send p } in
         let same : to ≡ p = same_Some to p (ap (λ (z : Step). act_dest z.act) (same_Some step other (sym h ∙ of_p.1))) in
         let round_is : round_of letters s ≡ round_at steps q s = ap round_in m.1 ∙ m.2.round in
-        let past = ltb-true (round_of letters s) round f in
-        let less : round_at steps q s ≤ passed steps p = omega arith in
+        let less : round_at steps q s ≤ passed steps p = omega (arith, ltb-true (round_of letters s) round f) in
         inr (at s true true d f, subst (λ z. round_at steps q s ≤ passed steps z) (sym same) less)
     go q to s h (inl m) true false d f = inl (m.0, at s true false d f ∙ m.1, m.2)
     go q to s h (inl m) false t d f = inl (m.0, at s false t d f ∙ m.1, m.2)

@@ -2,31 +2,16 @@
 use Rattle.std.proofs.Common.{None, ℕ, zero, suc, ◌≡◌, ◌⊎◌, inl, inr, List, [], ◌∷◌, ◌++◌, length, Some, refl, sym, ap, ◌∙◌, subst, arith, ◌≢◌, ◌+◌, ◌-◌, ◌≤◌, get_or, Option, Bool, true, false, ◌==◌, ◌&&◌}
 use Rattle.std.specs.Prelude.{slice_get, slice_set}
 use Rattle.std.proofs.lemmas.Option.{same_Some, none-some, slice_get_read}
-use Rattle.step_trace.specs.declared.steps.Act.TheVariants.{Send}
-use Rattle.step_trace.specs.declared.steps.Step.{Step}
-use Rattle.step_trace.specs.Configurations.{Setup, IsProc}
-use Rattle.step_trace.specs.Traces.{step_at, Recorded, IsWellFormed}
-use Rattle.step_trace.proofs.StepPositions.{step_at_within, slice_get-push_cases}
-use Rattle.lock_phases.specs.Nodes.{opening, State}
-use Rattle.round_model.specs.RoundStates.{initial_value}
-use Rattle.round_model.proofs.RoundEquations.{state_after-opening}
+use Rattle.step_buffers.proofs.Common.{Send, Step, Setup, IsProc, step_at, Recorded, IsWellFormed, step_at_within, slice_get-push_cases, opening, State, initial_value, state_after-opening, node_at, IsRun, IsProcessor, AreProcessors, AreLetters, Serves, IsInbox, IsPlaceOf, IsStanding, AreEach, IsPacedRun, IsWorld, IsMoved, act_sends, Letter, buffer, next_send, sending, receiving, IsGrown}
 use Rattle.step_buffers.specs.declared.processors.Processor.{Processor}
 use Rattle.step_buffers.specs.HeardTables.{heard_table, act_ends, passed}
-use Rattle.step_buffers.specs.Runs.{node_at, IsRun}
-use Rattle.step_buffers.specs.Worlds.{IsProcessor, AreProcessors, AreLetters, Serves, IsInbox, IsPlaceOf, IsStanding, AreEach, IsPacedRun, IsWorld}
 use Rattle.step_buffers.proofs.DecidedRounds.{IsDecidedSince-opening, IsDecidedSince-stays, IsDecidedSince-ended}
 use Rattle.step_buffers.proofs.KeptInboxes.{IsInbox-opening, IsInbox-moved, IsInbox-stays}
 use Rattle.step_buffers.proofs.NextSends.{next_send-opening, IsProc-next_send, next_send-ended, next_send-stays, next_send-sent}
-use Rattle.step_buffers.specs.Inboxes.{IsMoved}
 use Rattle.std.proofs.Math.Bool.{and-false}
 use Rattle.std.proofs.lemmas.Bool.{ne_eqb}
 use Rattle.std.proofs.lemmas.List.{length-set}
-use Rattle.step_trace.specs.Steps.{act_sends}
-use Rattle.step_buffers.specs.declared.letters.Letter.{Letter}
 use Rattle.step_buffers.specs.Queues.{Queue}
-use Rattle.step_buffers.specs.Buffers.{buffer}
-use Rattle.step_buffers.specs.Moves.{next_send}
-use Rattle.step_buffers.specs.NextSteps.{sending, receiving, IsGrown}
 use Rattle.step_buffers.proofs.StepPrefixes.{IsWellFormed-prefix}
 use Rattle.step_buffers.proofs.GrownNodes.{passed-ends, passed-stays, node_at-stays}
 use Rattle.step_buffers.proofs.BufferSteps.{buffer-sent_to, buffer-sent_elsewhere, buffer-received_elsewhere}

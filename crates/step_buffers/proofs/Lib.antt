@@ -1,3 +1,4 @@
+pub mod Common
 pub mod StepPrefixes
 pub mod HeardSenders
 pub mod GrownNodes

@@ -2,13 +2,7 @@
 use Rattle.std.proofs.Common.{ℕ, ◌≡◌, ◌<◌, ◌≤◌, ◌⊎◌, inl, inr, List, Option, refl, sym, ap, ◌∙◌, arith}
 use Rattle.std.specs.Option.{option_map_or}
 use Rattle.std.proofs.lemmas.Bool.{cases_lt, lt-ltb, le-ltb}
-use Rattle.step_trace.specs.declared.steps.Step.{Step}
-use Rattle.step_trace.specs.Configurations.{Setup}
-use Rattle.step_buffers.specs.declared.letters.Letter.{Letter}
-use Rattle.step_buffers.specs.HeardTables.{passed, round_at}
-use Rattle.step_buffers.specs.Runs.{IsSend}
-use Rattle.step_buffers.specs.Letters.{round_of}
-use Rattle.step_buffers.specs.Worlds.{AreLetters}
+use Rattle.step_buffers.proofs.Common.{Step, Setup, Letter, passed, round_at, IsSend, round_of, AreLetters}
 use Rattle.step_buffers.proofs.KeptInboxes.{round_of-ahead, round_of-known}
 use Rattle.step_buffers.specs.Origins.{sender_of, round_ahead}
 

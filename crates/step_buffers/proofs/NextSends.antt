@@ -6,33 +6,16 @@ use Rattle.std.specs.Prelude.{slice_get, filter, find, nat_lt, is_some, Contains
 use Rattle.std.specs.List.Sorted.{IsStrictlyIncreasing}
 use Rattle.std.proofs.lemmas.Option.{same_Some, none-some, slice_get_within, get_or_from_slice_get}
 use Rattle.std.proofs.lemmas.Bool.{lt-ltb, le-ltb, cases_lt, and_parts, ne_eqb, false_from_ne_true, cases_eq}
-use Rattle.step_trace.specs.Configurations.{Setup, IsProc}
-use Rattle.step_trace.proofs.ListMembers.{Contains-from_filter, Contains-head, Contains-rest, rising-tail, rising-first, Contains-nil}
-use Rattle.lock_phases.specs.Nodes.{State}
+use Rattle.step_buffers.proofs.Common.{Setup, IsProc, Contains-from_filter, Contains-head, Contains-rest, rising-tail, rising-first, Contains-nil, State, processors, IsStrictlyIncreasing-range_with_len, destinations, destination_after, node_at, sent_before, Body, MAX_STEPS, Step, act_sends, IsWellFormed, refusal, step_at_last, step_at_within, none_from_Fits, found, act_ends, passed, round_at, is_sent_in, next_send, sending}
 use Rattle.lock_phases.specs.NodeFunctions.{out}
-use Rattle.round_model.specs.RoundStates.{processors}
-use Rattle.round_model.proofs.ProcessorRanges.{IsStrictlyIncreasing-range_with_len}
-use Rattle.step_buffers.specs.Runs.{destinations, destination_after, node_at, sent_before}
 use Rattle.std.specs.List.{range_with_len}
-use Rattle.lock_phases.specs.declared.bodies.Body.{Body}
 use Rattle.lock_phases.specs.declared.bodies.Kind.TheVariants.{Ack}
 use Rattle.lock_phases.specs.Rounds.{phase_of, part_of, owner, Listing, Locking, Acknowledging, Releasing}
 use Rattle.lock_phases.specs.Hearing.{with_proper}
 use Rattle.lock_phases.proofs.RoundLaws.{part_of-cases, part_at-listing, part_at-locking, part_at-acknowledging, part_at-releasing, out-in}
 use Rattle.std.proofs.Math.Bool.{and-false}
 use Rattle.std.proofs.lemmas.List.{length-append}
-use Rattle.step_trace.specs.declared.traces.TheConstants.{MAX_STEPS}
-use Rattle.step_trace.specs.declared.steps.Step.{Step}
-use Rattle.step_trace.specs.Steps.{act_sends}
-use Rattle.step_trace.specs.Traces.{IsWellFormed}
-use Rattle.step_trace.specs.PushRefusals.{refusal}
-use Rattle.step_trace.proofs.StepPositions.{step_at_last, step_at_within}
-use Rattle.step_trace.proofs.FittingSteps.{none_from_Fits}
-use Rattle.step_trace.proofs.NamedReasons.{found}
 use Rattle.round_model.proofs.HeardMessages.{IsProc-from_processors}
-use Rattle.step_buffers.specs.HeardTables.{act_ends, passed, round_at, is_sent_in}
-use Rattle.step_buffers.specs.Moves.{next_send}
-use Rattle.step_buffers.specs.NextSteps.{sending}
 use Rattle.step_buffers.proofs.StepPrefixes.{before-prefix, passed-before, round_at-prefix}
 use Rattle.step_buffers.proofs.HeardSenders.{IsSentIn-from_test}
 use Rattle.step_buffers.proofs.GrownNodes.{count_by-more, sent_before-prefix, passed-ends, passed-stays, node_at-stays, before-now, next_destination-now}
@@ -68,8 +51,7 @@ after-filtered test (x ∷ xs) last k rise h = go (test x) k (after-filtered tes
     later : (j : ℕ) → slice_get (filter test xs) j ≡ Some last → x ≤ last
     later j e =
         let member = (Contains-from_filter test xs last (j, slice_get_within (filter test xs) j last e, get_or_from_slice_get (filter test xs) j last last e)).0 in
-        let l = rising-first x xs rise last member in
-        omega arith
+        omega (arith, rising-first x xs rise last member)
 
     go : (b : Bool) (j : ℕ) → ((j : ℕ) → IsStrictlyIncreasing xs → slice_get (filter test xs) j ≡ Some last → slice_get (filter test xs) (suc j) ≡ find (λ y. nat_lt last y && test y) xs)
         → slice_get (cond b (x ∷ filter test xs) (filter test xs)) j ≡ Some last
@@ -192,10 +174,8 @@ refusal-send c steps p to room is due = none_from_Fits c steps (sending p to) (r
 count_by-none : (test : ℕ → Bool) (n : ℕ) → ((k : ℕ) → test k ≡ false) → count_by test (range_with_len 1 n) ≡ 0
 count_by-none test zero none = refl
 count_by-none test (suc n) none =
-    let rest = count_by-none test n none in
     let last : cond {A = ℕ} (test (suc n)) 1 0 ≡ 0 = ap (λ b. cond {A = ℕ} b 1 0) (none (suc n)) in
-    let more = count_by-more test n in
-    omega arith
+    omega (arith, count_by-more test n, count_by-none test n none)
 
 -- above 0 is no bound on the numbers from 1 on
 find-above_zero : (test : ℕ → Bool) (a n : ℕ) → 1 ≤ a → find (λ y. nat_lt 0 y && test y) (range_with_len a n) ≡ find test (range_with_len a n)
@@ -255,10 +235,7 @@ module _ (steps : List Step) (x : Step) where
           let high = b.1 in
           let long : length (steps ++ x ∷ []) ≡ length steps + 1 = length-append steps (x ∷ []) in
           let same : round_at (steps ++ x ∷ []) x.proc s ≡ round_at steps x.proc s = round_at-prefix steps (x ∷ []) x.proc s (omega arith) in
-          let less = passed-before steps x.proc s in
-          let all = passed-ends steps x ends in
-          let round = is.round in
-          omega arith
+          omega (arith, is.round, passed-ends steps x ends, passed-before steps x.proc s)
 
   -- after the end of its round
   pub next_send-ended : (c : Setup) → act_ends x.act ≡ true

@@ -1,28 +1,14 @@
 -- What a Receive takes out of a buffer, if nothing is against it: ids that rise, of messages that wait. And the
 -- message that it is refused for.
 use Rattle.std.proofs.Common.{ℕ, zero, suc, ◌≡◌, ◌<◌, List, [], ◌∷◌, length, take, Option, Some, None, Bool, true, false, not, cond, ◌&&◌, inl, inr, refl, subst, arith}
-use Rattle.step_trace.proofs.Refusals.{find_all, is_rising-true}
+use Rattle.step_buffers.proofs.Common.{find_all, is_rising-true, MAX_STEPS, Receive, Step, Setup, IsProc, is_proc, is_rising, refusal, IsLeastFailing, none_from_Fits, StepError, Full, BadProc, NothingToSend, StillSending, IdsNotRising, NotInBuffer, Take, All, Nothing, Oldest, These, IsDue, buffer, is_in, taken_ids, take_refusal, IsStepRefusal, named_ids, next_send, move_refusal, step_refusal, found, failing}
 use Rattle.std.specs.Prelude.{Contains, find, nat_lt, is_some, option_map, is_none}
 use Rattle.std.specs.List.Sorted.{IsStrictlyIncreasing}
 use Rattle.std.proofs.lemmas.Bool.{not-false}
 use Rattle.std.proofs.lemmas.Option.{none-some, same_Some}
-use Rattle.step_trace.specs.declared.traces.TheConstants.{MAX_STEPS}
-use Rattle.step_trace.specs.declared.steps.Act.TheVariants.{Receive}
-use Rattle.step_trace.specs.declared.steps.Step.{Step}
-use Rattle.step_trace.specs.Configurations.{Setup, IsProc, is_proc}
-use Rattle.step_trace.specs.PushRefusals.{is_rising, refusal, IsLeastFailing}
-use Rattle.step_trace.proofs.FittingSteps.{none_from_Fits}
 use Rattle.step_trace.proofs.ListMembers.{Contains-nil, Contains-head, Contains-rest, Contains-cons_cases}
-use Rattle.step_buffers.specs.declared.moves.StepError.{StepError}
-use Rattle.step_buffers.specs.declared.moves.StepError.TheVariants.{Full, BadProc, NothingToSend, StillSending, IdsNotRising, NotInBuffer}
-use Rattle.step_buffers.specs.declared.moves.Take.{Take}
-use Rattle.step_buffers.specs.declared.moves.Take.TheVariants.{All, Nothing, Oldest, These}
-use Rattle.step_buffers.specs.Runs.{IsDue}
-use Rattle.step_buffers.specs.Buffers.{buffer}
-use Rattle.step_buffers.specs.Moves.{is_in, taken_ids, take_refusal, IsStepRefusal, named_ids, next_send, move_refusal, step_refusal}
 use Rattle.step_buffers.proofs.RemovedIds.{rising-take, Contains-from_is_in}
 use Rattle.step_buffers.proofs.BufferSteps.{buffer-rises, IsWaiting-from_buffer}
-use Rattle.step_trace.proofs.NamedReasons.{found, failing}
 use Rattle.step_buffers.specs.declared.moves.Move.{Move}
 use Rattle.step_buffers.specs.declared.moves.Move.TheVariants.{Send as SendMove, Receive as ReceiveMove}
 

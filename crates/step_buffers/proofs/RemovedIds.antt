@@ -6,9 +6,8 @@ use Rattle.std.specs.Result.{is_ok}
 use Rattle.std.specs.List.Sorted.{IsStrictlyIncreasing}
 use Rattle.std.proofs.lemmas.Bool.{cases_lt, eqb-true, ne_eqb, false_from_ne_true}
 use Rattle.std.proofs.lemmas.List.{length-take, length-drop, get_or-take, get_or-drop, get_or_default, length-append, length-take-le, take-append-drop, append-nil, drop_at, drop_more, take_more, append_assoc, take-append-le, drop-append-le, drop-take, drop-drop}
-use Rattle.step_trace.proofs.ListMembers.{list_any-found, list_any-at, Contains-head, Contains-rest}
+use Rattle.step_buffers.proofs.Common.{list_any-found, list_any-at, Contains-head, Contains-rest, is_in}
 use Rattle.round_model.proofs.RisingLists.{rising-later}
-use Rattle.step_buffers.specs.Moves.{is_in}
 use lib.Seq.{paste}
 use Rattle.std.proofs.Math.Bool.{or-true, or-false}
 use Rattle.std.proofs.Math.Seq.{take-append-add, drop-append-add, drop-append_seam}
@@ -228,9 +227,7 @@ length-written xs part at m within long =
     let one = length-append (take at xs) (part ++ drop m (drop at xs)) in
     let two = length-append part (drop m (drop at xs)) in
     let three = length-take-le at xs (omega arith) in
-    let four = length-drop m (drop at xs) in
-    let five = length-drop at xs in
-    omega arith
+    omega (arith, length-drop at xs, length-drop m (drop at xs))
 
 -- what a list without its last elements has after its first ones
 pub inner-part : (xs : List ℕ) (start n back : ℕ) → start + n ≤ length xs → back ≤ length (drop n (drop start xs))
@@ -239,8 +236,7 @@ pub inner-part : (xs : List ℕ) (start n back : ℕ) → start + n ≤ length x
 inner-part xs start n back first last =
     let rest = drop n (drop start xs) in
     let long = length-drop start xs in
-    let long-2 = length-drop n (drop start xs) in
-    let e : length xs - back ≡ start + n + (length rest - back) = omega arith in
+    let e : length xs - back ≡ start + n + (length rest - back) = omega (arith, length-drop n (drop start xs)) in
     ap (λ k. drop (start + n) (take k xs)) e
     ∙ drop-take (start + n) (length rest - back) xs
     ∙ ap (take (length rest - back)) (sym (drop-drop n start xs))

@@ -5,22 +5,9 @@ use Rattle.step_buffers.proofs.HeardSenders.{Contains-numbers}
 use Rattle.std.specs.Prelude.{Contains, find, is_some, option_map, IfOk, OnOk, slice_get, IfErr}
 use Rattle.std.specs.declared.alloc.AllocError.{AllocError}
 use Rattle.std.proofs.lemmas.Bool.{lt-ltb, not_from_true}
-use Rattle.step_trace.specs.declared.steps.Act.TheVariants.{Send, Receive}
-use Rattle.step_trace.specs.declared.steps.Step.{Step}
-use Rattle.step_trace.specs.Configurations.{Setup, is_proc}
-use Rattle.step_trace.specs.Traces.{IsSentTo, step_at}
-use Rattle.step_trace.specs.PushRefusals.{is_rising, is_taken}
-use Rattle.step_trace.proofs.StepPositions.{step_at_last, step_at_within}
-use Rattle.step_trace.proofs.FittingSteps.{Fits-from_well_formed, is_proc-true, is_rising-from_increasing, find-none}
-use Rattle.step_trace.proofs.ListMembers.{Contains-filter}
-use Rattle.step_buffers.specs.declared.moves.Take.{Take}
+use Rattle.step_buffers.proofs.Common.{Send, Receive, Step, Setup, is_proc, IsSentTo, step_at, is_rising, is_taken, step_at_last, step_at_within, Fits-from_well_formed, is_proc-true, is_rising-from_increasing, find-none, Contains-filter, Take, StepError, IdsNotRising, NotInBuffer, numbers, waits_for, buffer, next_send, is_in, take_refusal, step_refusal, IsStepRefusal, due_for}
 use Rattle.step_buffers.specs.declared.moves.Move.TheVariants as move
-use Rattle.step_buffers.specs.declared.moves.StepError.{StepError}
-use Rattle.step_buffers.specs.declared.moves.StepError.TheVariants.{IdsNotRising, NotInBuffer}
-use Rattle.step_buffers.specs.HeardTables.{numbers}
 use Rattle.step_buffers.specs.Runs.{next_destination, IsDue, IsRun}
-use Rattle.step_buffers.specs.Buffers.{waits_for, buffer}
-use Rattle.step_buffers.specs.Moves.{next_send, is_in, take_refusal, step_refusal, IsStepRefusal}
 use Rattle.step_buffers.proofs.StepPrefixes.{IsWellFormed-prefix, step_at-prefix_old}
 use Rattle.step_buffers.proofs.GrownNodes.{next_destination-prefix, IsRun-prefix, IsRun-push}
 use Rattle.step_buffers.proofs.RemovedIds.{is_in-member}
@@ -28,7 +15,6 @@ use Rattle.std.proofs.lemmas.Option.{none-some, slice_get_within, slice_get_case
 use Rattle.std.proofs.lemmas.List.{length-append, length_push, take_all, take-append-le, take-append-drop}
 use Rattle.std.proofs.Math.Seq.{take-suc}
 use Rattle.step_buffers.specs.declared.dues.Due.{Due}
-use Rattle.step_buffers.specs.Dues.{due_for}
 use Rattle.step_buffers.specs.declared.replays.ReplayError.{ReplayError}
 use Rattle.step_buffers.specs.declared.replays.ReplayError.TheVariants.{NotARun, Memory}
 use Rattle.step_buffers.specs.Replays.{IsReplayRefusal}

@@ -4,12 +4,8 @@ use Rattle.std.specs.Prelude.{cond, ◌==◌, ◌&&◌}
 use Rattle.std.proofs.lemmas.List.{take-append-le, length-append, length_push}
 use Rattle.std.proofs.lemmas.List.Sums.{sum_by-append, sum_by-take-le}
 use Rattle.std.proofs.Math.Seq.{take-append-add}
-use Rattle.step_trace.specs.declared.steps.Step.{Step}
-use Rattle.step_trace.specs.Configurations.{Setup}
-use Rattle.step_trace.specs.Traces.{step_at, IsSentTo, TakesAt, IsWellFormed}
+use Rattle.step_buffers.proofs.Common.{Step, Setup, step_at, IsSentTo, TakesAt, IsWellFormed, step_at_within, step_at_last, act_ends, passed, before, round_at}
 use Rattle.step_trace.proofs.PagePlaces.{slice_get-left}
-use Rattle.step_trace.proofs.StepPositions.{step_at_within, step_at_last}
-use Rattle.step_buffers.specs.HeardTables.{act_ends, passed, before, round_at}
 
 -- a step of a prefix
 pub step_at-prefix : (steps more : List Step) (k : ℕ) → k ≤ length steps → step_at (steps ++ more) k ≡ step_at steps k
@@ -57,9 +53,7 @@ IsWellFormed-prefix c steps more w = record {
   rising = λ k x h. w.rising k x (step_at-prefix_old steps more k x h);
   earlier = λ k s x h t.
       let e = w.earlier k s x (step_at-prefix_old steps more k x h) t in
-      let b = step_at_within steps k x h in
-      let l = e.0 in
-      (l, IsSentTo-prefix steps more s x.proc (omega arith) e.1);
+      (e.0, IsSentTo-prefix steps more s x.proc (omega (arith, e.0, step_at_within steps k x h)) e.1);
   once = λ m n s a b. w.once m n s (TakesAt-prefix steps more m s a) (TakesAt-prefix steps more n s b);
 }
 

@@ -1,8 +1,6 @@
 -- Two small traces, worked: a message that comes late, and one that comes early.
 use Rattle.std.proofs.Common.{ℕ, ◌≡◌, List, [], ◌∷◌, ◌++◌, Some, None, true, false, refl}
-use Rattle.step_trace.specs.declared.steps.Act.TheVariants.{Send, Receive}
-use Rattle.step_trace.specs.declared.steps.Step.{Step}
-use Rattle.step_trace.specs.Configurations.{Setup}
+use Rattle.step_buffers.proofs.Common.{Send, Receive, Step, Setup}
 use Rattle.lock_phases.specs.NodeFunctions.{out, next}
 use Rattle.round_model.specs.RoundStates.{state_after}
 use Rattle.step_buffers.specs.HeardTables.{passed, heard_table}

@@ -2,16 +2,7 @@
 use Rattle.std.proofs.Common.{ℕ, ◌≡◌, ◌+◌, ◌-◌, ◌<◌, ◌≤◌, ◌⊎◌, inl, inr, List, length, get_or, set, Option, Some, None, Bool, true, false, cond, refl, arith}
 use Rattle.std.specs.Prelude.{nat_le}
 use Rattle.std.proofs.lemmas.Bool.{cases_eq, cases_lt, leb-true, leb-false}
-use Rattle.step_trace.specs.declared.rows.Gap.{Gap}
-use Rattle.step_trace.specs.Processors.{IsWithin}
-use Rattle.step_trace.specs.Traces.{Recorded}
-use Rattle.step_trace.specs.Bounds.{PhiHolds, IsPhi}
-use Rattle.step_trace.specs.Witnesses.{IsGap, NamesGap}
-use Rattle.suffix_staircase.specs.declared.levels.Level.{Level}
-use Rattle.suffix_staircase.specs.NextSteps.{AreNextSteps, IsLatest}
-use Rattle.suffix_staircase.specs.Analysis.{KnowsGaps, with_gap}
-use Rattle.step_trace.proofs.BoundLaws.{GapRefutes-sound, IsNamedGap-refutes}
-use Rattle.step_trace.proofs.BoundDecisions.{PhiHolds-unrefuted}
+use Rattle.suffix_staircase.proofs.Common.{Gap, IsWithin, Recorded, PhiHolds, IsPhi, IsGap, NamesGap, Level, AreNextSteps, IsLatest, KnowsGaps, with_gap, GapRefutes-sound, IsNamedGap-refutes, PhiHolds-unrefuted}
 use Rattle.suffix_staircase.proofs.LongestGaps.{IsLongest-from_latest}
 
 -- a bound with its named gap is positive
@@ -33,8 +24,7 @@ IsPhi-from_gaps set trace g f o start k =
     let positive = phi_positive set trace g f o k.named in
     record {
       positive = positive;
-      holds = PhiHolds-unrefuted set trace g f start positive (λ w r.
-          omega (arith, k.shorter w r.gap r.from, r.long));
+      holds = PhiHolds-unrefuted set trace g f start positive (λ w r. omega (arith, k.shorter w r.gap r.from, r.long));
       least = phi_least set trace g f o k.named;
     }
 

@@ -10,19 +10,13 @@ use Rattle.std.proofs.lemmas.List.{length-replicate, length-reverse, get_or-reve
 use Rattle.std.proofs.lemmas.List.Sorted.{IsNonDecreasingBy-push}
 use Rattle.std.proofs.lemmas.Option.{slice_get-get_or}
 use Rattle.step_trace.proofs.PagePlaces.{slice_get-right}
-use Rattle.suffix_staircase.specs.declared.levels.Level.{Level}
-use Rattle.suffix_staircase.specs.declared.stretches.Stretch.{Stretch}
-use Rattle.suffix_staircase.specs.Levels.{CanStandBefore, StandsBefore, begins, repeated, same_bounds}
-use Rattle.suffix_staircase.specs.Stretches.{height, levels_in, AreInOrder, levels_of, AreStretches}
+use Rattle.suffix_staircase.proofs.Common.{Level, Stretch, CanStandBefore, StandsBefore, begins, repeated, same_bounds, height, levels_in, AreInOrder, levels_of, AreStretches}
 
 -- there are as many levels as the first stretch says
 pub length-levels_in : (stretches : List Stretch) → AreInOrder stretches
     → length (levels_in stretches) ≡ height stretches
 length-levels_in [] a = refl
-length-levels_in (s ∷ rest) a =
-    let low = a.0 in
-    let more = length-levels_in rest a.2 in
-    simp (length-append, length-replicate) (omega arith)
+length-levels_in (s ∷ rest) a = simp (length-append, length-replicate) (omega (arith, length-levels_in rest a.2, a.0))
 
 -- the first stretch is the one that is kept last
 pub kept_last : (kept : List Stretch) → slice_get kept (length kept - 1) ≡ slice_get (reverse kept) 0
@@ -148,16 +142,14 @@ pub reach_within : (stretches : List Stretch) (k : ℕ) (d : Stretch) → AreInO
 reach_within [] k d a h = absurd (omega arith)
 reach_within (s ∷ rest) zero d a h = let low = a.0 in (omega arith, omega arith)
 reach_within (s ∷ rest) (suc k) d a h =
-    let low = a.0 in
-    let more = reach_within rest k d a.2 (omega arith) in
-    (more.0, let most = more.1 in omega arith)
+    let more = reach_within rest k d a.2 (omega (arith, a.0)) in
+    (more.0, let most = more.1 in omega (arith, a.0))
 
 pub kept_within : (kept : List Stretch) (i : ℕ) (d : Stretch) → AreStretches kept → i < length kept
     → let reach = (get_or kept (length kept - 1 - i) d).reach in (1 ≤ reach) × (reach ≤ length (levels_of kept))
 kept_within kept i d a h =
-    let long = length-reverse kept in
     rw (← get_or-reverse kept i d h, length-levels_in (reverse kept) a)
-    (reach_within (reverse kept) i d a (omega arith))
+    (reach_within (reverse kept) i d a (omega (arith, length-reverse kept)))
 
 -- in the kept order, they reach further and further
 reaches-rise : (stretches : List Stretch) → AreInOrder stretches → IsNonDecreasingBy (λ s. s.reach) (reverse stretches)

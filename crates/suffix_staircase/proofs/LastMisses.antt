@@ -2,16 +2,7 @@
 use Rattle.std.proofs.Common.{ℕ, ◌≡◌, ◌+◌, ◌<◌, ◌≤◌, ◌==◌, inl, inr, List, length, get_or, set, Some, Bool, true, false, cond, refl, ap, subst, ◌∙◌, arith}
 use Rattle.std.specs.Prelude.{Contains}
 use Rattle.std.proofs.lemmas.Bool.{cases_lt, eqb-true, eqb-false}
-use Rattle.step_trace.specs.declared.steps.Act.{Act}
-use Rattle.step_trace.specs.declared.steps.Act.TheVariants.{Send, Receive}
-use Rattle.step_trace.specs.declared.steps.Step.{Step}
-use Rattle.step_trace.specs.Configurations.{Setup}
-use Rattle.step_trace.specs.Steps.{act_ids}
-use Rattle.step_trace.specs.Traces.{Recorded, step_at, TakesAt, IsReceiveOf, IsWellFormed}
-use Rattle.step_trace.specs.Bounds.{IsMessage}
-use Rattle.step_trace.proofs.StepPositions.{step_at_within}
-use Rattle.suffix_staircase.specs.declared.receives.Receives.{Receives}
-use Rattle.suffix_staircase.specs.Receives.{last_missed, IsLastReceive, KnowsReceives, IsDeliveredByNumber, IsMissByNumber, IsLastMissByNumber}
+use Rattle.suffix_staircase.proofs.Common.{Act, Send, Receive, Step, Setup, act_ids, Recorded, step_at, TakesAt, IsReceiveOf, IsWellFormed, IsMessage, step_at_within, Receives, last_missed, IsLastReceive, KnowsReceives, IsDeliveredByNumber, IsMissByNumber, IsLastMissByNumber}
 use Rattle.suffix_staircase.proofs.ReceivesLowered.{same_step}
 
 -- who takes a message is its receiver

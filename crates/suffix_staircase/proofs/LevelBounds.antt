@@ -2,14 +2,8 @@
 use Rattle.std.proofs.Common.{ℕ, ◌≡◌, ◌+◌, ◌-◌, ◌<◌, ◌≤◌, List, [], ◌∷◌, length, get_or, Some, None, refl, sym, subst, ◌∙◌, suc, zero, arith}
 use Rattle.std.specs.Prelude.{slice_get}
 use Rattle.std.proofs.lemmas.Option.{same_Some, none-some}
-use Rattle.step_trace.specs.Processors.{IsWithin}
-use Rattle.step_trace.specs.Ticks.{tick_of, IsTimed}
-use Rattle.step_trace.specs.Traces.{Recorded}
-use Rattle.step_trace.proofs.StepPositions.{step_at_within}
+use Rattle.suffix_staircase.proofs.Common.{IsWithin, tick_of, IsTimed, Recorded, step_at_within, Level, StandsBefore, CanStandBefore, KnowsMisses, KnowsMissesAfter, KnowsGaps, IsLevelAt, AreLevels, AreLevelsFrom, KnowsStepsAfter, KnowsTicksFrom, AreIdleUpTo, with_gap}
 use Rattle.suffix_staircase.specs.declared.backward_pass.Pass.{Pass}
-use Rattle.suffix_staircase.specs.declared.levels.Level.{Level}
-use Rattle.suffix_staircase.specs.Levels.{StandsBefore, CanStandBefore}
-use Rattle.suffix_staircase.specs.Analysis.{KnowsMisses, KnowsMissesAfter, KnowsGaps, IsLevelAt, AreLevels, AreLevelsFrom, KnowsStepsAfter, KnowsTicksFrom, AreIdleUpTo, with_gap}
 use Rattle.suffix_staircase.proofs.MissBounds.{IsDelta-from_misses}
 use Rattle.suffix_staircase.proofs.GapBounds.{GapsLowered, GapsLowered-with_gap, IsPhi-from_gaps}
 use Rattle.suffix_staircase.proofs.TickBorders.{IsBorder-between, KnowsMisses-at_border, AreNextSteps-at_border}
@@ -69,13 +63,9 @@ StandsBefore-itself level = record { delta = omega arith; phi = omega arith; mis
 pub CanStandBefore-through : (a b : Level) (levels : List Level) → StandsBefore a b → CanStandBefore b levels → CanStandBefore a levels
 CanStandBefore-through a b [] h k = tt
 CanStandBefore-through a b (c ∷ rest) h k =
-    let dh = h.delta in
-    let dk = k.delta in
-    let ph = h.phi in
-    let pk = k.phi in
     record {
-      delta = omega arith;
-      phi = omega arith;
+      delta = omega (arith, k.delta, h.delta);
+      phi = omega (arith, k.phi, h.phi);
       miss = λ e. h.miss (omega (arith, e)) ∙ k.miss (omega (arith, e));
       gap = λ e. h.gap (omega (arith, e)) ∙ k.gap (omega (arith, e));
     }

@@ -1,3 +1,4 @@
+pub mod Common
 pub mod KeptStretches
 pub mod RepeatedLevels
 pub mod RowLaws

@@ -2,11 +2,7 @@
 use Rattle.std.proofs.Common.{ℕ, ◌≡◌, ◌+◌, ◌-◌, ◌<◌, ◌≤◌, inl, inr, List, length, get_or, set, IsTrue, ◌&&◌, suc, zero, arith}
 use Rattle.std.specs.Prelude.{nat_le, nat_lt}
 use Rattle.std.proofs.lemmas.Bool.{cases_lt, leb-true, ltb-true, and_parts}
-use Rattle.step_trace.specs.declared.rows.Gap.{Gap}
-use Rattle.step_trace.specs.Processors.{has_proc, IsWithin}
-use Rattle.step_trace.specs.Traces.{Recorded}
-use Rattle.step_trace.specs.Witnesses.{IsGap}
-use Rattle.suffix_staircase.specs.NextSteps.{AreNextSteps, IsLatest}
+use Rattle.suffix_staircase.proofs.Common.{Gap, has_proc, IsWithin, Recorded, IsGap, AreNextSteps, IsLatest}
 use Rattle.step_trace.specs.declared.processors.TheConstants.{MAX_MEMBER}
 
 -- members are numbered from 1 to MAX_MEMBER

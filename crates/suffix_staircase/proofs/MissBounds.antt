@@ -2,16 +2,7 @@
 use Rattle.std.proofs.Common.{ℕ, ◌≡◌, ◌+◌, ◌-◌, ◌<◌, ◌≤◌, inl, inr, Option, Some, None, Bool, true, false, cond, refl, ap, subst, arith}
 use Rattle.std.specs.Prelude.{nat_le}
 use Rattle.std.proofs.lemmas.Bool.{cases_eq, cases_lt, leb-true, leb-false}
-use Rattle.step_trace.specs.declared.rows.Miss.{Miss}
-use Rattle.step_trace.specs.Bounds.{DeltaHolds, IsDelta}
-use Rattle.step_trace.specs.Ticks.{tick_of}
-use Rattle.step_trace.specs.Traces.{Recorded}
-use Rattle.step_trace.specs.Witnesses.{IsMiss, NamesMiss}
-use Rattle.suffix_staircase.specs.declared.levels.Level.{Level}
-use Rattle.suffix_staircase.specs.Levels.{StandsBefore}
-use Rattle.suffix_staircase.specs.Analysis.{KnowsMisses, NamesAfter, KnowsMissesAfter, with_miss}
-use Rattle.step_trace.proofs.BoundLaws.{MissRefutes-sound, IsNamedMiss-refutes}
-use Rattle.step_trace.proofs.BoundDecisions.{DeltaHolds-unrefuted}
+use Rattle.suffix_staircase.proofs.Common.{Miss, DeltaHolds, IsDelta, tick_of, Recorded, IsMiss, NamesMiss, Level, StandsBefore, KnowsMisses, NamesAfter, KnowsMissesAfter, with_miss, MissRefutes-sound, IsNamedMiss-refutes, DeltaHolds-unrefuted}
 use Rattle.suffix_staircase.proofs.MissNumbers.{IsLastMissOf}
 
 -- a bound with its named miss is positive
@@ -33,8 +24,7 @@ IsDelta-from_misses set t g d o k =
     let positive = delta_positive set t g d o k.named in
     record {
       positive = positive;
-      holds = DeltaHolds-unrefuted set t g d positive (λ m r.
-          omega (arith, k.shorter m r.miss r.from, r.long));
+      holds = DeltaHolds-unrefuted set t g d positive (λ m r. omega (arith, k.shorter m r.miss r.from, r.long));
       least = delta_least set t g d o k.named;
     }
 

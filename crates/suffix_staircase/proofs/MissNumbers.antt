@@ -3,16 +3,7 @@ use Rattle.std.proofs.Common.{ℕ, ◌≡◌, ◌<◌, ◌≤◌, inl, inr, leng
 use Rattle.std.specs.Prelude.{◌↔◌}
 use Rattle.std.proofs.lemmas.Bool.{cases_lt}
 use Rattle.std.proofs.lemmas.Option.{same_Some}
-use Rattle.step_trace.specs.declared.steps.Act.TheVariants.{Send}
-use Rattle.step_trace.specs.declared.steps.Step.{Step}
-use Rattle.step_trace.specs.declared.rows.Miss.{Miss}
-use Rattle.step_trace.specs.Bounds.{IsDelivered}
-use Rattle.step_trace.specs.Ticks.{tick_of, IsTrace}
-use Rattle.step_trace.specs.Traces.{Recorded, step_at, TakesAt, IsReceiveOf}
-use Rattle.step_trace.specs.Witnesses.{IsMiss}
-use Rattle.step_trace.proofs.StepPositions.{step_at_within}
-use Rattle.step_trace.proofs.TickOrder.{ticks_rise, number_below, own_ticks_rise}
-use Rattle.suffix_staircase.specs.Receives.{IsDeliveredByNumber, IsMissByNumber, IsLastMissByNumber}
+use Rattle.suffix_staircase.proofs.Common.{Send, Step, Miss, IsDelivered, tick_of, IsTrace, Recorded, step_at, TakesAt, IsReceiveOf, IsMiss, step_at_within, ticks_rise, number_below, own_ticks_rise, IsDeliveredByNumber, IsMissByNumber, IsLastMissByNumber}
 
 -- Of the Receives that miss message s, r is the last; its tick isn't above that of s if none does.
 pub record IsLastMissOf (set : ℕ) (trace : Recorded) (s r : ℕ) : Type 0 where

@@ -3,13 +3,7 @@ use Rattle.std.proofs.Common.{ℕ, ◌≡◌, ◌+◌, ◌-◌, ◌<◌, ◌≤�
 use Rattle.std.proofs.lemmas.List.{length-set, length-replicate}
 use Rattle.std.proofs.lemmas.Option.{same_Some}
 use Rattle.std.proofs.lemmas.Bool.{cases_eq, cases_lt}
-use Rattle.step_trace.specs.declared.steps.Step.{Step}
-use Rattle.step_trace.specs.Processors.{has_proc}
-use Rattle.step_trace.specs.Ticks.{tick_of, IsTimed}
-use Rattle.step_trace.specs.Traces.{Recorded, step_at}
-use Rattle.step_trace.proofs.StepPositions.{step_at_within}
-use Rattle.step_trace.proofs.TickOrder.{ticks_rise}
-use Rattle.suffix_staircase.specs.NextSteps.{IsNextTick, AreNextTicks, IsLatest}
+use Rattle.suffix_staircase.proofs.Common.{Step, has_proc, tick_of, IsTimed, Recorded, step_at, step_at_within, ticks_rise, IsNextTick, AreNextTicks, IsLatest}
 
 -- going back over a step, its processor gets it as its next step
 IsNextTick-own : (t : Recorded) → IsTimed t → (x : ℕ) (s : Step) → step_at t.steps x ≡ Some s → IsNextTick t s.proc (x - 1) (tick_of t x)

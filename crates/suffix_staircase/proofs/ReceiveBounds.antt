@@ -3,14 +3,7 @@ use Rattle.std.proofs.Common.{ℕ, ◌≡◌, ◌+◌, ◌<◌, ◌≤◌, inl, 
 use Rattle.std.specs.Prelude.{All}
 use Rattle.std.proofs.lemmas.List.{get_or_default}
 use Rattle.std.proofs.lemmas.Bool.{cases_lt}
-use Rattle.step_trace.specs.declared.steps.Act.{Act}
-use Rattle.step_trace.specs.declared.steps.Act.TheVariants.{Send, Receive}
-use Rattle.step_trace.specs.declared.steps.Step.{Step}
-use Rattle.step_trace.specs.Configurations.{Setup}
-use Rattle.step_trace.specs.Traces.{Recorded, step_at, IsSentTo, IsWellFormed}
-use Rattle.step_trace.proofs.StepPositions.{step_at_within}
-use Rattle.suffix_staircase.specs.declared.receives.Receives.{Receives}
-use Rattle.suffix_staircase.specs.Receives.{KnowsReceives}
+use Rattle.suffix_staircase.proofs.Common.{Act, Send, Receive, Step, Setup, Recorded, step_at, IsSentTo, IsWellFormed, step_at_within, Receives, KnowsReceives}
 
 -- a step by its processor and its act
 pub with_act : (steps : List Step) (x : ℕ) (s : Step) (a : Act) → step_at steps x ≡ Some s → s.act ≡ a → step_at steps x ≡ Some (record { proc = s.proc; act = a })
@@ -25,15 +18,13 @@ pub ids_bound : (c : Setup) (steps : List Step) (x p : ℕ) (ids taken : List �
     → length taken ≡ length steps + 1 → All (λ s. s < length taken) ids
 ids_bound c steps x p ids taken ends w h long = λ k d l.
     let earlier = (w.earlier x (get_or ids k d) (record { proc = p; act = Receive ends ids }) h (k, l, get_or_default ids k (get_or ids k d) d l)).0 in
-    let inside = step_at_within steps x _ h in
-    omega (arith, earlier, inside, long)
+    omega (arith, earlier, step_at_within steps x _ h, long)
 
 -- the first Receive of a processor is the number of a step
 pub first_bound : (t : Recorded) (x p : ℕ) (r : Receives) → KnowsReceives t x r → p ≤ t.config.n → get_or r.first.items p 0 < length r.links.items
 first_bound t x p r k l = elim (cases_lt 0 (get_or r.first.items p 0)) [
   | inl some ↦ (let f = (k.first p l).found some in
-      let inside = step_at_within t.steps _ _ f.1.step in
-      omega (arith, inside, k.links_long))
+      omega (arith, step_at_within t.steps _ _ f.1.step, k.links_long))
   | inr none ↦ omega (arith, none, k.links_long)
 ]
 
@@ -41,7 +32,6 @@ first_bound t x p r k l = elim (cases_lt 0 (get_or r.first.items p 0)) [
 pub taker_bound : (t : Recorded) (x s p : ℕ) (r : Receives) → IsSentTo t.steps s p → KnowsReceives t x r → get_or r.links.items s 0 < length r.links.items
 taker_bound t x s p r m k = elim (cases_lt 0 (get_or r.links.items s 0)) [
   | inl some ↦ (let f = (k.taken s p m).found some in
-      let inside = step_at_within t.steps _ _ f.1.1 in
-      omega (arith, inside, k.links_long))
+      omega (arith, step_at_within t.steps _ _ f.1.1, k.links_long))
   | inr none ↦ omega (arith, none, k.links_long)
 ]

@@ -5,13 +5,7 @@ use Rattle.std.specs.List.{list_any}
 use Rattle.std.proofs.lemmas.List.{length-set}
 use Rattle.std.proofs.lemmas.List.Folds.{list_any_more}
 use Rattle.std.proofs.lemmas.Bool.{cases_eq, cases_lt, eqb-true, eqb-false}
-use Rattle.step_trace.specs.declared.steps.Act.TheVariants.{Receive}
-use Rattle.step_trace.specs.declared.steps.Step.{Step}
-use Rattle.step_trace.specs.Steps.{act_ids}
-use Rattle.step_trace.specs.Traces.{Recorded, step_at, IsReceiveOf, IsSentTo, IsWellFormed}
-use Rattle.step_trace.proofs.StepPositions.{step_at_within, Contains-from_takes, act_takes-from_Contains}
-use Rattle.suffix_staircase.specs.declared.receives.Receives.{Receives}
-use Rattle.suffix_staircase.specs.Receives.{IsTaker, IsLastReceive, IsFirstReceive, KnowsReceives, NotesReceive}
+use Rattle.suffix_staircase.proofs.Common.{Receive, Step, act_ids, Recorded, step_at, IsReceiveOf, IsSentTo, IsWellFormed, step_at_within, Contains-from_takes, act_takes-from_Contains, Receives, IsTaker, IsLastReceive, IsFirstReceive, KnowsReceives, NotesReceive}
 use Rattle.suffix_staircase.proofs.ReceivesLowered.{IsLastReceive-lower, IsFirstReceive-lower, IsTaker-lower, same_step, send_is_no_receive}
 
 -- one id more, as at a step of a loop

@@ -4,13 +4,7 @@ use Rattle.std.specs.Prelude.{Contains}
 use Rattle.std.proofs.lemmas.List.{length-replicate}
 use Rattle.std.proofs.lemmas.Option.{same_Some}
 use Rattle.std.proofs.lemmas.Bool.{cases_eq}
-use Rattle.step_trace.specs.declared.steps.Act.TheVariants.{Send}
-use Rattle.step_trace.specs.declared.steps.Step.{Step}
-use Rattle.step_trace.specs.Steps.{act_ids}
-use Rattle.step_trace.specs.Traces.{Recorded, step_at, TakesAt, IsReceiveOf}
-use Rattle.step_trace.proofs.StepPositions.{step_at_within}
-use Rattle.suffix_staircase.specs.declared.receives.Receives.{Receives}
-use Rattle.suffix_staircase.specs.Receives.{IsTaker, IsLastReceive, IsFirstReceive, KnowsReceives}
+use Rattle.suffix_staircase.proofs.Common.{Send, Step, act_ids, Recorded, step_at, TakesAt, IsReceiveOf, step_at_within, Receives, IsTaker, IsLastReceive, IsFirstReceive, KnowsReceives}
 
 -- each place of a list of zeros holds 0
 get_or-zeros : (m k : ℕ) → get_or {A = ℕ} (replicate m 0) k 0 ≡ 0
@@ -66,8 +60,7 @@ send_takes_none : (steps : List Step) (x a b s : ℕ) → step_at steps x ≡ So
 send_takes_none steps x a b s h t =
     let same : record { proc = a; act = Send b } ≡ t.0 = same_Some _ t.0 (sym h ∙ t.1) in
     let none = subst (λ (z : Step). Contains (act_ids z.act) s) (sym same) t.2 in
-    let l = none.1 in
-    omega arith
+    omega (arith, none.1)
 
 -- one number has one step
 pub same_step : (steps : List Step) (x : ℕ) (y z : Step) → step_at steps x ≡ Some y → step_at steps x ≡ Some z → y ≡ z

@@ -1,8 +1,7 @@
 -- A level that is repeated.
 use Rattle.std.proofs.Common.{ℕ, ◌+◌, ◌≤◌, List, [], ◌∷◌, ◌++◌, length, replicate, suc, zero, arith, length-append}
 use Rattle.std.proofs.lemmas.List.{length-replicate}
-use Rattle.suffix_staircase.specs.declared.levels.Level.{Level}
-use Rattle.suffix_staircase.specs.Levels.{IsStaircase, repeated}
+use Rattle.suffix_staircase.proofs.Common.{Level, IsStaircase, repeated}
 use Rattle.suffix_staircase.proofs.LevelBounds.{StandsBefore-itself}
 
 -- levels fall, and are as many more

@@ -6,9 +6,7 @@ use Rattle.std.proofs.lemmas.Bool.{not-true}
 use Rattle.std.proofs.lemmas.List.Elements.{Contains-get_or}
 use Rattle.std.proofs.lemmas.Option.{same_Some, none-some, slice_get_within, slice_get-get_or}
 use Rattle.step_trace.proofs.ListMembers.{Contains-nil, Contains-rest, Contains-map, Contains-from_map, Contains-cons_cases}
-use Rattle.step_trace.specs.declared.rows.Row.{Row}
-use Rattle.suffix_staircase.specs.declared.levels.Level.{Level}
-use Rattle.suffix_staircase.specs.Levels.{same_bounds, is_other, row_from, level_of, rows_after, rows_of, starts, IsStart, AreStarts}
+use Rattle.suffix_staircase.proofs.Common.{Row, Level, same_bounds, is_other, row_from, level_of, rows_after, rows_of, starts, IsStart, AreStarts}
 
 -- what is before a place of levels, if this is before all
 abbrev pub before : Option Level → List Level → ℕ → Option Level

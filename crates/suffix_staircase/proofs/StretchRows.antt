@@ -5,11 +5,7 @@ use Rattle.std.specs.Option.{option_map}
 use Rattle.std.proofs.lemmas.Bool.{eq-eqb}
 use Rattle.std.proofs.lemmas.List.{length-reverse, get_or-reverse}
 use Rattle.std.proofs.lemmas.Option.{slice_get-map, slice_get-get_or, slice_get_past}
-use Rattle.step_trace.specs.declared.rows.Row.{Row}
-use Rattle.suffix_staircase.specs.declared.levels.Level.{Level}
-use Rattle.suffix_staircase.specs.declared.stretches.Stretch.{Stretch}
-use Rattle.suffix_staircase.specs.Levels.{is_other, row_from, rows_after, rows_of}
-use Rattle.suffix_staircase.specs.Stretches.{height, levels_in, AreInOrder, levels_of, AreStretches}
+use Rattle.suffix_staircase.proofs.Common.{Row, Level, Stretch, is_other, row_from, rows_after, rows_of, height, levels_in, AreInOrder, levels_of, AreStretches}
 use Rattle.suffix_staircase.proofs.KeptStretches.{length-levels_in, begins-first}
 
 -- equal levels after one of them have no row
@@ -54,8 +50,7 @@ row_at_place kept i a =
 pub no_row : (kept : List Stretch) (i : ℕ) → AreStretches kept → length kept ≤ i
     → None ≡ slice_get (rows_of (levels_of kept)) i
 no_row kept i a h =
-    let long = length-reverse kept in
-    rw (row_at_place kept i a, slice_get_past (reverse kept) i (omega arith)) refl
+    rw (row_at_place kept i a, slice_get_past (reverse kept) i (omega (arith, length-reverse kept))) refl
 
 -- the row of a place is that of the stretch of that place, counted from the one that is kept last
 pub row_of_place : (kept : List Stretch) (i : ℕ) (d : Stretch) → AreStretches kept → i < length kept

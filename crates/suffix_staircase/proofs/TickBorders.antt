@@ -1,15 +1,7 @@
 -- Between the ticks of two steps in a row, what is known by numbers is known by ticks.
 use Rattle.std.proofs.Common.{ℕ, ◌≡◌, ◌+◌, ◌-◌, ◌<◌, ◌≤◌, ◌⊎◌, inl, inr, List, [], ◌∷◌, length, Option, Some, None, refl, suc, zero, arith}
 use Rattle.std.proofs.lemmas.Bool.{cases_lt}
-use Rattle.step_trace.specs.declared.steps.Step.{Step}
-use Rattle.step_trace.specs.declared.rows.Miss.{Miss}
-use Rattle.step_trace.specs.Ticks.{tick_of, IsTimed}
-use Rattle.step_trace.specs.Traces.{Recorded, step_at}
-use Rattle.step_trace.specs.Witnesses.{NamesMiss}
-use Rattle.step_trace.proofs.StepPositions.{step_at_within}
-use Rattle.step_trace.proofs.TickOrder.{ticks_rise}
-use Rattle.suffix_staircase.specs.Analysis.{KnowsMisses, NamesAfter, KnowsMissesAfter, AreIdleUpTo}
-use Rattle.suffix_staircase.specs.NextSteps.{IsNextTick, AreNextTicks, IsNextStep, AreNextSteps}
+use Rattle.suffix_staircase.proofs.Common.{Step, Miss, tick_of, IsTimed, Recorded, step_at, NamesMiss, step_at_within, ticks_rise, KnowsMisses, NamesAfter, KnowsMissesAfter, AreIdleUpTo, IsNextTick, AreNextTicks, IsNextStep, AreNextSteps}
 
 -- the steps after number done are those in tick g or later
 pub record IsBorder (trace : Recorded) (done g : ℕ) : Type 0 where

@@ -1,7 +1,5 @@
 use Rattle.std.proofs.Common.{◌≤◌, below_more, refl, arith}
-use Rattle.step_trace.specs.Ticks.{tick_of}
-use Rattle.step_trace.specs.Bounds.{DeltaHoldsFor}
-use Rattle.step_trace.proofs.StepPositions.{step_at_within}
+use Rattle.bound_witness.proofs.Common.{tick_of, DeltaHoldsFor, step_at_within}
 use Rattle.bound_witness.proofs.communication_bounds.delta_holds.Goals as goal
 use Rattle.bound_witness.proofs.communication_bounds.delta_holds.Goals.{else-g-tick-via-then-g-tick+else-not-delta_holds_for, else-g-tick-via-else-g-tick}
 
@@ -17,9 +15,7 @@ returns c = (
     each = λ s l. record {
       on_time = λ r b m e f.
           let w = step_at_within c.args.trace.now.steps s _ m.sent in
-          let low = w.0 in
-          let high = w.1 in
-          (c.loop-s.invariant s (omega arith) (omega arith) l).on_time r b m e f;
+          (c.loop-s.invariant s (omega (arith, w.1, w.0)) (omega (arith, w.1, w.0)) l).on_time r b m e f;
     };
   },
   λ _. refl,

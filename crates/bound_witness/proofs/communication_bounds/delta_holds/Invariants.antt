@@ -1,6 +1,5 @@
 use Rattle.std.proofs.Common.{ℕ, ◌<◌, ◌≤◌}
-use Rattle.step_trace.specs.Ticks.{tick_of}
-use Rattle.step_trace.specs.Bounds.{DeltaHoldsFor}
+use Rattle.bound_witness.proofs.Common.{tick_of, DeltaHoldsFor}
 use Rattle.bound_witness.proofs.communication_bounds.delta_holds.Given as goal
 
 abbrev pub invariant-loop-s : goal.invariant-loop-s

@@ -1,6 +1,5 @@
 use Rattle.std.proofs.Common.{◌≡◌, ◌+◌, arith, refl}
-use Rattle.step_trace.specs.Ticks.{tick_of}
-use Rattle.step_trace.proofs.StepPositions.{step_at_within}
+use Rattle.bound_witness.proofs.Common.{tick_of, step_at_within}
 use Rattle.bound_witness.proofs.ReceiveSearches.{DeltaHoldsFor-none, DeltaHoldsFor-refuted}
 use Rattle.bound_witness.proofs.communication_bounds.delta_holds_for.Goals as goal
 

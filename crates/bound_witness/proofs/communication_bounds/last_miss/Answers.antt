@@ -1,7 +1,5 @@
 use Rattle.std.proofs.Common.{◌≡◌, ◌+◌, arith, subst}
-use Rattle.step_trace.specs.Ticks.{tick_of}
-use Rattle.step_trace.specs.Bounds.{IsMessage}
-use Rattle.step_trace.proofs.StepPositions.{step_at_within}
+use Rattle.bound_witness.proofs.Common.{tick_of, IsMessage, step_at_within}
 use Rattle.bound_witness.proofs.ReceiveSearches.{HasNoMiss-from_receives, IsLastMiss-from_receives}
 use Rattle.bound_witness.proofs.communication_bounds.last_miss.Goals as goal
 

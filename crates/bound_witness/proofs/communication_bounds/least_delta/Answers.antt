@@ -1,6 +1,5 @@
 use Rattle.std.proofs.Common.{◌+◌, arith}
-use Rattle.step_trace.specs.Bounds.{DeltaHolds}
-use Rattle.step_trace.proofs.BoundLaws.{IsLeastBound-none_below, DeltaHolds-past_end}
+use Rattle.bound_witness.proofs.Common.{DeltaHolds, IsLeastBound-none_below, DeltaHolds-past_end}
 use Rattle.bound_witness.proofs.communication_bounds.least_delta.Goals as goal
 
 pub returns-clause-least : goal.returns-clause-least

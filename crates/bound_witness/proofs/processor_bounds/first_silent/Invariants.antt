@@ -1,6 +1,5 @@
 use Rattle.std.proofs.Common.{ℕ, ◌<◌, IsTrue}
-use Rattle.step_trace.specs.Processors.{has_proc}
-use Rattle.step_trace.specs.Bounds.{StepsWithin}
+use Rattle.bound_witness.proofs.Common.{has_proc, StepsWithin}
 use Rattle.bound_witness.proofs.processor_bounds.first_silent.Given as goal
 
 abbrev pub invariant-loop-p : goal.invariant-loop-p

@@ -1,6 +1,5 @@
 use Rattle.std.proofs.Common.{◌≤◌, arith, refl, sym, subst}
-use Rattle.step_trace.specs.Ticks.{tick_of}
-use Rattle.step_trace.proofs.StepPositions.{step_at_within}
+use Rattle.bound_witness.proofs.Common.{tick_of, step_at_within}
 use Rattle.bound_witness.proofs.processor_bounds.steps_within.Goals as goal
 
 pub returns-then-is_step_between : goal.returns-then-is_step_between

@@ -9,8 +9,7 @@ returns-then-not-ends_round-clause-rounds c =
 pub decision_in-requires-2-clause-reached : goal.decision_in-requires-2-clause-reached
 decision_in-requires-2-clause-reached c =
     let passed = round_at-passed c.args.world.now.trace.steps c.args.no c.args.step.now c.requires.step (sym c.if-not-ends_round.ensures) in
-    let here = c.requires.rounds.each c.args.step.now.proc c.requires.processor in
-    omega arith
+    omega (arith, c.requires.rounds.each c.args.step.now.proc c.requires.processor)
 
 pub returns-clause-rounds : goal.returns-clause-rounds
 returns-clause-rounds c =

@@ -3,9 +3,7 @@ use Rattle.std.specs.Prelude.{filter_map}
 use Rattle.std.specs.List.{range_with_len}
 use Rattle.std.proofs.lemmas.List.Elements.{filter_map-append}
 use Rattle.std.proofs.Math.Seq.{take-append_seam}
-use Rattle.round_model.proofs.ProcessorRanges.{range_with_len-more}
-use Rattle.deciding_runs.specs.Decisions.{decision_at}
-use Rattle.deciding_runs.specs.RoundCounts.{AreRounds}
+use Rattle.deciding_runs.proofs.Common.{range_with_len-more, decision_at, AreRounds}
 use Rattle.deciding_runs.proofs.decisions.decisions_of.Goals as goal
 
 -- a list that is written over by one of the same length is that one

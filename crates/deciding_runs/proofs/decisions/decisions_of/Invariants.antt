@@ -1,8 +1,7 @@
 use Rattle.std.proofs.Common.{◌≡◌, ◌-◌, ◌≤◌}
 use Rattle.std.specs.Prelude.{filter_map}
 use Rattle.std.specs.List.{range_with_len}
-use Rattle.deciding_runs.specs.Decisions.{decision_at}
-use Rattle.deciding_runs.specs.RoundCounts.{AreRounds}
+use Rattle.deciding_runs.proofs.Common.{decision_at, AreRounds}
 use Rattle.deciding_runs.proofs.decisions.decisions_of.Given as goal
 
 abbrev pub invariant-loop-no : goal.invariant-loop-no

@@ -1,8 +1,7 @@
 use Rattle.std.proofs.Common.{ℕ, suc, ◌≡◌, ◌+◌, ◌-◌, ◌≤◌, Bool, true, false, cond, sym, ap, ◌∙◌, arith}
 use Rattle.std.specs.Prelude.{count_by}
 use Rattle.std.specs.List.{range_with_len}
-use Rattle.step_buffers.proofs.GrownNodes.{count_by-more}
-use Rattle.deciding_runs.specs.Peers.{is_awaited}
+use Rattle.deciding_runs.proofs.Common.{count_by-more, is_awaited}
 use Rattle.deciding_runs.proofs.peers.awaited.Goals.{then-is_awaited, else-is_awaited}
 use Rattle.deciding_runs.proofs.peers.awaited.Goals as goal
 

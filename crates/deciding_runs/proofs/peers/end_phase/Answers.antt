@@ -8,9 +8,8 @@ returns c =
     let old = c.args.peers.now in
     let after = after_phase c.args.round in
     let long = c.loop-peer.auto.peers in
-    let past = c.loop-peer-test.false in
     same_lists c.loop-peer.peers (map after old) (long ∙ sym (length-map old after))
     (λ k d h.
     get_or_default c.loop-peer.peers k d unheard h
-    ∙ c.loop-peer.invariant.done k (omega arith)
-    ∙ sym (get_or-map after old k unheard d (omega arith)))
+    ∙ c.loop-peer.invariant.done k (omega (arith, c.loop-peer-test.false))
+    ∙ sym (get_or-map after old k unheard d (omega (arith, c.loop-peer-test.false))))

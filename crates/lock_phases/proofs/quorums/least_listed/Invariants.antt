@@ -1,7 +1,6 @@
 use Rattle.std.proofs.Common.{◌≡◌, drop, fold, filter}
 use Rattle.std.specs.List.{flat_map}
-use Rattle.lock_phases.specs.Messages.{listed_values, body_of}
-use Rattle.lock_phases.specs.Quorums.{has_quorum, lesser, least_listed}
+use Rattle.lock_phases.proofs.Common.{listed_values, body_of, has_quorum, lesser, least_listed}
 use Rattle.lock_phases.proofs.quorums.least_listed.Given as goal
 
 abbrev pub invariant-loop-body : goal.invariant-loop-body

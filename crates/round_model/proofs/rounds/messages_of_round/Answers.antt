@@ -2,9 +2,7 @@ use Rattle.std.proofs.Common.{ℕ, ◌≡◌, ◌-◌, ◌+◌, ◌∙◌, ◌++
 use Rattle.std.specs.List.{range_with_len}
 use Rattle.std.proofs.lemmas.List.{map_push}
 use Rattle.std.proofs.lemmas.List.FromFn.{map-range_with_len_more}
-use Rattle.round_model.specs.RoundStates.{messages_heard}
-use Rattle.round_model.specs.HeardSets.{table_of, rows_of}
-use Rattle.round_model.specs.NodeLists.{node_of}
+use Rattle.round_model.proofs.Common.{messages_heard, table_of, rows_of, node_of}
 use Rattle.round_model.proofs.rounds.messages_of_round.Goals as goal
 
 pub loop-p-preserved : goal.loop-p-preserved

@@ -1,8 +1,6 @@
 use Rattle.std.proofs.Common.{◌≡◌, ◌-◌, map}
 use Rattle.std.specs.List.{range_with_len}
-use Rattle.round_model.specs.RoundStates.{messages_heard}
-use Rattle.round_model.specs.HeardSets.{table_of, rows_of}
-use Rattle.round_model.specs.NodeLists.{node_of}
+use Rattle.round_model.proofs.Common.{messages_heard, table_of, rows_of, node_of}
 use Rattle.round_model.proofs.rounds.messages_of_round.Given as goal
 
 abbrev pub invariant-loop-p : goal.invariant-loop-p

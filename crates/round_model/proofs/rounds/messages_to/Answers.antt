@@ -1,12 +1,8 @@
 use Rattle.std.proofs.Common.{◌≡◌, ◌+◌, ◌-◌, ◌∙◌, ◌++◌, ◌∷◌, [], Vec, Global, Option, Some, None, arith, ap, sym, true, false}
 use Rattle.std.specs.Prelude.{option_map}
 use Rattle.std.proofs.lemmas.List.{append-nil, get_or_read}
-use Rattle.step_trace.specs.Processors.{has_proc}
-use Rattle.lock_phases.specs.Nodes.{State, opening}
-use Rattle.lock_phases.specs.Messages.{Message}
+use Rattle.round_model.proofs.Common.{has_proc, State, opening, Message, table_of, node_of}
 use Rattle.lock_phases.specs.NodeFunctions.{out}
-use Rattle.round_model.specs.HeardSets.{table_of}
-use Rattle.round_model.specs.NodeLists.{node_of}
 use Rattle.round_model.proofs.ProcessorRanges.{filter_map-range_with_len-more}
 use Rattle.round_model.proofs.HeardMessages.{heard_of}
 use Rattle.round_model.proofs.SendersHeard.{heard_of-lost, heard_of-heard}

@@ -1,7 +1,6 @@
 use Rattle.std.proofs.Common.{◌≡◌}
 use Rattle.std.specs.List.{range_with_len, filter_map}
-use Rattle.round_model.specs.HeardSets.{table_of}
-use Rattle.round_model.specs.NodeLists.{node_of}
+use Rattle.round_model.proofs.Common.{table_of, node_of}
 use Rattle.round_model.proofs.HeardMessages.{heard_of}
 use Rattle.round_model.proofs.rounds.messages_to.Given as goal
 

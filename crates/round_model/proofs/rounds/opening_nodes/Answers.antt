@@ -1,7 +1,6 @@
 use Rattle.std.proofs.Common.{◌≡◌, ◌-◌, ◌+◌, ◌∙◌, arith, ap, map}
 use Rattle.std.proofs.lemmas.List.{take_all, get_or-map, length-map}
-use Rattle.lock_phases.specs.Nodes.{opening}
-use Rattle.round_model.specs.RoundStates.{initial_value}
+use Rattle.round_model.proofs.Common.{opening, initial_value}
 use Rattle.round_model.proofs.ProcessorRanges.{map-range_with_len-from}
 use Rattle.round_model.proofs.rounds.opening_nodes.Goals as goal
 

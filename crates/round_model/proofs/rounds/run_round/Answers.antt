@@ -2,13 +2,8 @@ use Rattle.std.proofs.Common.{ℕ, ◌≡◌, ◌-◌, ◌+◌, ◌∙◌, List,
 use Rattle.std.specs.List.Sorted.{IsStrictlyIncreasing}
 use Rattle.std.proofs.lemmas.List.{get_or-set_same, get_or-set_other, get_or_default}
 use Rattle.std.proofs.lemmas.List.Elements.{All-same}
-use Rattle.step_trace.specs.Configurations.{IsProc}
-use Rattle.lock_phases.specs.Nodes.{State, opening}
-use Rattle.lock_phases.specs.Messages.{Message, sender_of}
+use Rattle.round_model.proofs.Common.{IsProc, State, opening, Message, sender_of, messages_heard, table_of, node_of}
 use Rattle.lock_phases.specs.NodeFunctions.{next}
-use Rattle.round_model.specs.RoundStates.{messages_heard}
-use Rattle.round_model.specs.HeardSets.{table_of}
-use Rattle.round_model.specs.NodeLists.{node_of}
 use Rattle.round_model.proofs.ProcessorRanges.{rows_of-length, rows_of-at, map-range_with_len-from}
 use Rattle.round_model.proofs.SendersHeard.{messages_heard-processors, messages_heard-rise}
 use Rattle.round_model.proofs.rounds.run_round.Goals as goal

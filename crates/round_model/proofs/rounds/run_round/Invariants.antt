@@ -1,9 +1,6 @@
 use Rattle.std.proofs.Common.{ℕ, ◌≡◌, ◌+◌, ◌<◌, ◌≤◌, get_or}
-use Rattle.lock_phases.specs.Nodes.{opening}
+use Rattle.round_model.proofs.Common.{opening, messages_heard, table_of, node_of}
 use Rattle.lock_phases.specs.NodeFunctions.{next}
-use Rattle.round_model.specs.RoundStates.{messages_heard}
-use Rattle.round_model.specs.HeardSets.{table_of}
-use Rattle.round_model.specs.NodeLists.{node_of}
 use Rattle.round_model.proofs.rounds.run_round.Given as goal
 
 abbrev pub invariant-loop-i : goal.invariant-loop-i

@@ -2,10 +2,7 @@ use Rattle.std.proofs.Common.{suc, ◌≡◌, ◌+◌, ◌*◌, ◌∙◌, arith
 use Rattle.std.proofs.lemmas.List.{with_items_is}
 use Rattle.std.proofs.lemmas.List.FromFn.{length-map-range_with_len}
 use Rattle.round_model.specs.RoundStates.{state_after, states_after}
-use Rattle.round_model.specs.Agreement.{AgreeAll, AreInitialValues}
-use Rattle.round_model.specs.HeardSets.{table_of}
-use Rattle.round_model.specs.NodeLists.{node_of, nodes_after_round}
-use Rattle.round_model.specs.BoundedDecision.{HaveDecided, HoldOneValue, LocksAreProper}
+use Rattle.round_model.proofs.Common.{AgreeAll, AreInitialValues, table_of, node_of, nodes_after_round, HaveDecided, HoldOneValue, LocksAreProper}
 use Rattle.round_model.proofs.RoundEquations.{states_after-opening, states_after-next}
 use Rattle.round_model.proofs.MemberNodes.{HaveDecided-states_after, HoldOneValue-states_after, LocksAreProper-states_after}
 use Rattle.round_model.proofs.rounds.run_rounds.Goals as goal

@@ -1,6 +1,5 @@
 use Rattle.std.proofs.Common.{◌≡◌}
-use Rattle.round_model.specs.RoundStates.{states_after}
-use Rattle.round_model.specs.HeardSets.{table_of}
+use Rattle.round_model.proofs.Common.{states_after, table_of}
 use Rattle.round_model.proofs.rounds.run_rounds.Given as goal
 
 abbrev pub invariant-loop-passed : goal.invariant-loop-passed

@@ -1,12 +1,6 @@
 use Rattle.std.proofs.Common.{ℕ, ◌≤◌, ◌++◌, ◌∷◌, [], List, All, Contains, length, sym, ap, subst, ◌∙◌, arith}
 use Rattle.std.proofs.lemmas.List.Elements.{All-contains_itself}
-use Rattle.step_trace.specs.declared.steps.Step.{Step}
-use Rattle.step_buffers.specs.Buffers.{buffer}
-use Rattle.step_buffers.specs.NextSteps.{receiving}
-use Rattle.simulated_runs.specs.Trays.{due_ids}
-use Rattle.simulated_runs.specs.Posts.{tray_of}
-use Rattle.simulated_runs.specs.KeptBounds.{DeltaGoesOn}
-use Rattle.simulated_runs.specs.UnderWay.{AreUnderWay}
+use Rattle.simulated_runs.proofs.Common.{Step, buffer, receiving, due_ids, tray_of, DeltaGoesOn, AreUnderWay}
 use Rattle.simulated_runs.proofs.KeptDues.{goes-on-received}
 use Rattle.simulated_runs.proofs.UnderWay.{AreUnderWay-received, due-waits}
 use Rattle.simulated_runs.proofs.moves.receive.Goals as goal

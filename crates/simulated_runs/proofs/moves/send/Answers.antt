@@ -1,7 +1,5 @@
 use Rattle.std.proofs.Common.{◌≤◌, List, length, sym, subst, arith}
-use Rattle.step_trace.specs.declared.steps.Step.{Step}
-use Rattle.simulated_runs.specs.KeptBounds.{DeltaGoesOn}
-use Rattle.simulated_runs.specs.UnderWay.{AreUnderWay}
+use Rattle.simulated_runs.proofs.Common.{Step, DeltaGoesOn, AreUnderWay}
 use Rattle.simulated_runs.proofs.KeptDues.{goes-on-sent}
 use Rattle.simulated_runs.proofs.UnderWay.{AreUnderWay-sent}
 use Rattle.simulated_runs.proofs.moves.send.Goals as goal

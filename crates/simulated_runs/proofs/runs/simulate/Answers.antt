@@ -1,7 +1,6 @@
 use Rattle.std.proofs.Common.{◌<◌, sym, subst, arith}
-use Rattle.step_trace.specs.Configurations.{Setup, IsSetup}
+use Rattle.simulated_runs.proofs.Common.{Setup, IsSetup, StepBeforeCrashes}
 use Rattle.step_buffers.specs.Progress.{Progress}
-use Rattle.simulated_runs.specs.Crashes.{StepBeforeCrashes}
 use Rattle.simulated_runs.proofs.LastTicks.{live-some}
 use Rattle.simulated_runs.proofs.StepsMade.{HasRun-stepped, some-up, turns-up}
 use Rattle.simulated_runs.proofs.KeptBounds.{DeltaHolds-kept, PhiHolds-kept}

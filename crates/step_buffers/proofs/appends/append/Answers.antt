@@ -1,5 +1,4 @@
-use Rattle.step_trace.proofs.Refusals.{Fits-from_none}
-use Rattle.step_trace.proofs.Growth.{IsWellFormed-push}
+use Rattle.step_buffers.proofs.Common.{Fits-from_none, IsWellFormed-push}
 use Rattle.step_buffers.proofs.GrownNodes.{IsRun-push}
 use Rattle.step_buffers.proofs.appends.append.Goals as goal
 

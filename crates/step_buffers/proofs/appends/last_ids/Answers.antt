@@ -1,8 +1,6 @@
 use Rattle.std.proofs.Common.{◌≡◌, Some, ◌∙◌, ap}
 use Rattle.std.proofs.lemmas.Option.{same_Some, none-some}
-use Rattle.step_trace.specs.Steps.{act_ids}
-use Rattle.step_trace.specs.Traces.{step_at}
-use Rattle.step_trace.specs.declared.steps.Step.{Step}
+use Rattle.step_buffers.proofs.Common.{act_ids, step_at, Step}
 use Rattle.step_buffers.proofs.StepPrefixes.{step_at-end}
 use Rattle.step_buffers.proofs.appends.last_ids.Goals as goal
 

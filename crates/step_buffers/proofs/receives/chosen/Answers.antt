@@ -1,7 +1,6 @@
 use Rattle.std.proofs.Common.{◌≡◌, ◌∙◌, Some, false, ◌&&◌, sym, ap}
 use Rattle.std.specs.Prelude.{is_some}
-use Rattle.step_buffers.specs.Buffers.{buffer}
-use Rattle.step_buffers.specs.Moves.{next_send, take_refusal}
+use Rattle.step_buffers.proofs.Common.{buffer, next_send, take_refusal}
 use Rattle.step_buffers.proofs.BufferSteps.{buffer-rises}
 use Rattle.step_buffers.proofs.RefusedTakes.{IsStepRefusal-take}
 use Rattle.step_buffers.proofs.receives.chosen.Goals as goal

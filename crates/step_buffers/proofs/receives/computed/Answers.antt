@@ -1,9 +1,5 @@
 use Rattle.std.proofs.Common.{◌≡◌, ◌∙◌, ◌++◌, ◌∷◌, [], true, refl, sym}
-use Rattle.step_trace.specs.Traces.{IsWellFormed}
-use Rattle.step_trace.proofs.Refusals.{Fits-from_none}
-use Rattle.step_trace.proofs.Growth.{IsWellFormed-push}
-use Rattle.step_buffers.specs.Letters.{heard_in, of_round}
-use Rattle.step_buffers.specs.NextSteps.{receiving}
+use Rattle.step_buffers.proofs.Common.{IsWellFormed, Fits-from_none, IsWellFormed-push, heard_in, of_round, receiving}
 use Rattle.step_buffers.proofs.HeardInboxes.{heard_from-rises, heard_in-senders, node_at-computes}
 use Rattle.step_buffers.proofs.receives.computed.Goals as goal
 use Rattle.step_buffers.proofs.receives.computed.Goals.{After-deref}

@@ -2,16 +2,7 @@ use Rattle.std.proofs.Common.{suc, ◌≡◌, ◌<◌, ◌+◌, ◌∙◌, ◌++
 use Rattle.std.proofs.Math.Bool.{and-false}
 use Rattle.std.specs.Prelude.{All, Contains}
 use Rattle.std.proofs.lemmas.List.Elements.{All-weaker, All-contains, All-contains_itself, Contains-append_left}
-use Rattle.step_trace.specs.declared.steps.Step.{Step}
-use Rattle.step_trace.specs.Traces.{IsWellFormed}
-use Rattle.step_trace.proofs.StepPositions.{step_at_last}
-use Rattle.step_trace.proofs.Refusals.{Fits-from_none}
-use Rattle.step_trace.proofs.Growth.{IsWellFormed-push}
-use Rattle.step_buffers.specs.HeardTables.{passed}
-use Rattle.step_buffers.specs.Buffers.{buffer}
-use Rattle.step_buffers.specs.Inboxes.{Entry, ids_of}
-use Rattle.step_buffers.specs.NextSteps.{receiving}
-use Rattle.step_buffers.specs.Worlds.{AreLetters, IsInbox}
+use Rattle.step_buffers.proofs.Common.{Step, IsWellFormed, step_at_last, Fits-from_none, IsWellFormed-push, passed, buffer, Entry, ids_of, receiving, AreLetters, IsInbox}
 use Rattle.step_buffers.proofs.StepPrefixes.{passed-append}
 use Rattle.step_buffers.proofs.GrownNodes.{passed-ends}
 use Rattle.step_buffers.proofs.KeptLetters.{AreLetters-received, AreLetters-released}

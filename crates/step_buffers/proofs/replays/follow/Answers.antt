@@ -1,6 +1,5 @@
 use Rattle.std.proofs.Common.{rules, ◌≡◌, ◌∙◌, ◌+◌, ◌++◌, ◌∷◌, [], ap, length}
-use Rattle.step_buffers.specs.Dues.{due_for}
-use Rattle.step_buffers.specs.Runs.{IsRun}
+use Rattle.step_buffers.proofs.Common.{due_for, IsRun}
 use Rattle.step_buffers.proofs.ReplayedSteps.{IsReplayRefusal-off}
 use Rattle.step_buffers.proofs.replays.follow.Goals as goal
 

@@ -1,7 +1,5 @@
 use Rattle.std.proofs.Common.{◌≡◌, None}
-use Rattle.step_buffers.specs.declared.moves.Take.TheVariants.{These}
-use Rattle.step_buffers.specs.Buffers.{buffer}
-use Rattle.step_buffers.specs.Moves.{take_refusal}
+use Rattle.step_buffers.proofs.Common.{These, buffer, take_refusal}
 use Rattle.step_buffers.proofs.ReplayedSteps.{takes-from_run, step_refusal-receive, off-from_refusal}
 use Rattle.step_buffers.proofs.replays.follow_receive.Goals as goal
 

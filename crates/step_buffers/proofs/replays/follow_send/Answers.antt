@@ -2,8 +2,7 @@ use Rattle.std.proofs.Common.{ℕ, ◌≡◌, ◌∙◌, ◌++◌, ◌∷◌, []
 use Rattle.std.specs.Prelude.{option_map}
 use Rattle.std.proofs.lemmas.Bool.{false≢true}
 use Rattle.std.proofs.lemmas.Option.{same_Some}
-use Rattle.step_trace.specs.declared.steps.Act.TheVariants.{Send}
-use Rattle.step_trace.specs.declared.steps.Step.{Step}
+use Rattle.step_buffers.proofs.Common.{Send, Step}
 use Rattle.step_buffers.proofs.ReplayedSteps.{IsDue-from_run, step_refusal-send, off-from_refusal}
 use Rattle.step_buffers.proofs.replays.follow_send.Goals as goal
 

@@ -23,12 +23,8 @@ overflow_sub-to c = (dest (goal.at.overflow_sub-to c).After-share).0
 
 pub index_mut-receiver-requires : goal.index_mut-receiver-requires
 index_mut-receiver-requires c =
-    let same = c.in_ok-make_room.ensures.count in
     let is = dest (goal.at.index_mut-receiver-requires c).After-share in
-    let low = is.0 in
-    let high = is.1 in
-    let count = c.requires.world.processors.count in
-    omega arith
+    omega (arith, c.requires.world.processors.count, is.1, is.0, c.in_ok-make_room.ensures.count)
 
 pub returns-in_err-make_room-clause-world : goal.returns-in_err-make_room-clause-world
 returns-in_err-make_room-clause-world c = record {

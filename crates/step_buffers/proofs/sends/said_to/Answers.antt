@@ -1,12 +1,9 @@
 use Rattle.std.proofs.Common.{ℕ, ◌≡◌, Option, Some, None, is_some, true, sym, ap, ◌∙◌}
 use Rattle.std.specs.Prelude.{IsSome}
 use Rattle.std.proofs.lemmas.Result.{IfOk-weaker}
-use Rattle.step_trace.specs.Configurations.{Setup}
-use Rattle.lock_phases.specs.Nodes.{State}
+use Rattle.step_buffers.proofs.Common.{Setup, State, Letter, IsSaid, IsPlaceOf}
 use Rattle.lock_phases.specs.NodeFunctions.{out}
 use Rattle.lock_phases.proofs.Sendings.{out_by_part}
-use Rattle.step_buffers.specs.declared.letters.Letter.{Letter}
-use Rattle.step_buffers.specs.Worlds.{IsSaid, IsPlaceOf}
 use Rattle.step_buffers.proofs.sends.said_to.Goals as goal
 
 -- what a processor said to one in a round it says to all to whom it sends in it

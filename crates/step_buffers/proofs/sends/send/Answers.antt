@@ -10,8 +10,7 @@ said_to-requires-clause-receiver c =
 pub said_to-requires-clause-positive : goal.said_to-requires-clause-positive
 said_to-requires-clause-positive c =
     let is = IsProcessor-at c.args.trace.now.config c.args.trace.now.steps c.args.processors.now.items c.args.p c.index-sender.result.now c.requires.world.processors c.requires.next.proc c.index-sender.ensures in
-    let round = is.stands.round in
-    omega arith
+    omega (arith, is.stands.round)
 
 pub said_to-requires-clause-sends : goal.said_to-requires-clause-sends
 said_to-requires-clause-sends c =

@@ -1,7 +1,6 @@
 use Rattle.std.proofs.Common.{◌≡◌, ◌∙◌, None, Some, ◌&&◌, sym}
 use Rattle.std.specs.Prelude.{is_some}
-use Rattle.step_buffers.specs.Buffers.{buffer}
-use Rattle.step_buffers.specs.Moves.{next_send, take_refusal}
+use Rattle.step_buffers.proofs.Common.{buffer, next_send, take_refusal}
 use Rattle.step_buffers.proofs.RefusedTakes.{take_refusal-none}
 use Rattle.step_buffers.proofs.RefusedTakes.{refusal-taken, IsDue-received}
 use Rattle.step_buffers.proofs.NextSends.{refusal-send}

@@ -1,6 +1,5 @@
 use Rattle.std.proofs.Common.{◌∙◌, ap, sym, List, length, reverse, ◌+◌, ◌-◌, set, ℕ}
-use Rattle.suffix_staircase.specs.declared.stretches.Stretch.{Stretch}
-use Rattle.suffix_staircase.specs.Stretches.{levels_of}
+use Rattle.suffix_staircase.proofs.Common.{Stretch, levels_of}
 use Rattle.suffix_staircase.proofs.KeptStretches.{IsRaised, IsRaised-new, IsRaised-same}
 use Rattle.suffix_staircase.proofs.stretches.put_before.Goals as goal
 use Rattle.suffix_staircase.proofs.stretches.put_before.Goals.{After-index_mut, In_ok-push}

@@ -1,6 +1,5 @@
 use Rattle.std.proofs.Common.{◌∙◌, ◌<◌, ◌+◌, ◌-◌, ◌≡◌, ap, sym, List, length, reverse, set, ℕ, arith}
-use Rattle.suffix_staircase.specs.declared.stretches.Stretch.{Stretch}
-use Rattle.suffix_staircase.specs.Stretches.{levels_of}
+use Rattle.suffix_staircase.proofs.Common.{Stretch, levels_of}
 use Rattle.suffix_staircase.proofs.KeptStretches.{IsRepeated, IsRepeated-last}
 use Rattle.suffix_staircase.proofs.stretches.repeat_first.Goals as goal
 use Rattle.suffix_staircase.proofs.stretches.repeat_first.Goals.{After-index_mut}

@@ -1,8 +1,7 @@
 use Rattle.std.proofs.Common.{◌≡◌, false, is_some, sym, ap, ◌∙◌}
-use Rattle.step_buffers.specs.Moves.{next_send}
+use Rattle.deciding_runs.proofs.Common.{next_send, ends_round}
 use Rattle.step_buffers.specs.declared.moves.Move.TheVariants.{Receive}
 use Rattle.step_buffers.specs.declared.moves.Take.TheVariants.{All}
-use Rattle.deciding_runs.specs.Paces.{ends_round}
 use Rattle.deciding_runs.proofs.paces.Pace.next_move.Goals as goal
 
 pub returns-clause-moved : goal.returns-clause-moved

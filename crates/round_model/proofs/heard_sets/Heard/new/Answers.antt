@@ -6,14 +6,13 @@ use Rattle.round_model.proofs.heard_sets.Heard.new.Goals as goal
 
 pub invariant_of-result : goal.invariant_of-result
 invariant_of-result c =
-    let made = c.in_ok-sets.ensures in
     record {
       least = c.requires.least;
       most = c.requires.most;
       limit = c.requires.limit;
-      processors = length-map _ _ ∙ made.processors;
-      lengths = All-map (λ sets. length sets ≡ c.args.rounds) _ _ made.rounds;
-      within = AreWithin-empty c.args.n _ (All-map (λ sets. All IsEmpty sets) _ _ made.empty);
+      processors = length-map _ _ ∙ c.in_ok-sets.ensures.processors;
+      lengths = All-map (λ sets. length sets ≡ c.args.rounds) _ _ c.in_ok-sets.ensures.rounds;
+      within = AreWithin-empty c.args.n _ (All-map (λ sets. All IsEmpty sets) _ _ c.in_ok-sets.ensures.empty);
     }
 
 pub returns-clause-empty : goal.returns-clause-empty

@@ -1,6 +1,5 @@
 use Rattle.std.proofs.Common.{◌≡◌, List, ◌∙◌, sym, ap, subst}
-use Rattle.simulated_runs.specs.declared.trays.Posted.{Posted}
-use Rattle.simulated_runs.specs.Trays.{due_ids, not_due}
+use Rattle.simulated_runs.proofs.Common.{Posted, due_ids, not_due}
 use Rattle.simulated_runs.proofs.DueMessages.{all-left, none-due}
 use Rattle.simulated_runs.proofs.trays.Tray.take_due.Goals as goal
 

@@ -1,8 +1,7 @@
 use Rattle.std.proofs.Common.{◌∷◌, heap_items, subst}
 use Rattle.std.specs.List.Sorted.{IsPermutation}
 use Rattle.std.proofs.lemmas.List.Sorted.{IsPermutation-sym, IsPermutation-map, IsPermutation-pop_more, Contains-permutation}
-use Rattle.step_trace.proofs.ListMembers.{Contains-rest}
-use Rattle.step_buffers.specs.Inboxes.{Entry, ids_of}
+use Rattle.step_buffers.proofs.Common.{Contains-rest, Entry, ids_of}
 use Rattle.step_buffers.proofs.inboxes.Inbox.gather.Goals as goal
 
 pub loop-self-preserved : goal.loop-self-preserved

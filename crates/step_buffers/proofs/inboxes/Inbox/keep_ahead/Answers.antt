@@ -4,8 +4,7 @@ use Rattle.std.proofs.lemmas.Bool.{le-leb, lt-leb}
 use Rattle.std.proofs.lemmas.List.{take_more}
 use Rattle.std.proofs.lemmas.List.Elements.{filter-append}
 use Rattle.std.proofs.lemmas.List.Sorted.{IsPermutation-push_more}
-use Rattle.step_buffers.specs.Letters.{round_of}
-use Rattle.step_buffers.specs.Inboxes.{kept_ids, is_ahead}
+use Rattle.step_buffers.proofs.Common.{round_of, kept_ids, is_ahead}
 use Rattle.step_buffers.proofs.inboxes.Inbox.keep_ahead.Goals.{then-round-sent, else-round-sent}
 use Rattle.step_buffers.proofs.inboxes.Inbox.keep_ahead.Goals as goal
 
@@ -42,25 +41,22 @@ loop-id-preserved c =
           let new = kept_ids w.keep.new.self in
           let known = w.if-round-sent.true in
           let t : test id ≡ true = le-leb round (round_of letters id) (omega arith) in
-          let less = w.keep.ensures.room in
           rw w.self-is (record {
             kept = subst (λ xs. IsPermutation (old ++ filter test xs) new) (sym more) (kept-more test old now new (take i ids) id t is.kept w.keep.ensures.kept);
             entries = λ e d. elim (w.keep.ensures.entries e d) [
               | inl before ↦ is.entries e before
               | inr same ↦
-                  let other = same.0 in
                   let round_is : e.0.0 ≡ round_of letters id = ap (λ (x : ℕ × ℕ). x.0) same.1 ∙ sent in
                   let id_is : e.0.1 ≡ id = ap (λ (x : ℕ × ℕ). x.1) same.1 in
-                  inr (omega arith, round_is ∙ ap (round_of letters) (sym id_is))
+                  inr (omega (arith, same.0, w.keep.ensures.room), round_is ∙ ap (round_of letters) (sym id_is))
             ];
-            room = omega arith;
+            room = omega (arith, w.keep.ensures.room);
           })
       | else-round-sent w ↦
-          let known = w.if-round-sent.false in
-          let t : test id ≡ false = lt-leb round (round_of letters id) (omega arith) in
+          let t : test id ≡ false = lt-leb round (round_of letters id) (omega (arith, w.if-round-sent.false)) in
           rw w.self-is (record {
             kept = subst (λ xs. IsPermutation (old ++ filter test xs) now) (sym more) (passed-over test old now (take i ids) id t is.kept);
             entries = is.entries;
-            room = omega arith;
+            room = omega (arith, w.if-round-sent.false);
           })
     ]

@@ -1,7 +1,5 @@
 use Rattle.std.proofs.Common.{◌≡◌, ◌+◌, sym, ap, subst, ◌∙◌, arith}
-use Rattle.step_buffers.specs.HeardTables.{passed}
-use Rattle.step_buffers.specs.Letters.{round_of}
-use Rattle.step_buffers.specs.Runs.{IsSend}
+use Rattle.step_buffers.proofs.Common.{passed, round_of, IsSend}
 use Rattle.step_buffers.proofs.BufferSteps.{IsWaiting-from_buffer}
 use Rattle.step_buffers.proofs.MessageOrigins.{sender_of-sent, round_ahead-early, round_ahead-late}
 use Rattle.step_buffers.proofs.worlds.World.origin.Goals as goal

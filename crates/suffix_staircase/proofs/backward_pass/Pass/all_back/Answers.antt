@@ -1,6 +1,5 @@
 use Rattle.std.proofs.Common.{ℕ, ◌≡◌, ◌+◌, ◌-◌, ◌∙◌, sym, subst, arith}
-use Rattle.step_trace.specs.Ticks.{tick_of}
-use Rattle.suffix_staircase.specs.Analysis.{KnowsStepsAfter, KnowsTicksFrom}
+use Rattle.suffix_staircase.proofs.Common.{tick_of, KnowsStepsAfter, KnowsTicksFrom}
 use Rattle.suffix_staircase.proofs.LevelBounds.{AreLevels-from_first, KnowsTicksFrom-step}
 use Rattle.suffix_staircase.proofs.TickBorders.{AreIdleUpTo-last, AreIdleUpTo-step}
 use Rattle.suffix_staircase.proofs.backward_pass.Pass.all_back.Goals as goal
@@ -46,11 +45,10 @@ ticks_back-requires-in-loop-no-clause-known c =
 
 pub loop-no-preserved : goal.loop-no-preserved
 loop-no-preserved c =
-    let end = c.loop-no.invariant.end in
     let k = c.loop-no.no - 1 - 1 in
     record {
       start = omega (arith, c.loop-no-test.true);
-      end = omega (arith, end);
+      end = omega (arith, c.loop-no.invariant.end);
       tick = c.in_ok-tick-2.ensures.tick;
       known = subst (λ (s : ℕ). KnowsTicksFrom s c.args.trace.now k (tick_of c.args.trace.now k + 1) c.ticks_back-in-loop-no.new.self c.ticks_back-in-loop-no.new.builder)
           (c.step_back.ensures.known.members ∙ c.loop-no.invariant.known.steps.members) c.in_ok-tick-2.ensures.known;

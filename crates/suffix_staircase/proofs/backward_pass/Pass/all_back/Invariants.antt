@@ -1,6 +1,5 @@
 use Rattle.std.proofs.Common.{◌≡◌, ◌+◌, ◌-◌, ◌≤◌, length}
-use Rattle.step_trace.specs.Ticks.{tick_of}
-use Rattle.suffix_staircase.specs.Analysis.{KnowsTicksFrom}
+use Rattle.suffix_staircase.proofs.Common.{tick_of, KnowsTicksFrom}
 use Rattle.suffix_staircase.proofs.backward_pass.Pass.all_back.Given as goal
 
 -- the steps from `no` on are scanned, and the ticks after that of the step before, which is `tick`

@@ -1,7 +1,5 @@
 use Rattle.std.proofs.Common.{ℕ, ◌≡◌, ◌-◌, refl, sym, ap, subst, ◌∙◌, arith}
-use Rattle.step_trace.specs.Ticks.{tick_of}
-use Rattle.suffix_staircase.specs.declared.levels.Level.{Level}
-use Rattle.suffix_staircase.specs.Analysis.{with_miss}
+use Rattle.suffix_staircase.proofs.Common.{tick_of, Level, with_miss}
 use Rattle.suffix_staircase.proofs.MissBounds.{MissesLowered, MissesLowered-with_miss}
 use Rattle.suffix_staircase.proofs.MissNumbers.{IsLastMissOf-from_numbers, last_miss_bound}
 use Rattle.suffix_staircase.proofs.backward_pass.Pass.step_back.Goals as goal

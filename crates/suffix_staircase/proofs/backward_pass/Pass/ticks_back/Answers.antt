@@ -1,7 +1,5 @@
 use Rattle.std.proofs.Common.{◌≡◌, ◌+◌, ◌-◌, ◌∙◌, List, ◌∷◌, ap, sym, subst, arith}
-use Rattle.step_trace.specs.Ticks.{tick_of}
-use Rattle.suffix_staircase.specs.declared.levels.Level.{Level}
-use Rattle.suffix_staircase.specs.Analysis.{KnowsTicksFrom}
+use Rattle.suffix_staircase.proofs.Common.{tick_of, Level, KnowsTicksFrom}
 use Rattle.suffix_staircase.proofs.GapBounds.{phi_positive}
 use Rattle.suffix_staircase.proofs.LevelBounds.{TickLowered, TickLowered-with_gap}
 use Rattle.suffix_staircase.proofs.backward_pass.Pass.ticks_back.Goals as goal
@@ -32,10 +30,9 @@ lower-requires-clause-falling c = rw c.tick_back.ensures.kept at (lowered c).fal
 
 pub loop-g-preserved : goal.loop-g-preserved
 loop-g-preserved c =
-    let high = c.loop-g.invariant.high in
     record {
       low = omega (arith, c.loop-g-test.true, c.tick_of-tick.ensures.value);
-      high = omega (arith, high);
+      high = omega (arith, c.loop-g.invariant.high);
       known = subst (λ (levels : List Level). KnowsTicksFrom c.args.self.now.set c.args.trace.now c.args.done (c.loop-g.g - 1) c.tick_back.new.self levels)
           (ap (λ (l : Level). l ∷ c.loop-g.builder) c.tick_back.ensures.kept ∙ sym c.in_ok-lower.ensures.ok) (lowered (goal.at.loop-g-preserved c).After-tick_back).known;
     }

@@ -1,6 +1,5 @@
 use Rattle.std.proofs.Common.{◌+◌, ◌<◌, ◌≤◌}
-use Rattle.step_trace.specs.Ticks.{tick_of}
-use Rattle.suffix_staircase.specs.Analysis.{KnowsTicksFrom}
+use Rattle.suffix_staircase.proofs.Common.{tick_of, KnowsTicksFrom}
 use Rattle.suffix_staircase.proofs.backward_pass.Pass.ticks_back.Given as goal
 
 -- the ticks from `g` on are scanned

@@ -1,7 +1,6 @@
 use Rattle.std.proofs.Common.{◌≡◌, ap, arith}
 use Rattle.suffix_staircase.specs.declared.staircases.StairBuilder.TheInside.{Inside}
-use Rattle.suffix_staircase.specs.Levels.{repeated}
-use Rattle.suffix_staircase.specs.Stretches.{levels_of, AreStairs}
+use Rattle.suffix_staircase.proofs.Common.{repeated, levels_of, AreStairs}
 use Rattle.suffix_staircase.proofs.RepeatedLevels.{IsLonger, IsLonger-repeated}
 use Rattle.suffix_staircase.proofs.staircases.StairBuilder.repeat.Goals as goal
 
@@ -13,5 +12,4 @@ invariant_of-self-inside c =
     let view : c.self.inside.stairs ≡ c.args.self.now = c.self.view_is in
     let more : IsLonger (levels_of kept) c.args.count (repeated c.args.count (levels_of kept)) = IsLonger-repeated c.args.count (levels_of kept) inside.1 in
     let room = rw (← view, ← old) at c.requires.room in
-    let long = more.long in
-    rw c.repeat_first.ensures.levels (c.repeat_first.ensures.stretches, more.falling, omega (arith, long, room))
+    rw c.repeat_first.ensures.levels (c.repeat_first.ensures.stretches, more.falling, omega (arith, more.long, room))
