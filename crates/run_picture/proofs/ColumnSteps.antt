@@ -1,10 +1,10 @@
 -- What it means that some of the first steps are in a column.
-use Rattle.std.proofs.Common.{ℕ, ◌≡◌, ◌∙◌, ◌<◌, ◌≤◌, ◌==◌, ◌&&◌, ◌+◌, Bool, true, false, inl, inr, ◌↔◌, List, length, Option, Some, None, if◌then◌else◌, refl, zero, suc, arith, sym, ap}
+use Rattle.std.proofs.Common.{ℕ, ◌≡◌, ◌∙◌, ◌<◌, ◌≤◌, ◌==◌, Bool, true, false, inl, inr, ◌↔◌, List, length, Option, Some, None, if◌then◌else◌, refl, zero, suc, arith, ap}
 use Rattle.std.specs.Option.{option_map_or}
 use Rattle.std.proofs.lemmas.Bool.{cases_lt, eqb-true, le-leb, lt-ltb}
 use Rattle.step_trace.specs.declared.processors.TheConstants.{MAX_MEMBER}
 use Rattle.step_trace.specs.declared.steps.Step.{Step}
-use Rattle.step_trace.specs.Ticks.{StepsIn, tick_of}
+use Rattle.step_trace.specs.Ticks.{tick_of}
 use Rattle.step_trace.specs.Traces.{Recorded, IsStepOf, step_at}
 use Rattle.step_trace.proofs.StepPositions.{step_at_within}
 use Rattle.run_picture.specs.declared.report_rows.TheConstants.{COLUMNS}
@@ -67,6 +67,8 @@ has_marked s p c high inside = let test = both_of _ _ (le-leb p MAX_MEMBER high)
 
 pub strokes_exact : (trace : Recorded) (s : Strokes)
     → ((p c : ℕ) → p ≤ MAX_MEMBER → c < COLUMNS → busy_at s.busy.items p c ≡ steps_to trace s.columns p c (length trace.steps)) → ShowsSteps trace s
-strokes_exact trace s marked p c low high inside =
-    let same = has_marked s p c high inside ∙ marked p c high inside in
-    rw same (steps_exact trace s.columns p c low)
+strokes_exact trace s marked = record {
+  each = λ p c low high inside.
+      let same = has_marked s p c high inside ∙ marked p c high inside in
+      rw same (steps_exact trace s.columns p c low);
+}

@@ -24,8 +24,8 @@ abbrev pub has_stroke : Strokes → ℕ → ℕ → Bool
 has_stroke s p c = if nat_le p MAX_MEMBER && nat_lt c COLUMNS then busy_at s.busy.items p c else false
 
 -- processors have strokes just in the columns in which they make steps
-abbrev pub ShowsSteps : Recorded → Strokes → Type 0
-ShowsSteps trace s = (p c : ℕ) → 1 ≤ p → p ≤ MAX_MEMBER → c < COLUMNS → IsTrue (has_stroke s p c) ↔ StepsInColumn trace s.columns p c
+pub record ShowsSteps (trace : Recorded) (s : Strokes) : Type 0 where
+  pub each : (p c : ℕ) → 1 ≤ p → p ≤ MAX_MEMBER → c < COLUMNS → IsTrue (has_stroke s p c) ↔ StepsInColumn trace s.columns p c
 
 -- step k is one of processor p in column c
 abbrev pub is_in_column : Recorded → ℕ → ℕ → ℕ → ℕ → Bool

@@ -205,7 +205,7 @@ fn put_bounds_axis(alloc: Global, out: &mut Vec<u8>, axes: Axes) -> Result<(), A
 }
 
 fn put_ticks_axis(alloc: Global, out: &mut Vec<u8>, axes: Axes) -> Result<(), AllocError> {
-    out.extend_from_slice(b"<text x=\"820\" y=\"2380\" class=\"n e\">tick</text>\n")?;
+    out.extend_from_slice(b"<text x=\"620\" y=\"2380\" class=\"n e\">tick</text>\n")?;
     let step = round_step(axes.last, 10);
     for i in 1..11 {
         let tick = step.saturating_mul(i);

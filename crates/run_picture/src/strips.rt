@@ -1,6 +1,6 @@
 //! The strips of steps: when each processor makes steps, over all ticks. Lengths are tenths of a pixel.
 
-ghost use Rattle.std.specs.Prelude.{◌≡◌, ◌≤◌, ◌<◌, ◌+◌};
+ghost use Rattle.std.specs.Prelude.{◌≡◌, ◌≤◌, ◌+◌};
 ghost use Rattle.run_picture.specs.ShownLanes.{lane_number};
 ghost use Rattle.run_picture.specs.Strips.{half_strip, strip_count, strip_middle, strips_height, stroke_edge};
 ghost use Rattle.run_picture.specs.declared.frames.TheConstants.{LEFT, WIDTH};

@@ -269,7 +269,7 @@ fn put_legend(
     frame: &Frame,
     strips: &Strips,
 ) -> Result<(), AllocError> {
-    let y = frame.lanes_end() + 480;
+    let y = frame.lanes_end() + 540;
     let more = if strips.height() > 0 {
         STRIPS_LEGEND
     } else {

@@ -98,7 +98,7 @@ pub(crate) fn put_times(
     put(
         alloc,
         out,
-        format_args!("<text x=\"820\" y=\"{y}\" class=\"n e\">time</text>\n"),
+        format_args!("<text x=\"620\" y=\"{y}\" class=\"n e\">time</text>\n"),
     )?;
     for i in 0..MOST_TIMES + 2 {
         let Some(time) = axis.time(i) else {
