@@ -3,9 +3,9 @@ use Rattle.std.specs.Prelude.{ℕ, ◌≡◌, ◌+◌, ◌-◌, ◌/◌, ◌<◌
 use Rattle.step_trace.specs.declared.rows.Row.{Row}
 use Rattle.step_trace.specs.Traces.{Recorded}
 use Rattle.step_trace.specs.Ticks.{tick_of}
-use Rattle.run_picture.specs.declared.windows.TheConstants.{MAX_WINDOW}
-use Rattle.run_picture.specs.declared.windows.Window.{Window}
-use Rattle.run_picture.specs.Messages.{taker}
+use Rattle.picture_marks.specs.declared.windows.TheConstants.{MAX_WINDOW}
+use Rattle.picture_marks.specs.declared.windows.Window.{Window}
+use Rattle.picture_marks.specs.Messages.{taker}
 use Rattle.run_story.specs.declared.delays.Delay.{Delay}
 use Rattle.run_story.specs.declared.evidence.Evidence.{Evidence}
 use Rattle.run_story.specs.declared.stalls.Stall.{Stall}

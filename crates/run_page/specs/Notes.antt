@@ -1,7 +1,7 @@
 -- What a note says about evidence that the spread made (own).
 use Rattle.std.specs.Prelude.{ℕ, ◌∷◌, ◌==◌, List, [], codes, if◌then◌else◌}
 use Rattle.std.specs.List.{flat_map}
-use Rattle.run_picture.specs.Digits.{count_text}
+use Rattle.run_words.specs.Digits.{count_text}
 
 -- texts one after the other
 abbrev pub joined : List (List ℕ) → List ℕ

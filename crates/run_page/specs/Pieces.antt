@@ -1,10 +1,10 @@
 -- What the pieces of a phrase are as HTML (own).
 use Rattle.std.specs.Prelude.{ℕ, ◌==◌, ◌/◌, ◌%◌, ◌++◌, List, [], Option, Some, None, codes, decimal, if◌then◌else◌, is_none}
 use Rattle.std.specs.List.{flat_map}
-use Rattle.run_picture.specs.Clocks.{amount_text, begin_text, from_text, time_of, time_point, time_text}
-use Rattle.run_picture.specs.Digits.{count_text, digits_text}
-use Rattle.run_picture.specs.Words.{label_text, message_text, node_text, step_text}
-use Rattle.run_picture.specs.declared.clocks.Clock.{Clock}
+use Rattle.run_words.specs.Clocks.{amount_text, begin_text, from_text, time_of, time_point, time_text}
+use Rattle.run_words.specs.Digits.{count_text, digits_text}
+use Rattle.run_words.specs.Words.{label_text, message_text, node_text, step_text}
+use Rattle.run_words.specs.declared.clocks.Clock.{Clock}
 use Rattle.step_tables.specs.Records.{source_at}
 use Rattle.step_tables.specs.Told.{Said}
 use Rattle.run_page.specs.declared.pieces.Piece.{Piece}

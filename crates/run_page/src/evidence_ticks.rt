@@ -2,13 +2,13 @@
 
 ghost use Rattle.std.specs.Prelude.{◌≡◌, ℕ, IfOk, IfSome};
 ghost use Rattle.step_trace.specs.Fronts.{IsReport};
-ghost use Rattle.run_picture.specs.Messages.{taker_in};
+ghost use Rattle.picture_marks.specs.Messages.{taker_in};
 ghost use Rattle.run_page.specs.EvidenceTicks.{IsEvidenceWindow, IsWindowOf, around_gap, around_miss, both, core_of, drawn_first, margin, miss_end, padded, taker_of};
 
 use crate::scales::Span;
 use crate::scans::tick_at;
-use run_picture::takers::{taker_in, takers};
-use run_picture::{MAX_WINDOW, Window};
+use picture_marks::takers::{taker_in, takers};
+use picture_marks::{MAX_WINDOW, Window};
 use run_story::{Delay, Evidence, Stall, evidence_of};
 use std::alloc::{AllocError, Global};
 use step_trace::{Row, Trace};

@@ -20,12 +20,13 @@ use crate::styles::{COLOURS, PICTURES, PLACES, TABLES, WORDS};
 use crate::timings::Timing;
 use crate::titles::put_title;
 use crate::who::put_who;
-use run_picture::takers::takers;
-use run_picture::{COLUMNS, LogWords, Strokes, clock_of, strokes_of};
+use picture_marks::takers::takers;
+use picture_marks::{COLUMNS, Strokes, strokes_of};
 use run_story::{
     Evidence, LostReceivers, MessageCounts, Named, brief_rows, calm_row, count_messages,
     evidence_of, headline_of, lost_receivers, named_evidence,
 };
+use run_words::{LogWords, clock_of};
 use std::alloc::{AllocError, Global};
 use step_trace::{ProcSet, Row, Trace};
 

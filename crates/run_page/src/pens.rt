@@ -5,7 +5,7 @@ ghost use Rattle.run_page.specs.Pieces.{pieces_text};
 ghost use Rattle.run_page.specs.Pens.{HasWritten};
 
 use crate::pieces::{Piece, push_pieces};
-use run_picture::Clock;
+use run_words::Clock;
 use std::alloc::{AllocError, Global};
 use step_tables::StepRow;
 

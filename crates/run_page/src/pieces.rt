@@ -4,7 +4,7 @@ ghost use Rattle.std.specs.Prelude.{◌≡◌, ◌≤◌, ◌<◌, ◌++◌, OnO
 ghost use Rattle.run_page.specs.Pieces.{aside_text, begins_text, both_aside_text, bound_text, from_tick_text, in_tick_text, known_text, made_text, many_text, percent_text, piece_text, pieces_text, place_text, short_ticks_text, step_at_text, stepped_text, tick_aside_text, tick_text, ticks_text, told_tick_text};
 
 use crate::scales::Place;
-use run_picture::{
+use run_words::{
     Clock, push_count, push_digits, push_label, push_message, push_nanoseconds, push_node,
     push_number, push_step,
 };

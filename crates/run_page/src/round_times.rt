@@ -2,7 +2,7 @@
 
 ghost use Rattle.std.specs.Prelude.{◌≤◌};
 
-use run_picture::{Clock, power_within};
+use run_words::{Clock, power_within};
 
 /// How many ticks a run has at most by the shorter tick that the page names. A trace may have `step_trace::MAX_TICKS`; the rest
 /// is room for events that move.

@@ -9,7 +9,7 @@ use crate::runs::Run;
 use crate::scales::WIDE;
 use crate::stairs::whole;
 use crate::titles::put_title;
-use run_picture::{COLUMNS, Stroke};
+use picture_marks::{COLUMNS, Stroke};
 use run_story::{Evidence, Stall};
 use step_trace::ProcSet;
 

@@ -7,9 +7,10 @@ use crate::pieces::Piece;
 use crate::scans::{Scan, tick_at};
 use crate::tick_steps::steps_before;
 use crate::timings::Timing;
-use run_picture::takers::taker_in;
-use run_picture::{Clock, Strokes};
+use picture_marks::Strokes;
+use picture_marks::takers::taker_in;
 use run_story::{Evidence, Headline, LostReceivers, MessageCounts, Named};
+use run_words::Clock;
 use step_tables::StepRow;
 use step_trace::{Act, ProcSet, Row, Trace};
 

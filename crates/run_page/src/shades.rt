@@ -6,7 +6,7 @@ use crate::rooms::{ROOM_FOR_SHADES, put_within};
 use crate::run_lanes::{lanes_in, put_lane_names};
 use crate::runs::Run;
 use crate::who::cell;
-use run_picture::log_of;
+use run_words::log_of;
 use std::alloc::Global;
 
 /// How high a row is, in pixels.

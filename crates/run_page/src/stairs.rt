@@ -8,7 +8,7 @@ use crate::pieces::Piece::{Count, From, Number, Percent, Short, Text, Tick, Tick
 use crate::round_times::{power_of_ten, round_from};
 use crate::runs::Run;
 use crate::scales::{Span, WIDE};
-use run_picture::{BoundScale, Clock};
+use run_words::{BoundScale, Clock};
 use step_trace::Row;
 
 /// The height of the picture, in pixels.

@@ -1,6 +1,6 @@
 //! What a table says about times: how long ticks are, and how far events were moved to later ones.
 
-use run_picture::unit_for;
+use run_words::unit_for;
 use step_tables::{Moves, StepRow, count_moves, tick_times};
 use step_trace::Trace;
 

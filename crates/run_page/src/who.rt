@@ -6,7 +6,7 @@ use crate::pieces::Piece::{From, Label, Node, Number, Text, Ticks};
 use crate::run_lanes::lanes_in;
 use crate::runs::Run;
 use crate::shades::put_shades;
-use run_picture::log_of;
+use run_words::log_of;
 use std::alloc::Global;
 use step_trace::ProcSet;
 

@@ -1,14 +1,1 @@
-pub mod PowersOfTwo
-pub mod PowersOfTen
-pub mod RoundSteps
-pub mod MessageTakers
-pub mod GatheredLists
-pub mod TickFacts
-pub mod ShownMarks
-pub mod ColumnSteps
-pub mod RowPlaces
-pub mod MissMarks
-pub mod GapMarks
-pub mod NameLists
-pub mod LaneFacts
 pub mod LaneCounts

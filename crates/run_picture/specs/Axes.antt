@@ -1,7 +1,7 @@
 -- Where the staircase of both bounds is drawn, in tenths of a pixel (own).
 use Rattle.std.specs.Prelude.{ℕ, ◌+◌, ◌-◌, ◌*◌, ◌/◌, min, max}
 use Rattle.step_trace.specs.declared.traces.TheConstants.{MAX_TICKS}
-use Rattle.run_picture.specs.BoundScales.{rise}
+use Rattle.run_words.specs.BoundScales.{rise}
 use Rattle.run_picture.specs.declared.frames.TheConstants.{LEFT, WIDTH}
 use Rattle.run_picture.specs.declared.staircase.Axes.{Axes}
 use Rattle.run_picture.specs.declared.staircase.TheConstants.{TOP, HEIGHT}

@@ -2,7 +2,7 @@
 use Rattle.std.specs.Prelude.{ℕ, ◌+◌, ◌-◌, ◌*◌, ◌/◌, nat_lt, nat_le, min, max, if◌then◌else◌}
 use Rattle.run_picture.specs.declared.frames.Frame.{Frame}
 use Rattle.run_picture.specs.declared.frames.TheConstants.{LEFT, WIDTH, LANES_TOP}
-use Rattle.run_picture.specs.declared.windows.TheConstants.{MAX_WINDOW}
+use Rattle.picture_marks.specs.declared.windows.TheConstants.{MAX_WINDOW}
 use Rattle.run_picture.specs.ShownLanes.{lane_number}
 
 -- half of the height of each of so many lanes

@@ -1,11 +1,11 @@
 -- Where the strips of steps are drawn, below the staircase, in tenths of a pixel (own).
 use Rattle.std.specs.Prelude.{ℕ, ◌==◌, ◌&&◌, ◌+◌, ◌-◌, ◌*◌, ◌/◌, nat_le, nat_lt, min, max, if◌then◌else◌}
 use Rattle.run_picture.specs.declared.frames.TheConstants.{LEFT, WIDTH}
-use Rattle.run_picture.specs.declared.report_rows.TheConstants.{COLUMNS}
+use Rattle.picture_marks.specs.declared.report_rows.TheConstants.{COLUMNS}
 use Rattle.run_picture.specs.declared.staircase.TheConstants.{TOP, HEIGHT}
 use Rattle.run_picture.specs.declared.strips.Strips.{Strips}
 use Rattle.run_picture.specs.declared.strips.TheConstants.{FEW_STRIPS, SPACE}
-use Rattle.run_picture.specs.declared.windows.Window.{Window}
+use Rattle.picture_marks.specs.declared.windows.Window.{Window}
 use Rattle.run_picture.specs.ShownLanes.{lane_number}
 
 -- how many strips there are for so many lanes: none if the window has all ticks up to the last

@@ -1,8 +1,8 @@
 -- Round times below an axis of ticks (own). Times are nanoseconds from when tick 1 begins.
 use Rattle.std.specs.Prelude.{ℕ, ◌+◌, ◌-◌, ◌*◌, ◌/◌, Option, Some, None, if◌then◌else◌, max, min, nat_le}
-use Rattle.run_picture.specs.Clocks.{power_within, time_of}
-use Rattle.run_picture.specs.RoundNumbers.{round_step}
-use Rattle.run_picture.specs.declared.clocks.TheConstants.{LONGEST}
+use Rattle.run_words.specs.Clocks.{power_within, time_of}
+use Rattle.run_words.specs.RoundNumbers.{round_step}
+use Rattle.run_words.specs.declared.clocks.TheConstants.{LONGEST}
 use Rattle.run_picture.specs.declared.frames.TheConstants.{LEFT, WIDTH}
 use Rattle.run_picture.specs.declared.time_axes.TheConstants.{MOST_TIMES}
 use Rattle.run_picture.specs.declared.time_axes.TimeAxis.{TimeAxis}

@@ -1,12 +1,13 @@
--- What marks say of themselves (own). A step, a message or a node is called as by `Words`; a step has its number, its record
--- in the log, its tick and its time, as far as they are known.
+-- What marks say of themselves (own). A step, a message or a node is called as by `Words` and `MarkWords`; a step has
+-- its number, its record in the log, its tick and its time, as far as they are known.
 use Rattle.std.specs.Prelude.{ℕ, ◌++◌, Bool, List, [], ◌∷◌, Option, Some, None, codes, decimal, if◌then◌else◌, map}
 use Rattle.step_tables.specs.Told.{Said}
 use Rattle.step_trace.specs.declared.rows.Gap.{Gap}
-use Rattle.run_picture.specs.Words.{bound_text, ids_text, made_text, message_text, node_text, step_at_text, timed_text}
-use Rattle.run_picture.specs.declared.clocks.Clock.{Clock}
+use Rattle.run_words.specs.Words.{message_text, node_text}
+use Rattle.run_picture.specs.MarkWords.{bound_text, ids_text, made_text, step_at_text, timed_text}
+use Rattle.run_words.specs.declared.clocks.Clock.{Clock}
 use Rattle.run_picture.specs.declared.titles.Made.{Made}
-use Rattle.run_picture.specs.declared.words.Words.{Words}
+use Rattle.run_picture.specs.declared.mark_words.Words.{Words}
 
 -- what the processors are called, and what a table says about the steps
 abbrev pub names_in : Words → List (List ℕ)

@@ -1,11 +1,10 @@
 //! What a picture says to readers that don't show it.
 
-use crate::clocks::Clock;
-use crate::labels::push_node;
 use crate::lanes::put_lane_count;
-use crate::pictures::Picture;
+use crate::mark_words::{Words, push_bound};
 use crate::svg::put;
-use crate::words::{Words, push_bound};
+use picture_marks::Picture;
+use run_words::{Clock, push_node};
 use std::alloc::{AllocError, Global};
 use step_trace::{ProcSet, Row};
 

@@ -6,7 +6,7 @@ ghost use Rattle.run_picture.specs.ShownLanes.{lane_number};
 ghost use Rattle.run_picture.specs.Places.{half_lane, half_tick, height_at, lane_middle, left_end, left_height, lost_height, right_end, right_height, tick_count, tick_edge, tick_middle};
 
 use crate::shown_lanes::lane_number;
-use crate::windows::{MAX_WINDOW, Window};
+use picture_marks::{MAX_WINDOW, Window};
 use step_trace::ProcSet;
 
 /// The left edge of what is drawn by ticks.

@@ -3,16 +3,13 @@
 ghost use Rattle.std.specs.Prelude.{◌≡◌, codes, if◌then◌else◌};
 ghost use Rattle.step_trace.specs.Processors.{has_proc};
 
-use crate::clocks::Clock;
 use crate::frames::{Frame, LANES_TOP};
-use crate::labels::{push_label, push_node};
-use crate::pictures::Picture;
-use crate::round_numbers::round_step;
+use crate::mark_words::Words;
 use crate::shown_lanes::lane_number;
 use crate::svg::put;
 use crate::time_axes::{TimeAxis, put_times};
-use crate::windows::Window;
-use crate::words::Words;
+use picture_marks::{Picture, Window};
+use run_words::{Clock, push_label, push_node, round_step};
 use std::alloc::{AllocError, Global};
 use step_trace::ProcSet;
 

@@ -1,10 +1,10 @@
 //! Messages, as lines from their Sends to the Receives that take them. Lengths are tenths of a pixel.
 
 use crate::frames::{Frame, Line};
-use crate::messages::{Message, tick_at};
+use crate::mark_words::Words;
 use crate::svg::put;
 use crate::titles::{Made, push_message_title};
-use crate::words::Words;
+use picture_marks::{Message, tick_at};
 use std::alloc::{AllocError, Global};
 use step_trace::{Act, Trace};
 

@@ -3,14 +3,12 @@
 ghost use Rattle.std.specs.Prelude.{◌≡◌};
 ghost use Rattle.run_picture.specs.Axes.{bound_height, column_edge, column_middle};
 
-use crate::bound_scales::BoundScale;
-use crate::clocks::Clock;
 use crate::frames::{LEFT, WIDTH};
-use crate::pictures::Picture;
-use crate::round_numbers::round_step;
 use crate::svg::put;
 use crate::time_axes::{TimeAxis, put_times};
 use crate::titles::push_corner_title;
+use picture_marks::Picture;
+use run_words::{BoundScale, Clock, round_step};
 use std::alloc::{AllocError, Global};
 use step_trace::{MAX_TICKS, Row};
 

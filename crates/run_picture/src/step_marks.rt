@@ -3,10 +3,10 @@
 ghost use Rattle.std.specs.Prelude.{◌≤◌};
 
 use crate::frames::Frame;
-use crate::messages::tick_at;
+use crate::mark_words::Words;
 use crate::svg::put;
 use crate::titles::{Made, push_receive_title, push_send_title};
-use crate::words::Words;
+use picture_marks::tick_at;
 use std::alloc::{AllocError, Global};
 use step_trace::{Act, Trace};
 

@@ -6,16 +6,14 @@ ghost use Rattle.run_picture.specs.Strips.{half_strip, strip_count, strip_middle
 ghost use Rattle.run_picture.specs.declared.frames.TheConstants.{LEFT, WIDTH};
 
 use crate::frames::{LEFT, WIDTH};
-use crate::labels::push_label;
 use crate::lanes::look_of;
-use crate::pictures::Picture;
-use crate::report_rows::COLUMNS;
+use crate::mark_words::Words;
 use crate::shown_lanes::lane_number;
 use crate::staircase::{Axes, HEIGHT, TOP};
-use crate::strokes::Strokes;
 use crate::svg::{earliest, put};
 use crate::titles::{push_gap_title, push_strip_title};
-use crate::words::Words;
+use picture_marks::{COLUMNS, Picture, Strokes};
+use run_words::push_label;
 use std::alloc::{AllocError, Global};
 use step_trace::{ProcSet, Row};
 

@@ -4,17 +4,16 @@ ghost use Rattle.std.specs.Prelude.{◌≡◌, ◌-◌, ◌≤◌, length, take,
 
 use crate::descriptions::put_description;
 use crate::frames::Frame;
-use crate::labels::overhang;
 use crate::lanes::put_lanes;
 use crate::legend::{LEGEND, STRIPS_LEGEND, STYLE};
-use crate::log_words::{LogWords, clock_of};
+use crate::mark_words::Words;
 use crate::message_lines::put_message;
-use crate::pictures::Picture;
 use crate::staircase::{put_axis, put_staircase};
 use crate::step_marks::put_step;
 use crate::strips::{Strips, put_strips};
 use crate::witness_marks::{put_gap, put_miss};
-use crate::words::Words;
+use picture_marks::Picture;
+use run_words::{LogWords, clock_of, short_width};
 use std::alloc::{AllocError, Global};
 use std::fmt::Display;
 use step_trace::{ProcSet, Row, Trace};
@@ -92,6 +91,23 @@ pub(crate) fn put<D: Display + Drop>(
 ) -> Result<(), AllocError> {
     let text = format!(in alloc; "{value}")?;
     out.extend_from_slice(text.as_bytes())
+}
+
+/// How wide a name is that fits next to the lanes.
+const ROOM: u64 = 740;
+
+/// How far the widest names reach beyond the usual left edge: those of as many characters as are shown, all of them wide.
+const MOST_OVERHANG: u64 = 1_060;
+
+/// How far the widest name next to a lane reaches beyond the usual left edge.
+fn overhang(names: &[&str]) -> u64
+    ensures { result ≤ MOST_OVERHANG }
+{
+    let mut widest = ROOM;
+    for name in names {
+        widest = short_width(name.as_bytes()).max(widest);
+    }
+    widest.saturating_sub(ROOM).min(MOST_OVERHANG)
 }
 
 /// The page: how far it reaches beyond the usual left edge, how wide and how high it is.

@@ -3,10 +3,9 @@
 ghost use Rattle.std.specs.Prelude.{◌≡◌, ◌≤◌};
 ghost use Rattle.run_picture.specs.TimeAxes.{begin_of, part_of, power_of, span_of, step_of, time_at, time_place};
 
-use crate::clocks::{Clock, LONGEST, power_within};
 use crate::frames::{LEFT, WIDTH, share_of};
-use crate::round_numbers::round_step;
 use crate::svg::put;
+use run_words::{Clock, LONGEST, power_within, round_step};
 use std::alloc::{AllocError, Global};
 
 /// How often the step between times fits into an axis.

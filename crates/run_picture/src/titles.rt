@@ -3,12 +3,8 @@
 ghost use Rattle.std.specs.Prelude.{◌≡◌, ◌++◌, OnOk};
 ghost use Rattle.run_picture.specs.Titles.{corner_title, delta_text, ending_text, gap_title, message_title, miss_title, missing_text, phi_text, receive_title, received_text, send_title, sent_text, strip_title, subject_text, way_text};
 
-use crate::clocks::Clock;
-use crate::digits::push_number;
-use crate::labels::push_node;
-use crate::words::{
-    Words, push_bound, push_ids, push_made, push_message, push_step_at, push_timed,
-};
+use crate::mark_words::{Words, push_bound, push_ids, push_made, push_step_at, push_timed};
+use run_words::{Clock, push_message, push_node, push_number};
 use std::alloc::AllocError;
 use step_tables::StepRow;
 use step_trace::Gap;

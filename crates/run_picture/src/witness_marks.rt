@@ -1,11 +1,11 @@
 //! The misses and gaps of a report. Lengths are tenths of a pixel.
 
 use crate::frames::Frame;
+use crate::mark_words::Words;
 use crate::message_lines::put_line;
-use crate::messages::{processor_at, tick_at};
 use crate::svg::put;
 use crate::titles::{Made, push_gap_title, push_miss_title};
-use crate::words::Words;
+use picture_marks::{processor_at, tick_at};
 use std::alloc::{AllocError, Global};
 use step_trace::{Row, Trace};
 

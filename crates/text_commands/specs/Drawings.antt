@@ -5,19 +5,19 @@ use Rattle.step_trace.specs.declared.rows.Row.{Row}
 use Rattle.step_trace.specs.Members.{all_to}
 use Rattle.step_trace.specs.Traces.{Recorded}
 use Rattle.step_trace.specs.Fronts.{IsReport}
-use Rattle.run_picture.specs.declared.pictures.Picture.{Picture}
-use Rattle.run_picture.specs.declared.windows.Window.{Window}
-use Rattle.run_picture.specs.declared.windows.WindowError.{WindowError}
-use Rattle.run_picture.specs.declared.windows.WindowError.TheVariants as no_window
-use Rattle.run_picture.specs.Marks.{ShowsExactly, ShowsMisses, ShowsGaps}
-use Rattle.run_picture.specs.declared.names.NamesError.{NamesError}
-use Rattle.run_picture.specs.declared.names.NamesError.TheVariants as no_names
-use Rattle.run_picture.specs.declared.lane_lists.LanesError.{LanesError}
-use Rattle.run_picture.specs.declared.lane_lists.LanesError.TheVariants as no_lanes
-use Rattle.run_picture.specs.LaneLists.{AreLanes, IsLanesRefusal}
-use Rattle.run_picture.specs.Names.{AreNames, IsNamesRefusal, parts_of}
-use Rattle.run_picture.specs.Pictures.{Shows}
-use Rattle.run_picture.specs.Windows.{window_of}
+use Rattle.picture_marks.specs.declared.pictures.Picture.{Picture}
+use Rattle.picture_marks.specs.declared.windows.Window.{Window}
+use Rattle.picture_marks.specs.declared.windows.WindowError.{WindowError}
+use Rattle.picture_marks.specs.declared.windows.WindowError.TheVariants as no_window
+use Rattle.picture_marks.specs.Marks.{ShowsExactly, ShowsMisses, ShowsGaps}
+use Rattle.run_words.specs.declared.names.NamesError.{NamesError}
+use Rattle.run_words.specs.declared.names.NamesError.TheVariants as no_names
+use Rattle.run_words.specs.declared.lane_lists.LanesError.{LanesError}
+use Rattle.run_words.specs.declared.lane_lists.LanesError.TheVariants as no_lanes
+use Rattle.run_words.specs.LaneLists.{AreLanes, IsLanesRefusal}
+use Rattle.run_words.specs.Names.{AreNames, IsNamesRefusal, parts_of}
+use Rattle.picture_marks.specs.Pictures.{Shows}
+use Rattle.picture_marks.specs.Windows.{window_of}
 use Rattle.run_page.specs.EvidenceTicks.{IsEvidenceWindow}
 use Rattle.step_tables.specs.Told.{Told}
 use Rattle.command_options.specs.declared.Drawing.{Drawing}

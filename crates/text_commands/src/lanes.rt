@@ -5,7 +5,7 @@ ghost use Rattle.step_trace.specs.declared.processors.TheConstants.{MAX_MEMBER};
 ghost use Rattle.text_commands.specs.Drawings.{AreLanesIn, IsLanesFault, lanes_fault};
 
 use command_faults::{Fault, MemberOutside, PictureOption, SetOption};
-use run_picture::{LanesError, lanes_of};
+use run_words::{LanesError, lanes_of};
 use std::alloc::Global;
 use step_trace::ProcSet;
 

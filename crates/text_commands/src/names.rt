@@ -4,7 +4,7 @@ ghost use Rattle.std.specs.Prelude.{◌≡◌, IfErr, IfOk, OnOk, map};
 ghost use Rattle.text_commands.specs.Drawings.{IsNamesFault, are_names_in, names_fault, names_of_list};
 
 use command_faults::{Fault, PictureOption};
-use run_picture::{NamesError, names_of};
+use run_words::{NamesError, names_of};
 use std::alloc::Global;
 
 /// The names of so many processors; none if none are listed.

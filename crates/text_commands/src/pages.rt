@@ -12,7 +12,7 @@ use crate::traces::set_of;
 use command_faults::Fault;
 use command_options::Page;
 use run_page::page_text;
-use run_picture::LogWords;
+use run_words::LogWords;
 use std::alloc::Global;
 use step_tables::StepTable;
 use step_trace::{ProcSet, Trace};

@@ -1,0 +1,8 @@
+pub mod MessageTakers
+pub mod GatheredLists
+pub mod TickFacts
+pub mod ShownMarks
+pub mod ColumnSteps
+pub mod RowPlaces
+pub mod MissMarks
+pub mod GapMarks

@@ -1,0 +1,7 @@
+pub mod Windows
+pub mod Gathered
+pub mod Messages
+pub mod Rows
+pub mod Strokes
+pub mod Pictures
+pub mod Marks

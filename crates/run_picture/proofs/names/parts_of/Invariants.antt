@@ -1,5 +1,0 @@
-use Rattle.std.proofs.Common.{◌≡◌, map}
-use Rattle.run_picture.proofs.names.parts_of.Given as goal
-
-abbrev pub invariant-loop-part : goal.invariant-loop-part
-invariant-loop-part l = map (λ x. x.now) l.parts.items ≡ map (λ x. x.now) l.yielded

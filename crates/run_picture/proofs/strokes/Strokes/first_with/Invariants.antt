@@ -1,7 +1,0 @@
-use Rattle.std.proofs.Common.{◌≢◌, ◌<◌, ◌≤◌, ℕ}
-use Rattle.run_picture.specs.Strokes.{has_stroke}
-use Rattle.run_picture.proofs.strokes.Strokes.first_with.Given as goal
-
--- none of the columns so far
-abbrev pub invariant-loop-column : goal.invariant-loop-column
-invariant-loop-column l = (c : ℕ) → l.from ≤ c → c < l.column → has_stroke l.self l.processor c ≢ l.is_busy

@@ -1,0 +1,12 @@
+pub mod Escapes
+pub mod Names
+pub mod LaneLists
+pub mod ShortNames
+pub mod Labels
+pub mod RoundNumbers
+pub mod BoundScales
+pub mod Digits
+pub mod Clocks
+pub mod LongNames
+pub mod LogWords
+pub mod Words
