@@ -17,7 +17,8 @@ use Rattle.decision_claims.specs.Decisions.{HaveDecidedBy}
 use Rattle.decision_claims.specs.LateRows.{IsFirstLate}
 use Rattle.decision_claims.proofs.FrontClaims.{front-below, KeepsClaim-rows}
 use Rattle.decision_claims.proofs.PrefixClaims.{has_cut, IsCutAt-twice, IsFeasible-cut}
-use Rattle.judged_runs.specs.LateInTime.{AreNoEarlier, AreNoneDue, AreOldLater, IsLateInTime, IsNextLook, KeepsBefore, begun_after}
+use Rattle.judged_runs.specs.declared.prefixes.Ahead.{Ahead}
+use Rattle.judged_runs.specs.LateInTime.{AreNoEarlier, AreNoneDue, AreOldLater, IsAhead, IsGlance, IsLateInTime, IsNextLook, IsNextTick, KeepsBefore, begun_after}
 use Rattle.judged_runs.specs.LaterRows.{AreRowsAfter}
 
 -- what is kept before a tick is kept before each earlier one
@@ -74,7 +75,7 @@ none_due set cut rows decisions due x next monotone report last beyond later =
 
 -- So the search goes on at a tick before which each deadline is kept.
 pub before_jump : (set : ℕ) (trace cut : Recorded) (rows : List Row) (decisions : List Decision) (due : Triple → ℕ) (x next : ℕ) → IsMonotone due → IsTrace cut → IsCutAt trace x cut
-    → IsReport set cut rows → KeepsClaim set cut decisions due → IsNextLook rows due x next → KeepsBefore set trace decisions due x → KeepsBefore set trace decisions due next
+    → IsReport set cut rows → KeepsClaim set cut decisions due → IsNextTick rows due x next → KeepsBefore set trace decisions due x → KeepsBefore set trace decisions due next
 before_jump set trace cut rows decisions due x next monotone sound at report kept look before = record {
   each = λ t other l timed there feasible. elim (cases_lt (due t) (x + 1)) [
     | inl m ↦ (before_next set trace cut decisions due x sound at kept before).each t other m timed there feasible
@@ -104,9 +105,32 @@ old_later set trace cut rows due x next after y monotone sound at report none or
   ];
 }
 
--- what is so at a tick is so at each later one
-pub old_still : (set : ℕ) (trace : Recorded) (due : Triple → ℕ) (x z after y : ℕ) → x ≤ z → AreOldLater set trace due x after y → AreOldLater set trace due z after y
-old_still set trace due x z after y l old = record { each = λ t w cut m. old.each t w cut (omega (arith, l, m)) }
+-- So after a whole look at a prefix that keeps the claim a search goes on as its rows say.
+pub ahead_of_look : (set : ℕ) (trace cut : Recorded) (rows : List Row) (decisions : List Decision) (due : Triple → ℕ) (x : ℕ) (a : Ahead) → IsMonotone due → IsTrace cut → IsCutAt trace x cut
+    → IsReport set cut rows → KeepsClaim set cut decisions due → IsNextLook rows due x a → KeepsBefore set trace decisions due x → IsAhead set trace decisions due a
+ahead_of_look set trace cut rows decisions due x a monotone sound at report kept look before =
+    let later = look.tick.later in
+    let order = look.order in
+    record {
+      before = before_jump set trace cut rows decisions due x a.tick monotone sound at report kept look.tick before;
+      order = omega (arith, order, later);
+      old = old_later set trace cut rows due x a.tick a.after a.old monotone sound at report look.old order (omega (arith, later));
+    }
+
+-- Rows of the last ticks set the least deadline of bounds that become old, too.
+pub old_in_sight : (set : ℕ) (trace cut : Recorded) (rows : List Row) (due : Triple → ℕ) (x next after old since least : ℕ) → IsMonotone due → IsTrace cut → IsCutAt trace x cut
+    → AreRowsAfter set cut after rows → (after < since → AreNoEarlier rows due since least) → since ≤ x → x ≤ next → least ≤ old → AreOldLater set trace due x after old → AreOldLater set trace due next since least
+old_in_sight set trace cut rows due x next after old since least monotone sound at last none order later less earlier = record {
+  each = λ t z other l timed there feasible aged. elim (cases_lt after t.gst) [
+    | inr before ↦ (let m = earlier.each t z other (omega (arith, later, l)) timed there feasible before in omega (arith, m, less))
+    | inl young ↦ (
+        let row = last.served t (feasible_before set trace cut other x z t sound at timed there (omega (arith, later, l)) (omega (arith, aged, order)) feasible) young in
+        let rises = monotone.rises (triple_of row.row) t row.gst row.delta row.phi in
+        let gst = row.gst in
+        let m = (none (omega (arith, young, aged))).each row.place row.row row.there (omega (arith, gst, aged)) in
+        omega (arith, rises, m))
+  ];
+}
 
 -- The rows of the last ticks, what begins later, and old bounds have no deadline before y.
 pub none_in_sight : (set : ℕ) (trace cut : Recorded) (rows : List Row) (due : Triple → ℕ) (x after old of_rows of_others y : ℕ) → IsMonotone due → IsTrace cut → IsCutAt trace x cut
@@ -131,8 +155,13 @@ none_in_sight set trace cut rows due x after old of_rows of_others y monotone so
   ];
 }
 
-pub none_at : (set : ℕ) (trace : Recorded) (due : Triple → ℕ) (x : ℕ) → AreNoneDue set trace due x x
-none_at set trace due x = record { each = λ t cut low high. absurd (omega (arith, low, high)) }
+-- a glance may stay where it is
+pub glance_here : (set : ℕ) (trace : Recorded) (due : Triple → ℕ) (a : Ahead) → a.after ≤ a.tick → AreOldLater set trace due a.tick a.after a.old → IsGlance set trace due a.tick a
+glance_here set trace due a order old = record {
+  none = record { each = λ t cut low high. absurd (omega (arith, low, high)) };
+  order = order;
+  old = old;
+}
 
 -- so each deadline before y is kept
 pub before_sight : (set : ℕ) (trace : Recorded) (decisions : List Decision) (due : Triple → ℕ) (x y : ℕ) → AreNoneDue set trace due x y → KeepsBefore set trace decisions due x → KeepsBefore set trace decisions due y

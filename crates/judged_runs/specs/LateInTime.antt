@@ -35,6 +35,12 @@ pub record AreOldLater (set : ℕ) (trace : Recorded) (deadline : Triple → ℕ
 pub record AreNoneDue (set : ℕ) (trace : Recorded) (deadline : Triple → ℕ) (x y : ℕ) : Type 0 where
   pub each : (t : Triple) (cut : Recorded) → x ≤ deadline t → deadline t < y → IsTrace cut → IsCutAt trace (deadline t) cut → ¬ IsFeasible set cut t
 
+-- A glance at the prefix that ends in tick x goes on there: no deadline is due before, and none of old bounds is earlier than that.
+pub record IsGlance (set : ℕ) (trace : Recorded) (deadline : Triple → ℕ) (x : ℕ) (a : Ahead) : Type 0 where
+  pub none : AreNoneDue set trace deadline x a.tick
+  pub order : a.after ≤ a.tick
+  pub old : AreOldLater set trace deadline a.tick a.after a.old
+
 -- A search goes on at this tick: each deadline before it is kept, and none of old bounds is earlier than that.
 pub record IsAhead (set : ℕ) (trace : Recorded) (decisions : List Decision) (deadline : Triple → ℕ) (a : Ahead) : Type 0 where
   pub before : KeepsBefore set trace decisions deadline a.tick
@@ -51,7 +57,7 @@ abbrev pub begun_after : ℕ → Triple
 begun_after x = record { gst = x + 1; delta = 1; phi = 1 }
 
 -- A tick after x. If it isn't the next one, no row that begins by x has an earlier deadline, and no bounds that hold from a tick after x on.
-pub record IsNextLook (rows : List Row) (deadline : Triple → ℕ) (x next : ℕ) : Type 0 where
+pub record IsNextTick (rows : List Row) (deadline : Triple → ℕ) (x next : ℕ) : Type 0 where
   pub later : x < next
   pub of_rows : x + 1 < next → (k : ℕ) (r : Row) → slice_get rows k ≡ Some r → r.gst ≤ x → next ≤ deadline (triple_of r)
   pub of_others : x + 1 < next → next ≤ deadline (begun_after x)
@@ -64,3 +70,9 @@ pub record AreNoEarlier (rows : List Row) (deadline : Triple → ℕ) (until y :
 pub record AreFalling (rows : List Row) : Type 0 where
   pub delta : (j k : ℕ) (a b : Row) → j < k → slice_get rows j ≡ Some a → slice_get rows k ≡ Some b → b.delta ≤ a.delta
   pub phi : (j k : ℕ) (a b : Row) → j < k → slice_get rows j ≡ Some a → slice_get rows k ≡ Some b → b.phi ≤ a.phi
+
+-- The search goes on at such a tick, after the prefix that ends in tick x. By these rows none of old bounds has an earlier deadline.
+pub record IsNextLook (rows : List Row) (deadline : Triple → ℕ) (x : ℕ) (a : Ahead) : Type 0 where
+  pub tick : IsNextTick rows deadline x a.tick
+  pub order : a.after ≤ x
+  pub old : AreNoEarlier rows deadline a.after a.old

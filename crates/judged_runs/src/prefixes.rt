@@ -1,12 +1,14 @@
 //! The search for a deadline that wasn't kept in time, by the prefixes of a run.
 
-ghost use Rattle.std.specs.Prelude.{ℕ, ◌≡◌, ◌≤◌, ◌<◌, ◌+◌, ◌↔◌, IfOk, IfSome, IsNone, MatchOption, OnErr, OnOk, max, min};
-ghost use Rattle.step_trace.specs.Fronts.{triple_of};
+ghost use Rattle.std.specs.Prelude.{ℕ, List, ◌≡◌, ◌≤◌, ◌<◌, ◌+◌, ◌↔◌, IfOk, IfSome, IsNone, MatchOption, OnErr, OnOk, max, min};
+ghost use Rattle.step_trace.specs.Fronts.{Triple, triple_of};
+ghost use Rattle.step_trace.specs.Traces.{Recorded};
 ghost use Rattle.step_trace.specs.declared.traces.TheConstants.{MAX_TICKS};
+ghost use Rattle.decision_claims.specs.declared.decisions.Decision.{Decision as OneDecision};
 ghost use Rattle.decision_claims.specs.Decisions.{HaveDecidedBy};
 ghost use Rattle.decision_claims.specs.Formulas.{deadline};
 ghost use Rattle.decision_claims.specs.Claims.{KeepsClaim, KeepsClaimInTime};
-ghost use Rattle.judged_runs.specs.LateInTime.{AreFalling, AreNoEarlier, AreNoneDue, AreOldLater, IsAhead, IsLateInTime, IsLook, IsNextLook, KeepsBefore, begun_after};
+ghost use Rattle.judged_runs.specs.LateInTime.{AreFalling, AreNoEarlier, AreOldLater, IsAhead, IsGlance, IsLateInTime, IsLook, IsNextLook, IsNextTick, KeepsBefore, begun_after};
 
 use crate::prefix_reports::{report_until, rows_after};
 use chunk_join::PrefixAnalyst;
@@ -17,18 +19,18 @@ use step_trace::{ProcSet, Row, Trace};
 /// How many ticks of a prefix are its last ones, of which the bounds still rise from look to look.
 const LAST: u64 = 64;
 
-/// How many ticks may be looked at without the others.
+/// How many ticks may be looked at before bounds from all but the last ones of them are old.
 const MOST: u64 = 5 * LAST;
 
 /// Where a search goes on.
 #[derive(Clone, Copy)]
-struct Ahead {
+pub(crate) struct Ahead {
     /// The tick in which the next prefix ends. No prefix that ends before it refutes the claim.
-    tick: u64,
+    pub(crate) tick: u64,
     /// The bounds that hold from this tick or an earlier one on are old.
-    after: u64,
+    pub(crate) after: u64,
     /// A tick that is no later than the deadline of any old bounds.
-    old: u64,
+    pub(crate) old: u64,
 }
 
 /// What a look at a prefix finds.
@@ -45,8 +47,9 @@ enum Looked {
 ///
 /// Finds the bounds of some of the prefixes that end before all members have decided. After one that ends in tick x, it
 /// goes on at the least deadline of its rows, or of bounds of 1 from the next tick on if that is less. No prefix
-/// between has a deadline that is due. Of most prefixes it finds the bounds of the last ticks alone, since those of
-/// earlier ticks are not due for long. Memory may come only if there is such a prefix.
+/// between has a deadline that is due. Of most prefixes it finds the bounds of the last ticks alone: those of earlier
+/// ticks only grow, so they are due no earlier than when they were found last. Memory may come only if there is such a
+/// prefix.
 pub fn first_late_in_time(
     alloc: Global,
     trace: &Trace,
@@ -62,11 +65,7 @@ pub fn first_late_in_time(
 {
     let end = undecided_until(set, decisions, trace.last_tick());
     let mut analyst = PrefixAnalyst::new(trace, set);
-    let mut ahead = Ahead {
-        tick: 0,
-        after: 0,
-        old: 0,
-    };
+    let mut ahead = beginning();
     while ahead.tick < end {
         match look_at(alloc, &mut analyst, decisions, start, formula, ahead)? {
             Looked::LateBy(late) => return Ok(Some(late)),
@@ -76,6 +75,17 @@ pub fn first_late_in_time(
         }
     }
     Ok(None)
+}
+
+/// Where each search begins.
+pub(crate) fn beginning() -> Ahead
+    ensures { (set : ℕ) (trace : Recorded) (decisions : List OneDecision) (due : Triple → ℕ) → IsAhead set trace decisions due result }
+{
+    Ahead {
+        tick: 0,
+        after: 0,
+        old: 0,
+    }
 }
 
 /// The tick up to which prefixes are looked at: the one in which all members have decided, or the one after the last.
@@ -113,40 +123,69 @@ fn look_at(
     ensures look { IfOk result (IsLook analyst.old.set analyst.old.seen decisions.now (deadline analyst.old.seen.config start formula.now) ahead.tick) }
     ensures same { analyst.new ≡ analyst.old }
 {
-    let tick = glance_at(alloc, analyst, start, formula, ahead)?;
-    if ahead.tick < tick {
-        return Ok(Looked::GoOn(Ahead { tick, ..ahead }));
+    let next = glance_at(alloc, analyst, start, formula, ahead)?;
+    if ahead.tick < next.tick {
+        return Ok(Looked::GoOn(next));
     }
     look_at_all(alloc, analyst, decisions, start, formula, ahead.tick)
 }
 
-/// A tick before which no deadline is due from the next prefix on, by its last ticks. If they may say too little, it is
-/// the one in which that prefix ends.
-fn glance_at(
+/// Where the search goes on by a glance at the last ticks of the next prefix: no deadline is due before. If they may say
+/// too little, it is at that prefix.
+pub(crate) fn glance_at(
     alloc: Global,
     analyst: &mut PrefixAnalyst<'_>,
     start: u64,
     formula: &Formula,
     ahead: Ahead,
-) -> Result<u64, AllocError>
+) -> Result<Ahead, AllocError>
     requires inside { ahead.tick ≤ analyst.old.seen.last }
     requires order { ahead.after ≤ ahead.tick }
     requires old { AreOldLater analyst.old.set analyst.old.seen (deadline analyst.old.seen.config start formula.now) ahead.tick ahead.after ahead.old }
-    ensures none { IfOk result (AreNoneDue analyst.old.set analyst.old.seen (deadline analyst.old.seen.config start formula.now) ahead.tick) }
+    ensures glance { IfOk result (IsGlance analyst.old.set analyst.old.seen (deadline analyst.old.seen.config start formula.now) ahead.tick) }
     ensures same { analyst.new ≡ analyst.old }
 {
     let x = ahead.tick;
-    if x <= ahead.after || MOST < x - ahead.after {
-        return Ok(x);
-    }
-    if ahead.old <= x {
-        return Ok(x);
+    if x <= ahead.after || ahead.old <= x {
+        return Ok(ahead);
     }
     let rows = rows_after(alloc, analyst, ahead.after, x)?;
     let trace = analyst.trace();
     let of_rows = before_deadlines(trace, start, formula, &rows, x);
     let of_others = others_deadline(trace, start, formula, x);
-    Ok(lesser(lesser(of_rows, of_others), ahead.old))
+    let tick = lesser(lesser(of_rows, of_others), ahead.old);
+    if tick <= x {
+        return Ok(ahead);
+    }
+    Ok(aged(trace, start, formula, &rows, ahead, tick))
+}
+
+/// The search goes on at a later tick, after these rows of the last ticks of its prefix. If they are many, most are old
+/// from now on.
+fn aged(
+    trace: &Trace,
+    start: u64,
+    formula: &Formula,
+    rows: &[Row],
+    ahead: Ahead,
+    tick: u64,
+) -> Ahead
+    requires falling { AreFalling rows.now }
+    ensures tick { result.tick ≡ tick }
+    ensures order { result.after ≤ max ahead.after ahead.tick }
+    ensures old { result.old ≤ ahead.old }
+    ensures rows { ahead.after < result.after → AreNoEarlier rows.now (deadline trace.now.config start formula.now) result.after result.old }
+{
+    if ahead.tick.saturating_sub(ahead.after) <= MOST {
+        return Ahead { tick, ..ahead };
+    }
+    let after = ahead.tick.saturating_sub(LAST);
+    let of_rows = before_deadlines(trace, start, formula, rows, after);
+    Ahead {
+        tick,
+        after,
+        old: lesser(of_rows, ahead.old),
+    }
 }
 
 /// Looks at the prefix that ends in this tick, if each deadline before it was kept.
@@ -167,11 +206,8 @@ fn look_at_all(
     let trace = analyst.trace();
     let set = analyst.set();
     let rows = report.rows();
-    let tick = next_look(trace, start, formula, rows, x);
-    let after = x.saturating_sub(LAST);
-    let old = before_deadlines(trace, start, formula, rows, after);
-    let next = Ahead { tick, after, old };
-    if x + 1 < tick {
+    let next = next_look(trace, start, formula, rows, x);
+    if x + 1 < next.tick {
         // No deadline is due yet.
         return Ok(Looked::GoOn(next));
     }
@@ -181,11 +217,25 @@ fn look_at_all(
     }
 }
 
-/// The tick at which the search goes on after the prefix that ends in tick x, whose rows these are.
-pub(crate) fn next_look(trace: &Trace, start: u64, formula: &Formula, rows: &[Row], x: u64) -> u64
+/// Where the search goes on after the prefix that ends in tick x, whose rows these are.
+pub(crate) fn next_look(trace: &Trace, start: u64, formula: &Formula, rows: &[Row], x: u64) -> Ahead
     requires inside { x ≤ trace.now.last }
     requires falling { AreFalling rows.now }
-    ensures { IsNextLook rows.now (deadline trace.now.config start formula.now) x result }
+    ensures next { IsNextLook rows.now (deadline trace.now.config start formula.now) x result }
+{
+    let after = x.saturating_sub(LAST);
+    Ahead {
+        tick: next_tick(trace, start, formula, rows, x),
+        after,
+        old: before_deadlines(trace, start, formula, rows, after),
+    }
+}
+
+/// The tick at which the search goes on after the prefix that ends in tick x, whose rows these are.
+fn next_tick(trace: &Trace, start: u64, formula: &Formula, rows: &[Row], x: u64) -> u64
+    requires inside { x ≤ trace.now.last }
+    requires falling { AreFalling rows.now }
+    ensures { IsNextTick rows.now (deadline trace.now.config start formula.now) x result }
 {
     let of_rows = before_deadlines(trace, start, formula, rows, x);
     let of_others = others_deadline(trace, start, formula, x);

@@ -1,4 +1,5 @@
 use Rattle.std.proofs.Common.{refl, true≢false, ap, arith}
+use Rattle.decision_claims.specs.Formulas.{deadline}
 use Rattle.decision_claims.proofs.FrontClaims.{deadline-later}
 use Rattle.decision_claims.proofs.PrefixClaims.{KeepsClaim-in_time}
 use Rattle.judged_runs.proofs.EarlierPrefixes.{before_all, late_refutes}
@@ -28,11 +29,7 @@ returns-clause-whole c = λ none. KeepsClaim-in_time c.args.set c.args.trace.now
 
 pub loop-ahead-init : goal.loop-ahead-init
 loop-ahead-init c = record {
-  ahead = record {
-    before = record { each = λ t cut l. absurd (omega (arith, l)) };
-    order = omega arith;
-    old = record { each = λ t z cut l sound at feasible begun. (let start = feasible.start in absurd (omega (arith, start, begun))) };
-  };
+  ahead = c.beginning-ahead.ensures c.args.set c.args.trace.now c.args.decisions.now (deadline c.args.trace.now.config c.args.start c.args.formula.now);
   set = ap (λ a. a.set) c.new-analyst.ensures;
   seen = ap (λ a. a.seen) c.new-analyst.ensures;
 }
