@@ -55,7 +55,8 @@ def random_log(chance, scale=1):
         epoch = chance.choice([0, 1_700_000_000 * 10**9, 1_700_000_000_123_456_789])
     base = chance.choice([0, 0, 1, 1000, 2**32]) if epoch is None else 0
     unit = chance.choice([1, 1, 1, 7] if epoch is None else [1, 1_000, 10**6, 10**6, 10**9, 60 * 10**9])
-    log = Log(rows, nodes, epoch, base, unit, width, chance.random() < (0.7 if is_coarse else 0.2), form)
+    is_apart = not is_coarse and not any(";" in it["to"] for it in rows)
+    log = Log(rows, nodes, epoch, base, unit, width, chance.random() < (0.2 if is_apart else 0.7), form)
     log.options = options_of(chance, log)
     return log
 
@@ -63,6 +64,7 @@ def random_log(chance, scale=1):
 def apart_rows(chance, nodes, width, scale):
     """Each node acts at most once in a tick, and what it receives was sent in an earlier one."""
     waiting, rows, serial, sent_to, again = {it: [] for it in nodes}, [], 0, {}, share_of_names(chance)
+    lists = share_of_lists(chance)
     busy, sends = chance.choice([0.1, 0.3, 0.6, 1]) / (10 if len(nodes) > 5 else 1), chance.choice([0.3, 0.5, 0.7])
     for moment in range(scale * chance.choice([1, 2, 5, *range(5, 25)])):
         sent = []
@@ -72,10 +74,9 @@ def apart_rows(chance, nodes, width, scale):
             at = moment * width + (chance.randrange(width) if rows else 0)
             if chance.random() < sends:
                 serial += 1
-                to = chance.choice(nodes)
-                message = name_for(chance, to, f"m{serial}", sent_to, again)
-                rows.append({"at": at, "node": node, "event": "send", "to": to, "message": message})
-                sent.append((to, message))
+                receivers, message = message_for(chance, nodes, f"m{serial}", sent_to, again, lists)
+                rows.append({"at": at, "node": node, "event": "send", "to": ";".join(receivers), "message": message})
+                sent += [(to, message) for to in receivers]
             else:
                 rows.append(receive_row(chance, at, node, waiting))
         for to, message in sent:
@@ -86,14 +87,15 @@ def apart_rows(chance, nodes, width, scale):
 def coarse_rows(chance, nodes, scale):
     """Several events of a node at one time, in the order of the file."""
     waiting, rows, at, sent_to, again = {it: [] for it in nodes}, [], 0, {}, share_of_names(chance)
+    lists = share_of_lists(chance)
     for serial in range(1, scale * chance.choice([2, 5, *range(5, 30)])):
         at += chance.choice([0, 0, 0, 1, 1, 2, 9])
         node = chance.choice(nodes)
         if chance.random() < 0.6:
-            to = chance.choice(nodes)
-            message = name_for(chance, to, f"m{serial}", sent_to, again)
-            rows.append({"at": at, "node": node, "event": "send", "to": to, "message": message})
-            waiting[to].append(message)
+            receivers, message = message_for(chance, nodes, f"m{serial}", sent_to, again, lists)
+            rows.append({"at": at, "node": node, "event": "send", "to": ";".join(receivers), "message": message})
+            for to in receivers:
+                waiting[to].append(message)
         else:
             rows.append(receive_row(chance, at, node, waiting))
     return rows
@@ -102,6 +104,21 @@ def coarse_rows(chance, nodes, scale):
 def share_of_names(chance):
     """How often a message has a name that was sent to other nodes, if there is one."""
     return chance.choice([0, 0, 0.3, 0.8])
+
+
+def share_of_lists(chance):
+    """How often a message is sent to several nodes by one record."""
+    return chance.choice([0, 0, 0, 0.2, 0.6])
+
+
+def message_for(chance, nodes, new, sent_to, again, lists):
+    """The nodes that a message is sent to, and its name: a new one if they are several."""
+    if len(nodes) > 1 and chance.random() < lists:
+        receivers = chance.sample(nodes, chance.randrange(2, min(len(nodes), 5) + 1))
+        sent_to.setdefault(new, set()).update(receivers)
+        return receivers, new
+    to = chance.choice(nodes)
+    return [to], name_for(chance, to, new, sent_to, again)
 
 
 def name_for(chance, to, new, sent_to, again):
@@ -132,6 +149,10 @@ def options_of(chance, log):
         options["tick"] = tick_text(chance, log, options, length)
     if chance.random() < 0.3:
         options["until"] = end_text(chance, log, options, max(it["at"] for it in log.rows) + chance.choice([0, 0, 1, 20]))
+    if chance.random() < 0.3:
+        options["from"] = end_text(chance, log, options, max(0, chance.choice(log.rows)["at"] + chance.choice([-1, 0, 0, 1])))
+        if chance.random() < 0.5:
+            options["until"] = end_text(chance, log, options, chance.choice(log.rows)["at"])
     if chance.random() < 0.3:
         options["idle"] = tick_text(chance, log, options, length * chance.choice([1, 1, 2, 3, 5, 20]) + chance.randrange(2))
     if log.spread:
@@ -241,7 +262,7 @@ def is_leap(year):
 
 
 def bad_nodes(chance, log):
-    log.options["nodes"] = chance.choice(["a", "a,a", "a,,b", "", ",a", "a,", "a,\x7f", ",".join(f"n{it}" for it in range(65))])
+    log.options["nodes"] = chance.choice(["a", "a,a", "a,,b", "", ",a", "a,", "a,\x7f", "a;b,c", ",".join(f"n{it}" for it in range(65))])
 
 
 def bad_unit(chance, log):
@@ -263,6 +284,14 @@ def bad_idle(chance, log):
 
 def bad_until(chance, log):
     log.options["until"] = chance.choice(["", "x", "016", "-5", "5 parsecs", "5.", ".5", "05.5", "1.1234567890", "2026-11-22", str(GREATEST + 1), "2026-11-22T24:00:00Z", "2026-11-22T10:00:00.1234567890Z"])
+
+
+def bad_start(chance, log):
+    log.options["from"] = chance.choice(["", "x", "016", "-5", "5 parsecs", "5.", "2026-11-22", str(GREATEST + 1), "2026-11-22T24:00:00Z"])
+
+
+def start_of_another_kind(chance, log):
+    log.options["from"] = chance.choice(["5", "5.25", "2026-11-22T10:00:00Z", "2026-11-22 10:00:00", "5ms", "20000000000.5"])
 
 
 def no_log(chance, log):
@@ -300,7 +329,7 @@ def bad_event(chance, log):
 
 def bad_node(chance, log):
     row = chance.choice(log.rows)
-    row[chance.choice(["node", "to"])] = chance.choice(["", "\x01", "a\n", "\udcff", "\x7f", "not-listed"])
+    row[chance.choice(["node", "to"])] = chance.choice(["", "\x01", "a\n", "\udcff", "\x7f", "not-listed", ";", "a;", "a;;b", "a;not-listed"])
 
 
 def bad_message(chance, log):
@@ -461,7 +490,7 @@ def spread_past(chance, log):
 
 
 AIMS = [
-    bad_nodes, bad_unit, bad_tick, bad_until, bad_idle, no_log, no_column, two_columns, bad_fields, bad_time, bad_event, bad_node, bad_message,
+    bad_nodes, bad_unit, bad_tick, bad_until, bad_idle, bad_start, start_of_another_kind, no_log, no_column, two_columns, bad_fields, bad_time, bad_event, bad_node, bad_message,
     no_events, too_many_nodes, sent_before, too_few_nodes, unit_of_another_kind, tick_of_another_kind, until_of_another_kind,
     idle_of_another_kind, too_many_ticks,
     never_sent, sent_again, for_another, received_before, no_later, longer_ticks, second_event, skewed, aligned, aligned, cycle, spread_past,

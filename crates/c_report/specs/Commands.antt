@@ -1,5 +1,5 @@
 -- What the words of a command line are answered, and what the room holds then.
-use Rattle.std.specs.Prelude.{ℕ, ◌≡◌, ◌≢◌, ◌<◌, ◌≤◌, ◌⊎◌, ◌==◌, List, ◌∷◌, length, Option, String, option_map, IsUtf8, codes, string_bytes, ⊤}
+use Rattle.std.specs.Prelude.{ℕ, ◌≡◌, ◌≢◌, ◌<◌, ◌≤◌, ◌⊎◌, ◌==◌, List, ◌∷◌, length, Option, String, option_map, IsUtf8, codes, string_bytes, ⊤, true, false, is_some}
 use Rattle.std.specs.List.{slice_split}
 use Rattle.certificate_checker.specs.declared.verdicts.Verdict.{Verdict}
 use Rattle.command_options.specs.declared.ImportForm.{ImportForm}
@@ -75,6 +75,10 @@ simulation_words = codes "synchrony: the library simulates no runs"
 abbrev pub runs_words : List ℕ
 runs_words = codes "synchrony: the library judges one run at a time"
 
+-- and of an import of a window
+abbrev pub window_words : List ℕ
+window_words = codes "synchrony: the library imports whole logs, and takes no --from"
+
 -- The command reads the file that is lent; what is printed is right.
 pub record IsPrintedOf (file : List ℕ) (Gives : List ℕ → Type 0) (status : ℕ) (out : List ℕ) : Type 0 where
   pub reads : file ≡ lent
@@ -110,14 +114,18 @@ AreImportOptions given o = AreOptions (option_map string_bytes given.nodes) (opt
 abbrev pub IsTextOfLog : ImportForm → Options → List ℕ → List ℕ → Type 0
 IsTextOfLog form o log out = IsImportTold form o (λ notes. ⊤) log out
 
--- the same, by the options that are given
+-- the same, by the options that are given, of a whole log
 abbrev pub IsImportFor : ImportOptions → List ℕ → List ℕ → Type 0
-IsImportFor given log out = (o : Options) × AreImportOptions given o × IsTextOfLog given.form o log out
+IsImportFor given log out = (is_some given.from ≡ false) × ((o : Options) × AreImportOptions given o × IsTextOfLog given.form o log out)
 
--- why there is none: the options; or else the log
-abbrev pub IsUnimportedFor : ImportOptions → List ℕ → Fault → Type 0
-IsUnimportedFor given log w = IsImportOptionFault (option_map string_bytes given.nodes) (option_map string_bytes given.unit) (option_map string_bytes given.tick) (option_map string_bytes given.until) (option_map string_bytes given.idle) w
+-- why there is none of a whole log: the options; or else the log
+abbrev pub IsUnimportedWhole : ImportOptions → List ℕ → Fault → Type 0
+IsUnimportedWhole given log w = IsImportOptionFault (option_map string_bytes given.nodes) (option_map string_bytes given.unit) (option_map string_bytes given.tick) (option_map string_bytes given.until) (option_map string_bytes given.idle) w
     ⊎ ((o : Options) × AreImportOptions given o × IsUnimported given.form o log w)
+
+-- why there is none: a window is asked for; or why there is none of the whole log
+abbrev pub IsUnimportedFor : ImportOptions → List ℕ → Fault → Type 0
+IsUnimportedFor given log w = ((is_some given.from ≡ true) × IsSaid window_words w) ⊎ ((is_some given.from ≡ false) × IsUnimportedWhole given log w)
 
 -- the second text, if a file is named for it
 abbrev pub second_if : {B : Type 0} → Option (String B) → List ℕ → Option (List ℕ)

@@ -1,7 +1,7 @@
 //! What is printed for the job of a command line, of the texts that a caller lends.
 
 ghost use Rattle.std.specs.Prelude.{◌≡◌, ◌≢◌, ◌<◌, IfOk, IfErr, OnOk, option_map, codes, string_bytes};
-ghost use Rattle.c_report.specs.Commands.{IsImportFor, IsJudgementPrinted, IsLineOf, IsPrintedFor, IsPrintedOf, IsSaid, IsTextOfLog, IsUnimportedFor, IsUnprintedFor, IsUnprintedOf, lent, other_file_words, run_words, runs_words, second_if, simulation_words};
+ghost use Rattle.c_report.specs.Commands.{IsImportFor, IsJudgementPrinted, IsLineOf, IsPrintedFor, IsPrintedOf, IsSaid, IsTextOfLog, IsUnimportedFor, IsUnprintedFor, IsUnprintedOf, lent, other_file_words, run_words, runs_words, second_if, simulation_words, window_words};
 ghost use Rattle.c_report.specs.declared.answers.TheConstants.{NO_MEMORY, NO_ROOM};
 ghost use Rattle.text_commands.specs.Answers.{IsAnswerTo, IsUnanswered};
 ghost use Rattle.text_commands.specs.Checks.{IsUnchecked};
@@ -16,7 +16,8 @@ use command_faults::Fault;
 use command_line::jobs::{CheckJob, DrawJob, ImportJob, JudgeJob, PageJob};
 use command_line::{Job, names_standard_input};
 use command_options::{ImportForm, ImportOptions};
-use event_log::{Options, read_log, read_table, read_ticks};
+use event_log::Options;
+use log_windows::{log_import, log_table, log_ticks};
 use std::alloc::{AllocError, Global};
 use text_commands::{
     Answer, Replay, ToldDrawing, ToldPage, Upgrade, answer_to, import_options, judgement_on,
@@ -155,6 +156,9 @@ fn imported(alloc: Global, given: &ImportOptions, text: &[u8]) -> Result<Vec<u8>
     ensures imported { IfOk result (λ out. IsImportFor given.now text.now out.items) }
     ensures refused { IfErr result (IsUnimportedFor given.now text.now) }
 {
+    if given.from.is_some() {
+        return Err(refused_window(alloc));
+    }
     let options = import_options(
         alloc,
         text_in(&given.nodes),
@@ -192,7 +196,7 @@ fn trace_text_of(alloc: Global, text: &[u8], options: &Options) -> Result<Vec<u8
     ensures trace { IfOk result (λ out. IsTextOfLog ImportForm.Trace options.now text.now out.items) }
     ensures refused { IfErr result (IsUnimported ImportForm.Trace options.now text.now) }
 {
-    let import = read_log(alloc, text, options)?;
+    let import = log_import(alloc, text, options)?;
     Upgrade.answer(alloc, import.trace)
 }
 
@@ -201,7 +205,7 @@ fn table_text_of(alloc: Global, text: &[u8], options: &Options) -> Result<Vec<u8
     ensures table { IfOk result (λ out. IsTextOfLog ImportForm.Table options.now text.now out.items) }
     ensures refused { IfErr result (IsUnimported ImportForm.Table options.now text.now) }
 {
-    Ok(read_table(alloc, text, options)?.table)
+    Ok(log_table(alloc, text, options)?.table)
 }
 
 /// The table of the lengths of a tick for a log.
@@ -209,7 +213,7 @@ fn ticks_text_of(alloc: Global, text: &[u8], options: &Options) -> Result<Vec<u8
     ensures ticks { IfOk result (λ out. IsTextOfLog ImportForm.Ticks options.now text.now out.items) }
     ensures refused { IfErr result (IsUnimported ImportForm.Ticks options.now text.now) }
 {
-    let table = read_ticks(alloc, text, options)?;
+    let table = log_ticks(alloc, text, options)?;
     Ok(ticks_text(alloc, &table)?)
 }
 
@@ -241,6 +245,16 @@ fn refused_run(alloc: Global) -> Fault
     refused(
         alloc,
         "synchrony: run starts threads, which the library does not",
+    )
+}
+
+/// The refusal of a window of a log.
+fn refused_window(alloc: Global) -> Fault
+    ensures { IsSaid window_words result }
+{
+    refused(
+        alloc,
+        "synchrony: the library imports whole logs, and takes no --from",
     )
 }
 

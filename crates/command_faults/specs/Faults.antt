@@ -31,6 +31,7 @@ abbrev pub status_of_log : LogError → ℕ
 status_of_log no_log.TickUnfit = 2
 status_of_log no_log.UntilUnfit = 2
 status_of_log no_log.IdleUnfit = 2
+status_of_log no_log.FromUnfit = 2
 status_of_log e = 3
 
 -- the exit status of a tick that the trace hasn't: for a start that of a refused trace, else that of the

@@ -8,13 +8,14 @@ use Rattle.command_faults.specs.declared.faults.ImportOption.{ImportOption}
 use Rattle.command_faults.specs.declared.faults.ImportOption.TheVariants as import_option
 use Rattle.command_faults.specs.Hints.{hint}
 use Rattle.event_log.specs.declared.refusals.LogError.{LogError}
-use Rattle.event_log.specs.declared.refusals.LogError.TheVariants.{BadNode, BadTime, TickUnfit, UntilUnfit, IdleUnfit, TooManyTicks, TooManySteps, NotLater, SecondEvent, Cycle, NoOffsets}
+use Rattle.event_log.specs.declared.refusals.LogError.TheVariants.{BadNode, BadTime, FromUnfit, TickUnfit, UntilUnfit, IdleUnfit, TooManyTicks, TooManySteps, NotLater, SecondEvent, Cycle, NoOffsets}
 
 -- what comes before the reason of a refused log: nothing if it begins with an option that doesn't fit
 abbrev pub log_lead : LogError → List ℕ
 log_lead TickUnfit = []
 log_lead UntilUnfit = []
 log_lead IdleUnfit = []
+log_lead FromUnfit = []
 log_lead why = codes "log: "
 
 -- a line of what helps, with the line feed before it
@@ -26,13 +27,14 @@ hint_line (Some Spread) = 10 ∷ codes "synchrony: --spread sets them apart"
 -- the same for a refused log; nothing if nothing helps
 abbrev pub help_line : LogError → List ℕ
 help_line TooManyTicks = 10 ∷ codes "synchrony: a greater --tick makes fewer; --ticks lists those that fit"
+help_line FromUnfit = 10 ∷ codes "synchrony: --from is a time like those of the log, and not after --until"
 help_line TooManySteps = 10 ∷ codes "synchrony: a greater --tick or a shorter --idle makes fewer"
 help_line (NotLater number message hint) = hint_line hint
 help_line (SecondEvent number node tick hint) = hint_line hint
 help_line (Cycle number hops) = hops ++ 10 ∷ codes "synchrony: no clocks make this right: the records of a node are out of order, or a message is named wrongly"
 help_line (NoOffsets lines) = lines
 help_line (BadTime number) = 10 ∷ codes "synchrony: a time is a whole number, decimal seconds like 1700000000.123456, or a time stamp like 2026-11-22T10:00:00.250Z; all are of the kind of record 2's, and with --unit whole numbers"
-help_line (BadNode number None) = 10 ∷ codes "synchrony: the name of a node is text with no control character, and not empty"
+help_line (BadNode number None) = 10 ∷ codes "synchrony: the name of a node is text with no control character or semicolon, and not empty"
 help_line (BadNode number (Some name)) = 10 ∷ (codes "synchrony: \"" ++ (printed name ++ codes "\" is not among --nodes"))
 help_line why = []
 
@@ -42,6 +44,7 @@ import_option_words import_option.Nodes = codes "--nodes"
 import_option_words import_option.Unit = codes "--unit"
 import_option_words import_option.Tick = codes "--tick"
 import_option_words import_option.Until = codes "--until"
+import_option_words import_option.From = codes "--from"
 import_option_words import_option.Idle = codes "--idle"
 
 -- what an option has that gives no length of time, and what it takes

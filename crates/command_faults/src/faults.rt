@@ -133,6 +133,8 @@ pub enum ImportOption {
     Tick,
     /// When the log ends.
     Until,
+    /// When the window of the log begins.
+    From,
     /// The longest time without an event that gets a receive of nothing.
     Idle,
 }
@@ -306,6 +308,7 @@ pub fn status(fault: &Fault) -> u8
         Fault::Picture(_) | Fault::Report(_, _) | Fault::Import(_) => 2,
         Fault::Length(_, _) => 2,
         Fault::Log(LogError::TickUnfit | LogError::UntilUnfit | LogError::IdleUnfit) => 2,
+        Fault::Log(LogError::FromUnfit) => 2,
         Fault::Trace(_) | Fault::Log(_) | Fault::Table(_) => 3,
         Fault::Certificate(_) | Fault::Decisions(_) => 4,
         Fault::Runs(_) | Fault::Listed(_) => 4,

@@ -22,6 +22,7 @@ impl fmt::Display for LogLead<'_> {
     fn fmt<W: fmt::Write>(&self, f: &mut fmt::Formatter<W>) -> fmt::Result {
         match self.0 {
             LogError::TickUnfit | LogError::UntilUnfit | LogError::IdleUnfit => f.write_str(""),
+            LogError::FromUnfit => f.write_str(""),
             _ => f.write_str("log: "),
         }
     }
@@ -42,6 +43,9 @@ impl fmt::Display for HelpLine<'_> {
             LogError::TooManyTicks => f.write_str(
                 "\nsynchrony: a greater --tick makes fewer; --ticks lists those that fit",
             ),
+            LogError::FromUnfit => f.write_str(
+                "\nsynchrony: --from is a time like those of the log, and not after --until",
+            ),
             LogError::TooManySteps => f.write_str(
                 "\nsynchrony: a greater --tick or a shorter --idle makes fewer",
             ),
@@ -56,7 +60,7 @@ impl fmt::Display for HelpLine<'_> {
                 "\nsynchrony: a time is a whole number, decimal seconds like 1700000000.123456, or a time stamp like 2026-11-22T10:00:00.250Z; all are of the kind of record 2's, and with --unit whole numbers",
             ),
             LogError::BadNode(_, None) => f.write_str(
-                "\nsynchrony: the name of a node is text with no control character, and not empty",
+                "\nsynchrony: the name of a node is text with no control character or semicolon, and not empty",
             ),
             LogError::BadNode(_, Some(name)) => {
                 write!(f, "\nsynchrony: \"{name}\" is not among --nodes")
@@ -91,6 +95,7 @@ impl fmt::Display for ImportOption {
             ImportOption::Unit => f.write_str("--unit"),
             ImportOption::Tick => f.write_str("--tick"),
             ImportOption::Until => f.write_str("--until"),
+            ImportOption::From => f.write_str("--from"),
             ImportOption::Idle => f.write_str("--idle"),
         }
     }

@@ -42,7 +42,7 @@ plain_draw name file list plain_file plain_list = plain_line (codes "draw") (fil
     (after_value _ _ file _ _ plain_file refl refl refl refl (after_word _ _ _ (codes "--correct") _ _ refl refl (after_value _ _ list _ _ plain_list refl refl refl refl (at_end _ _))))
     refl refl refl refl (inl tt) (λ given h. h)
 
-pub plain_import : (name log : Text) → is_flag log ≡ false → IsPlain (import_line name log) (IsImport log None None None None None false false false false (form_of false)) IsMemory
+pub plain_import : (name log : Text) → is_flag log ≡ false → IsPlain (import_line name log) (IsImport log None None None None None None false false false false (form_of false)) IsMemory
 unfolding clap_on_literals
 plain_import name log plain_log = plain_line (codes "import") (log ∷ []) _ _ _ _
     (after_value _ _ log _ _ plain_log refl refl refl refl (at_end _ _)) refl refl refl refl tt (λ given h. h)

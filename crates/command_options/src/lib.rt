@@ -212,6 +212,8 @@ pub struct ImportOptions {
     pub tick: Option<String>,
     /// The time when the log ends: that of its last event if there is none.
     pub until: Option<String>,
+    /// The time from which on the events of the log are read: all of them if there is none.
+    pub from: Option<String>,
     /// The longest time without an event of a node that gets a receive of nothing, a number or a duration. If there is
     /// none, no node gets one.
     pub idle: Option<String>,

@@ -8,7 +8,7 @@ use Rattle.std.proofs.lemmas.List.{length-append}
 use Rattle.std.proofs.lemmas.List.Elements.{All-nil, All-push, All-tail, All-head}
 use Rattle.std.proofs.lemmas.Map.Keys.{IsDistinct-push}
 use borrow.Author.Tests.{ltb-true, lt-ltb}
-use Rattle.event_log.specs.Names.{has_name, is_name, with_name}
+use Rattle.event_log.specs.Names.{has_name, is_node_name, with_name}
 use Rattle.event_log.specs.Options.{AreNodes, IsNodeFault, is_next_node}
 use Rattle.event_log.specs.declared.options.OptionError.{OptionError}
 use Rattle.event_log.specs.declared.options.OptionError.TheVariants as option
@@ -21,12 +21,12 @@ with_name-new names name e = rw e refl
 -- what holds of the nodes so far
 pub record AreListed (names : List (List ℕ)) : Type 0 where
   pub few : length names ≤ 64
-  pub each : All (λ name. is_name name ≡ true) names
+  pub each : All (λ name. is_node_name name ≡ true) names
   pub different : IsDistinct bytes_eq names
 
 pub listed-none : AreListed []
 unfolding IsDistinct
-listed-none = record { few = omega arith; each = All-nil (λ name. is_name name ≡ true); different = tt }
+listed-none = record { few = omega arith; each = All-nil (λ name. is_node_name name ≡ true); different = tt }
 
 both : (a b : Bool) → (a && b) ≡ true → (a ≡ true) × (b ≡ true)
 both true b e = (refl, e)
@@ -38,12 +38,12 @@ not-true false e = refl
 
 pub listed-next : (names : List (List ℕ)) (name : List ℕ) → AreListed names → is_next_node names name ≡ true → AreListed (names ++ name ∷ [])
 listed-next names name h e =
-    let a = both (is_name name && nat_lt (length names) 64) (not (has_name names name)) e in
-    let b = both (is_name name) (nat_lt (length names) 64) a.0 in
+    let a = both (is_node_name name && nat_lt (length names) 64) (not (has_name names name)) e in
+    let b = both (is_node_name name) (nat_lt (length names) 64) a.0 in
     let few = ltb-true (length names) 64 b.1 in
     record {
       few = omega (arith, few, length-append names (name ∷ []));
-      each = All-push (λ name. is_name name ≡ true) names name h.each b.0;
+      each = All-push (λ name. is_node_name name ≡ true) names name h.each b.0;
       different = IsDistinct-push nat_list_eq_equiv names name h.different (not-true (has_name names name) a.1);
     }
 
@@ -62,9 +62,9 @@ different-front x (y ∷ done) rest h =
     let apart = apart-from x done rest (λ z. bytes_eq y z ≡ false) h.0 in
     either-false (bytes_eq x y) (has_name done x) (nat_list_eq_equiv.symm x y ∙ apart) (different-front x done rest h.1)
 
-name-at : (x : List ℕ) (done rest : List (List ℕ)) → All (λ name. is_name name ≡ true) (done ++ x ∷ rest) → is_name x ≡ true
-name-at x [] rest h = All-head (λ name. is_name name ≡ true) x rest h
-name-at x (y ∷ done) rest h = name-at x done rest (All-tail (λ name. is_name name ≡ true) y (done ++ x ∷ rest) h)
+name-at : (x : List ℕ) (done rest : List (List ℕ)) → All (λ name. is_node_name name ≡ true) (done ++ x ∷ rest) → is_node_name x ≡ true
+name-at x [] rest h = All-head (λ name. is_node_name name ≡ true) x rest h
+name-at x (y ∷ done) rest h = name-at x done rest (All-tail (λ name. is_node_name name ≡ true) y (done ++ x ∷ rest) h)
 
 all-three : (a b c : Bool) → a ≡ true → b ≡ true → c ≡ false → (a && b && not c) ≡ true
 all-three a b c e f g = rw (e, f, g) refl
@@ -73,7 +73,7 @@ next-in : (x : List ℕ) (done rest : List (List ℕ)) → AreNodes (done ++ x �
 next-in x done rest h =
     let few = h.few in
     let short : length done < 64 = omega (arith, few, length-append done (x ∷ rest)) in
-    all-three (is_name x) (nat_lt (length done) 64) (has_name done x) (name-at x done rest h.each) (lt-ltb (length done) 64 short) (different-front x done rest h.different)
+    all-three (is_node_name x) (nat_lt (length done) 64) (has_name done x) (name-at x done rest h.each) (lt-ltb (length done) 64 short) (different-front x done rest h.different)
 
 cut : (xs : List (List ℕ)) (k : ℕ) (d : List ℕ) → k < length xs → (rest : List (List ℕ)) × (xs ≡ take k xs ++ get_or xs k d ∷ rest)
 cut [] k d lt = absurd (omega (arith, lt))

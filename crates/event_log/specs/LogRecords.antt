@@ -13,7 +13,7 @@ use Rattle.event_log.specs.declared.refusals.LogError.{LogError}
 use Rattle.event_log.specs.declared.refusals.LogError.TheVariants.{BadFields, BadTime, BadEvent, BadNode, BadMessage}
 use Rattle.event_log.specs.declared.times.Moment.{Moment}
 use Rattle.event_log.specs.declared.times.TimeKind.{TimeKind}
-use Rattle.event_log.specs.Names.{are_message_names, has_name, is_message_name, is_name}
+use Rattle.event_log.specs.Names.{are_message_names, has_name, is_message_name, is_node_name}
 use Rattle.event_log.specs.Times.{moment_in, moment_of}
 
 -- what a record says about an event
@@ -41,7 +41,7 @@ verb_of field =
 
 -- whether a node may be named: if the nodes are listed, it is one of them
 abbrev pub is_node : Option (Bor (List (List ℕ))) → List ℕ → Bool
-is_node None name = is_name name
+is_node None name = is_node_name name
 is_node (Some nodes) name = has_name nodes.now name
 
 abbrev pub are_nodes_by : Verb → Option (Bor (List (List ℕ))) → Said → Bool
@@ -52,9 +52,9 @@ are_nodes_by verb.Receive listed s = is_node listed s.node
 abbrev pub are_nodes : Option (Bor (List (List ℕ))) → Said → Bool
 are_nodes listed s = are_nodes_by s.verb listed s
 
--- the name that a refused node has; None if it is no name
+-- the name that a refused node has; None if it is none of a node
 abbrev pub name_in : List ℕ → Option (List ℕ)
-name_in node = if is_name node then Some node else None
+name_in node = if is_node_name node then Some node else None
 
 abbrev pub bad_node_by : Verb → Option (Bor (List (List ℕ))) → Said → Option (List ℕ)
 bad_node_by verb.Send listed s = if is_node listed s.node then name_in s.to else name_in s.node

@@ -9,7 +9,7 @@ use Rattle.event_log.specs.declared.times.LogEnd.{LogEnd}
 use Rattle.event_log.specs.declared.times.TimeUnit.{TimeUnit}
 use Rattle.event_log.specs.declared.times.Width.{Width}
 use Rattle.event_log.specs.declared.times.Width.TheVariants.{Units}
-use Rattle.event_log.specs.Names.{has_name, is_name}
+use Rattle.event_log.specs.Names.{has_name, is_node_name}
 use Rattle.event_log.specs.Times.{IsEnd, IsWidth, unit_of}
 
 -- the parts of a text between its commas
@@ -20,12 +20,12 @@ parts_between_commas text = slice_split (λ byte. byte == 44) text
 pub record AreNodes (names : List (List ℕ)) : Type 0 where
   pub two : 2 ≤ length names
   pub few : length names ≤ 64
-  pub each : All (λ name. is_name name ≡ true) names
+  pub each : All (λ name. is_node_name name ≡ true) names
   pub different : IsDistinct bytes_eq names
 
--- whether a name may be listed after these: it is a name, there are fewer than 64, and it is none of them
+-- whether a name may be listed after these: it is one of a node, there are fewer than 64, and it is none of them
 abbrev pub is_next_node : List (List ℕ) → List ℕ → Bool
-is_next_node names name = is_name name && nat_lt (length names) 64 && not (has_name names name)
+is_next_node names name = is_node_name name && nat_lt (length names) 64 && not (has_name names name)
 
 -- a text lists no nodes for this reason, or out of memory
 abbrev pub IsNodeFault : Type 0 → OptionError → Type 0

@@ -1,7 +1,7 @@
 -- What is reported about a refused log.
 use Rattle.std.specs.Prelude.{ℕ, List, ◌++◌, codes, decimal, unwrap_or}
 use Rattle.event_log.specs.declared.refusals.LogError.{LogError}
-use Rattle.event_log.specs.declared.refusals.LogError.TheVariants.{TooLarge, NoColumn, TwoColumns, TooManyEvents, BadFields, BadTime, BadEvent, BadNode, BadMessage, NoEvents, TooManyNodes, SentBefore, TooFewNodes, TickUnfit, UntilUnfit, IdleUnfit, TooManyTicks, NeverSent, WrongReceiver, ReceivedBefore, NotLater, SecondEvent, Cycle, NoOffsets, TooLate, TooManySteps, Memory}
+use Rattle.event_log.specs.declared.refusals.LogError.TheVariants.{TooLarge, NoColumn, TwoColumns, FromUnfit, TooManyEvents, BadFields, BadTime, BadEvent, BadNode, BadMessage, NoEvents, TooManyNodes, SentBefore, TooFewNodes, TickUnfit, UntilUnfit, IdleUnfit, TooManyTicks, NeverSent, WrongReceiver, ReceivedBefore, NotLater, SecondEvent, Cycle, NoOffsets, TooLate, TooManySteps, Memory}
 use Rattle.event_log.specs.declared.refusal_texts.Words.{Words}
 use Rattle.event_log.specs.declared.refusal_texts.Words.TheVariants as words
 use Rattle.event_log.specs.Columns.{name_of}
@@ -37,6 +37,7 @@ abbrev pub log_error_text : LogError → List ℕ
 log_error_text TooLarge = codes "text too large"
 log_error_text (NoColumn column) = codes "no column " ++ name_of column
 log_error_text (TwoColumns column) = codes "two columns " ++ name_of column
+log_error_text FromUnfit = codes "--from does not fit the times"
 log_error_text TooManyEvents = codes "too many events"
 log_error_text (BadFields number) = in_record number (codes "bad fields")
 log_error_text (BadTime number) = in_record number (codes "bad time")

@@ -30,13 +30,13 @@ const COLUMNS: [Column; 5] = [
 
 /// The places of the columns in a record, and how many fields a record has.
 #[derive(Clone, Copy, Debug)]
-pub(crate) struct Columns {
-    pub(crate) time: usize,
-    pub(crate) node: usize,
-    pub(crate) event: usize,
-    pub(crate) to: usize,
-    pub(crate) message: usize,
-    pub(crate) fields: usize,
+pub struct Columns {
+    pub time: usize,
+    pub node: usize,
+    pub event: usize,
+    pub to: usize,
+    pub message: usize,
+    pub fields: usize,
 }
 
 impl Column {
@@ -69,7 +69,7 @@ impl fmt::Display for Column {
 ///
 /// Refuses NoColumn with the first column that is missing, and TwoColumns with the first that occurs twice, in this
 /// order.
-pub(crate) fn columns_of(header: &ByteRecord) -> Result<Columns, LogError>
+pub fn columns_of(header: &ByteRecord) -> Result<Columns, LogError>
     ensures { result ≡ columns_of (fields_of header.now) }
 {
     if let Some(column) = first_lacking(header) {

@@ -32,7 +32,7 @@ impl Model for HopLines {
 
 impl HopLines {
     /// These lines.
-    pub(crate) fn new(text: String) -> Self
+    pub fn new(text: String) -> Self
         ensures { result ≡ string_bytes text }
     {
         HopLines { text }

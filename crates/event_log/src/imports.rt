@@ -336,7 +336,7 @@ pub(crate) fn until_for(kind: TimeKind, until: Option<LogEnd>) -> Result<Option<
 }
 
 /// The end of a log with times of this kind, as these are counted.
-fn end_in(kind: TimeKind, end: LogEnd) -> Result<i128, LogError>
+pub fn end_in(kind: TimeKind, end: LogEnd) -> Result<i128, LogError>
     ensures { result ≡ end_in kind end }
 {
     match (kind, end) {

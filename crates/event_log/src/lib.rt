@@ -34,12 +34,12 @@ mod tick_rows;
 mod tick_tables;
 mod times;
 
-pub use columns::Column;
+pub use columns::{Column, Columns, columns_of};
 pub use hop_lines::HopLines;
-pub use imports::{IdleReceives, Import, read_log};
+pub use imports::{IdleReceives, Import, end_in, read_log};
 pub use laws::log_laws;
 pub use logs::{NamedEvents, events_of_log};
-pub use names::{Name, NameSet};
+pub use names::{Name, NameSet, are_message_names};
 pub use option_texts::read_options;
 pub use options::{OptionError, Options};
 pub use reading::MAX_EVENTS;
@@ -49,5 +49,6 @@ pub use step_tables::{LogTable, read_table};
 pub use tick_rows::{Placing, TickRow};
 pub use tick_tables::{TickTable, read_ticks};
 pub use times::{
-    LogEnd, Moment, TimeKind, TimeUnit, Width, read_end, read_moment, read_unit, read_width,
+    LogEnd, Moment, TimeKind, TimeUnit, Width, moment_in, read_end, read_moment, read_unit,
+    read_width, settled,
 };

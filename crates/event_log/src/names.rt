@@ -3,7 +3,7 @@
 ghost use Rattle.std.specs.Prelude.{◌≡◌, ◌<◌, ℕ, List, [], IfSome, IfOk, OnOk, OnErr, is_some, length, not, option_map, position, slice_get};
 ghost use Rattle.std.specs.List.{list_any, position_or_len};
 ghost use Rattle.std.specs.Str.{bytes_eq};
-ghost use Rattle.event_log.specs.Names.{are_message_names, has_name, is_control, is_message_name, is_name, names_in, with_name};
+ghost use Rattle.event_log.specs.Names.{are_message_names, has_name, is_control, is_message_name, is_name, is_node_name, names_in, with_name};
 
 use crate::times::text_of;
 use indexmap::IndexSet;
@@ -73,8 +73,19 @@ pub(crate) fn is_message_name(name: &[u8]) -> bool
     !name.contains(&b' ')
 }
 
+/// Whether these bytes are the name of a node: one without a semicolon.
+#[tactic(auto, unfolding(crate::specs::Names::is_node_name))]
+pub(crate) fn is_node_name(name: &[u8]) -> bool
+    ensures { result ≡ is_node_name name.now }
+{
+    if !is_name(name) {
+        return false;
+    }
+    !name.contains(&b';')
+}
+
 /// Whether these bytes are names of messages with one space between them, possibly none.
-pub(crate) fn are_message_names(field: &[u8]) -> bool
+pub fn are_message_names(field: &[u8]) -> bool
     ensures { result ≡ are_message_names field.now }
 {
     if field.len() == 0 {
@@ -146,7 +157,7 @@ impl NameSet {
     }
 
     /// Puts a name last, unless it is there, and gives its place and whether it is new.
-    pub(crate) fn add(&mut self, alloc: Global, name: &[u8]) -> Result<(usize, bool), AllocError>
+    pub fn add(&mut self, alloc: Global, name: &[u8]) -> Result<(usize, bool), AllocError>
         ensures names { OnOk result (self.new ≡ with_name self.old name.now) }
         ensures place { IfOk result (λ r. r.0 ≡ position_or_len (bytes_eq name.now) self.old) }
         ensures added { IfOk result (λ r. r.1 ≡ not (has_name self.old name.now)) }

@@ -4,7 +4,7 @@ ghost use Rattle.std.specs.Prelude.{◌≡◌, ◌<◌, ◌^◌, ◌∷◌, [], 
 ghost use Rattle.event_log.specs.Options.{AreNodes, AreNodesIn, AreOptions, HasBadNodes, HasBadTick, HasBadUnit, HasBadUntil, IsIdleIn, IsNodeFault, IsOptionFault, IsTimeFault, IsUnitIn, IsUntilIn, IsWidthIn, is_next_node, parts_between_commas};
 ghost use Rattle.event_log.specs.Times.{nanoseconds_of};
 
-use crate::names::{MAX_NODES, NameSet, is_name};
+use crate::names::{MAX_NODES, NameSet, is_node_name};
 use crate::options::{OptionError, Options};
 use crate::results::both;
 use crate::times::{LogEnd, TimeUnit, Width, read_end, read_unit, read_width};
@@ -170,7 +170,7 @@ fn list_node(alloc: Global, nodes: &mut NameSet, name: &[u8]) -> Result<(), Opti
     ensures next { OnOk result (is_next_node nodes.old name.now ≡ true) }
     ensures refused { IfErr result (IsNodeFault (is_next_node nodes.old name.now ≡ false)) }
 {
-    if !is_name(name) {
+    if !is_node_name(name) {
         return Err(OptionError::Nodes);
     }
     if nodes.len() >= MAX_NODES {

@@ -6,7 +6,7 @@ ghost use Rattle.event_log.specs.LogRecords.{are_messages, are_nodes, bad_node, 
 ghost use Rattle.event_log.specs.Naming.{IsUnless, is_memory};
 
 use crate::columns::Columns;
-use crate::names::{Name, NameSet, are_message_names, is_message_name, is_name};
+use crate::names::{Name, NameSet, are_message_names, is_message_name, is_node_name};
 use crate::refusals::LogError;
 use crate::times::{Moment, TimeKind, moment_in, read_moment};
 use csv::ByteRecord;
@@ -120,7 +120,7 @@ fn is_node(listed: Option<&NameSet>, name: &[u8]) -> bool
 {
     match listed {
         Some(nodes) => nodes.place_of(name).is_some(),
-        None => is_name(name),
+        None => is_node_name(name),
     }
 }
 
@@ -144,11 +144,11 @@ fn bad_node<'a>(listed: Option<&NameSet>, told: &Told<'a>) -> &'a [u8]
     }
 }
 
-/// The name that a node has; None if it is no name.
+/// The name that a node has; None if it is none of a node.
 fn name_in(alloc: Global, node: &[u8]) -> Result<Option<Name>, AllocError>
     ensures { IfOk result (λ name. name ≡ name_in node.now) }
 {
-    if !is_name(node) {
+    if !is_node_name(node) {
         return Ok(None);
     }
     Ok(Some(Name::new(alloc, node)?))

@@ -84,6 +84,7 @@ fn words_of(why: &LogError) -> Words<'_>
         LogError::TooLarge => Words::Log("text too large"),
         LogError::NoColumn(column) => Words::Column("no column ", *column),
         LogError::TwoColumns(column) => Words::Column("two columns ", *column),
+        LogError::FromUnfit => Words::Log("--from does not fit the times"),
         LogError::TooManyEvents => Words::Log("too many events"),
         LogError::BadFields(no) => Words::Record(*no, "bad fields"),
         LogError::BadTime(no) => Words::Record(*no, "bad time"),

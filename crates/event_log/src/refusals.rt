@@ -18,6 +18,8 @@ pub enum LogError {
     NoColumn(Column),
     /// The header has this column twice, and none before it.
     TwoColumns(Column),
+    /// The start of a window isn't of the kind of the times, or is after the window's end.
+    FromUnfit,
     /// There are more than 1,000,000 events.
     TooManyEvents,
     /// The record hasn't as many fields as the header.

@@ -229,7 +229,7 @@ fn zulu_of(field: &[u8]) -> Option<i128>
 }
 
 /// The time of this kind that a field gives.
-pub(crate) fn moment_in(kind: TimeKind, field: &[u8]) -> Option<Moment>
+pub fn moment_in(kind: TimeKind, field: &[u8]) -> Option<Moment>
     ensures { result ≡ moment_in kind field.now }
 {
     let time = time_as(kind, field)?;
@@ -238,7 +238,7 @@ pub(crate) fn moment_in(kind: TimeKind, field: &[u8]) -> Option<Moment>
 
 /// The kind by which the next time is read: whole numbers of a unit, if one is given; else that of record 2, if it is
 /// known.
-pub(crate) fn settled(unit: Option<TimeUnit>, kind: Option<TimeKind>) -> Option<TimeKind>
+pub fn settled(unit: Option<TimeUnit>, kind: Option<TimeKind>) -> Option<TimeKind>
     ensures { result ≡ settled unit kind }
 {
     match unit {

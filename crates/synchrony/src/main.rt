@@ -25,8 +25,8 @@ use std::time::Clock;
 use step_trace::{Correct, OpenGate};
 use text_commands::{
     Answer, Replay, ToldDrawing, ToldPage, Upgrade, import_options, judgement_status,
-    read_decisions, read_table, run_check, run_import, run_judge, run_report, serve,
-    verdict_status,
+    read_decisions, read_table, run_check, run_import, run_judge, run_report, run_window, serve,
+    verdict_status, window_start,
 };
 use trace_text::Counting;
 
@@ -248,17 +248,29 @@ fn import(rt: &HostRuntime, job: ImportJob) -> Result<u8, Fault> {
         job.options.drop_lost,
         job.options.merge,
     )?;
+    let start = window_start(text_in(&job.options.from))?;
     let mut log = Input::open(rt, job.file)?;
     let mut output = Output::new(rt.stdout());
     let mut notes = Counting::new(rt.stderr());
-    let told = run_import(
-        rt.alloc(),
-        &options,
-        job.options.form,
-        &mut Counting::new(&mut log),
-        &mut Counting::new(&mut output),
-        &mut notes,
-    );
+    let told = match start {
+        None => run_import(
+            rt.alloc(),
+            &options,
+            job.options.form,
+            &mut Counting::new(&mut log),
+            &mut Counting::new(&mut output),
+            &mut notes,
+        ),
+        Some(from) => run_window(
+            rt.alloc(),
+            &options,
+            from,
+            job.options.form,
+            &mut Counting::new(&mut log),
+            &mut Counting::new(&mut output),
+            &mut notes,
+        ),
+    };
     output.ended(told.map_err(|fault| log.named(fault)))
 }
 

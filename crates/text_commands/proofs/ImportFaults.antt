@@ -1,6 +1,6 @@
 -- The causes of the faults of an import.
 use Rattle.std.proofs.Common.{◌≡◌, ◌<◌, ℕ, List, length, Option, Some, None, IfSome, arith, inl, refl, subst}
-use Rattle.std.specs.Prelude.{⊤}
+use Rattle.std.specs.Prelude.{Bool, true, false, MatchBool, ⊤}
 use Rattle.trace_text.specs.declared.byte_loops.TheConstants.{MAX_TEXT_BYTES}
 use Rattle.trace_text.specs.declared.counting.Counting.{Counting}
 use Rattle.event_log.specs.declared.options.Options.{Options}
@@ -8,6 +8,10 @@ use Rattle.event_log.specs.declared.refusals.LogError.{LogError}
 use Rattle.event_log.specs.declared.refusals.LogError.TheVariants as no_log
 use Rattle.event_log.specs.TickTables.{with_width}
 use Rattle.event_log.proofs.LogRefusals.{large-text}
+use Rattle.log_windows.specs.declared.reading.LogWindow.{LogWindow}
+use Rattle.log_windows.specs.LogImports.{IsSpreadRefusal}
+use Rattle.log_windows.specs.Lists.{may_list}
+use Rattle.log_windows.specs.WindowImports.{IsWindowImportRefusal, IsWindowTicksRefusal}
 use Rattle.command_options.specs.declared.ImportForm.{ImportForm}
 use Rattle.command_options.specs.declared.ImportForm.TheVariants as forms
 use Rattle.command_faults.specs.declared.faults.Fault.{Fault}
@@ -24,11 +28,15 @@ pub refused-unimported : (form : ImportForm) (o : Options) (text : List ℕ) (wh
 refused-unimported form o text no_log.Memory h = tt
 refused-unimported form o text why h = (h, λ e. absurd (cc e))
 
+large-listed : (P : LogWindow → Type 0) (Q : Type 0) (text : List ℕ) → MAX_TEXT_BYTES < length text → (listed : Bool) → Q → MatchBool listed (IsSpreadRefusal P text no_log.TooLarge) Q
+large-listed P Q text h true q = inl (h, refl)
+large-listed P Q text h false q = q
+
 -- a log that is too large is refused for that
 large-refused : (form : ImportForm) (o : Options) (text : List ℕ) → MAX_TEXT_BYTES < length text → IsRefusalFor form o text no_log.TooLarge
-large-refused forms.Trace o text h = inl (large-text o text h)
-large-refused forms.Table o text h = inl (large-text o text h)
-large-refused forms.Ticks o text h = (1, omega arith, inl (large-text (with_width o 1) text h))
+large-refused forms.Trace o text h = large-listed (λ w. IsWindowImportRefusal o w no_log.TooLarge) _ text h (may_list text) (inl (large-text o text h))
+large-refused forms.Table o text h = large-listed (λ w. IsWindowImportRefusal o w no_log.TooLarge) _ text h (may_list text) (inl (large-text o text h))
+large-refused forms.Ticks o text h = large-listed (λ w. IsWindowTicksRefusal o w no_log.TooLarge) _ text h (may_list text) (1, omega arith, inl (large-text (with_width o 1) text h))
 
 large-served : (form : ImportForm) (o : Options) (Told : List ℕ → Type 0) (before after known : Option (List ℕ)) → IfSome known (λ text. MAX_TEXT_BYTES < length text)
     → IfSome known (λ text. IsServeFault (IsImportTold form o Told) (IsUnimported form o) text before after (fault.Log no_log.TooLarge))

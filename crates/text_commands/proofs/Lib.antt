@@ -4,3 +4,5 @@ pub mod CheckFaults
 pub mod JudgedTraces
 pub mod ImportFaults
 pub mod ReadBack
+pub mod WindowFaults
+pub mod TablesRead

@@ -12,10 +12,8 @@ use Rattle.event_log.specs.declared.refusals.LogError.{LogError}
 use Rattle.event_log.specs.declared.refusals.LogError.TheVariants as no_log
 use Rattle.event_log.specs.declared.tick_rows.TickRow.{TickRow}
 use Rattle.event_log.specs.declared.times.TimeKind.{TimeKind}
-use Rattle.event_log.specs.Imports.{IsImportOf, IsLogRefusal}
 use Rattle.event_log.specs.Options.{IsOptionFault}
-use Rattle.event_log.specs.StepTables.{IsTableOf}
-use Rattle.event_log.specs.TickTables.{IsTickRefusal, IsTickTable}
+use Rattle.log_windows.specs.LogImports.{AreLogTicks, IsLogImport, IsLogImportRefusal, IsLogTable, IsLogTicksRefusal}
 use Rattle.command_options.specs.declared.ImportForm.{ImportForm}
 use Rattle.command_options.specs.declared.ImportForm.TheVariants as forms
 use Rattle.command_faults.specs.declared.faults.Fault.{Fault}
@@ -46,14 +44,14 @@ IsImportOptionFault nodes unit tick until idle _ = ⊥
 -- is read back as that trace; or the table of its steps.
 abbrev pub IsImportText : ImportForm → Options → List ℕ → Import → List ℕ → Type 0
 IsImportText forms.Trace o text import out = IsUpgradeOf import.trace out
-IsImportText forms.Table o text import out = IsTableOf o text import out
+IsImportText forms.Table o text import out = IsLogTable o text import out
 IsImportText forms.Ticks o text import out = ⊥
 
 -- The first text is a log that is read as a trace by these options, and the second is what is printed of it. `Told`
 -- holds of the notes on it.
 pub record IsTraceTold (form : ImportForm) (o : Options) (Told : List ℕ → Type 0) (text out : List ℕ) : Type 0 where
   pub import : Import
-  pub exact : IsImportOf o text import
+  pub exact : IsLogImport o text import
   pub written : IsImportText form o text import out
   pub told : Told (notes_of o import)
 
@@ -62,7 +60,7 @@ pub record IsTraceTold (form : ImportForm) (o : Options) (Told : List ℕ → Ty
 pub record AreTicksTold (o : Options) (Told : List ℕ → Type 0) (text out : List ℕ) : Type 0 where
   pub kind : TimeKind
   pub rows : List TickRow
-  pub exact : IsTickTable o text kind rows
+  pub exact : AreLogTicks o text kind rows
   pub written : out ≡ ticks_text kind rows
   pub told : Told (tick_notes kind rows)
 
@@ -74,9 +72,9 @@ IsImportTold forms.Ticks o Told text out = AreTicksTold o Told text out
 
 -- the log is refused for this reason, with ticks of the options' length, or in the table of lengths with some length
 abbrev pub IsRefusalFor : ImportForm → Options → List ℕ → LogError → Type 0
-IsRefusalFor forms.Trace o text reason = IsLogRefusal o text reason
-IsRefusalFor forms.Table o text reason = IsLogRefusal o text reason
-IsRefusalFor forms.Ticks o text reason = IsTickRefusal o text reason
+IsRefusalFor forms.Trace o text reason = IsLogImportRefusal o text reason
+IsRefusalFor forms.Table o text reason = IsLogImportRefusal o text reason
+IsRefusalFor forms.Ticks o text reason = IsLogTicksRefusal o text reason
 
 -- The fault has its cause in the log: its first refusal; or it is out of memory, which is a fault of its own.
 abbrev pub IsUnimported : ImportForm → Options → List ℕ → Fault → Type 0

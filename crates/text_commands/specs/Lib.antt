@@ -16,6 +16,8 @@ pub mod Briefs
 pub mod EachBounds
 pub mod TimeoutTables
 pub mod Imports
+pub mod WindowLines
+pub mod Windows
 pub mod Judgings
 pub mod Pages
 pub mod ListedRuns

@@ -2,10 +2,8 @@
 
 ghost use Rattle.std.specs.Prelude.{◌≡◌, IfOk, IfErr, option_map, string_bytes};
 ghost use Rattle.command_faults.specs.Printing.{WentOut};
-ghost use Rattle.event_log.specs.Imports.{IsImportOf};
-ghost use Rattle.event_log.specs.StepTables.{IsTableOf};
-ghost use Rattle.event_log.specs.TickTables.{IsTickTable};
 ghost use Rattle.event_log.specs.Options.{AreOptions};
+ghost use Rattle.log_windows.specs.LogImports.{AreLogTicks, IsLogImport, IsLogTable};
 ghost use Rattle.text_commands.specs.Imports.{IsImportOptionFault, IsImportTold, IsNoLength, IsQuietFault, IsToldOfLogs, IsUnimported};
 ghost use Rattle.text_commands.specs.Serving.{Serves};
 
@@ -15,10 +13,8 @@ use crate::tick_lines::{tick_notes, ticks_text};
 use crate::upgrades::text_2_of;
 use command_faults::{Fault, ImportOption, print_notes};
 use command_options::ImportForm;
-use event_log::{
-    Import, LogError, LogTable, OptionError, Options, TickTable, read_log, read_options,
-    read_table, read_ticks,
-};
+use event_log::{Import, LogError, LogTable, OptionError, Options, TickTable, read_options};
+use log_windows::{log_import, log_table, log_ticks};
 use std::alloc::Global;
 use std::io::{Read, Write};
 use trace_text::{Counting, write_text};
@@ -94,11 +90,11 @@ pub fn run_import<R: Read, W: Write, N: Write>(
 
 /// What is made of a log.
 #[derive(Drop)]
-struct ImportTexts {
+pub(crate) struct ImportTexts {
     /// What is written.
-    out: Vec<u8>,
+    pub(crate) out: Vec<u8>,
     /// The notes on it.
-    notes: String,
+    pub(crate) notes: String,
 }
 
 /// The texts that are made of a log.
@@ -134,7 +130,7 @@ fn table_texts(alloc: Global, text: Vec<u8>, options: &Options) -> Result<Import
     ensures texts { IfOk result (λ texts. IsImportTold ImportForm.Table options.now (λ notes. string_bytes texts.notes ≡ notes) text.items texts.out.items) }
     ensures refused { IfErr result (IsUnimported ImportForm.Table options.now text.items) }
 {
-    let LogTable { import, table } = log_table(alloc, text, options)?;
+    let LogTable { import, table } = table_of(alloc, text, options)?;
     let notes = notes_text(alloc, options, &import)?;
     Ok(ImportTexts { out: table, notes })
 }
@@ -144,7 +140,7 @@ fn tick_texts(alloc: Global, text: Vec<u8>, options: &Options) -> Result<ImportT
     ensures texts { IfOk result (λ texts. IsImportTold ImportForm.Ticks options.now (λ notes. string_bytes texts.notes ≡ notes) text.items texts.out.items) }
     ensures refused { IfErr result (IsUnimported ImportForm.Ticks options.now text.items) }
 {
-    let table = tick_table(alloc, text, options)?;
+    let table = ticks_of(alloc, text, options)?;
     let notes = tick_notes(alloc, &table)?;
     let out = ticks_text(alloc, &table)?;
     Ok(ImportTexts { out, notes })
@@ -152,24 +148,24 @@ fn tick_texts(alloc: Global, text: Vec<u8>, options: &Options) -> Result<ImportT
 
 /// A log read as a trace. The text, which takes much memory for a long log, is freed.
 fn import_of(alloc: Global, text: Vec<u8>, options: &Options) -> Result<Import, Fault>
-    ensures import { IfOk result (λ import. IsImportOf options.now text.items import) }
+    ensures import { IfOk result (λ import. IsLogImport options.now text.items import) }
     ensures refused { IfErr result (IsUnimported ImportForm.Trace options.now text.items) }
 {
-    Ok(read_log(alloc, &text, options)?)
+    Ok(log_import(alloc, &text, options)?)
 }
 
 /// A log read as a trace, with the table of its steps. The text is freed.
-fn log_table(alloc: Global, text: Vec<u8>, options: &Options) -> Result<LogTable, Fault>
-    ensures table { IfOk result (λ t. IsTableOf options.now text.items t.import t.table.items) }
+fn table_of(alloc: Global, text: Vec<u8>, options: &Options) -> Result<LogTable, Fault>
+    ensures table { IfOk result (λ t. IsLogTable options.now text.items t.import t.table.items) }
     ensures refused { IfErr result (IsUnimported ImportForm.Table options.now text.items) }
 {
-    Ok(read_table(alloc, &text, options)?)
+    Ok(log_table(alloc, &text, options)?)
 }
 
 /// What lengths of a tick make of a log. The text is freed.
-fn tick_table(alloc: Global, text: Vec<u8>, options: &Options) -> Result<TickTable, Fault>
-    ensures table { IfOk result (λ t. IsTickTable options.now text.items t.kind t.rows.items) }
+fn ticks_of(alloc: Global, text: Vec<u8>, options: &Options) -> Result<TickTable, Fault>
+    ensures table { IfOk result (λ t. AreLogTicks options.now text.items t.kind t.rows.items) }
     ensures refused { IfErr result (IsUnimported ImportForm.Ticks options.now text.items) }
 {
-    Ok(read_ticks(alloc, &text, options)?)
+    Ok(log_ticks(alloc, &text, options)?)
 }

@@ -3,18 +3,14 @@
 ghost use Rattle.std.specs.Prelude.{◌≡◌, IfOk, IfErr};
 ghost use Rattle.step_buffers.specs.Runs.{IsRun};
 ghost use Rattle.text_commands.specs.Answers.{IsDeclined};
-ghost use Rattle.text_commands.specs.Replays.{IsOffRun, IsReplayOf};
-ghost use Rattle.text_commands.specs.Serving.{ServesTrace};
+ghost use Rattle.text_commands.specs.Replays.{IsOffRun};
 
 use crate::answers::Answer;
 use crate::replay_texts::replay_text_of;
-use crate::serving::serve;
 use command_faults::Fault;
 use std::alloc::Global;
-use std::io::{Read, Write};
 use step_buffers::{World, replay};
 use step_trace::Trace;
-use trace_text::Counting;
 
 /// The command `replay`: the round and the decision of each processor at the end of a run.
 ///
@@ -34,17 +30,6 @@ impl Answer for Replay {
         let world = world_of(alloc, trace)?;
         Ok(replay_text_of(alloc, &world)?)
     }
-}
-
-/// Runs the command `replay`.
-pub fn run_replay<R: Read, W: Write>(
-    alloc: Global,
-    reader: &mut Counting<R>,
-    writer: &mut Counting<W>,
-) -> Result<(), Fault>
-    ensures { ServesTrace IsReplayOf IsOffRun R.remaining W.contents reader.old reader.new writer.old writer.new result }
-{
-    serve(alloc, &Replay, reader, writer)
 }
 
 /// The World that made the steps of a trace, whatever their ticks. It frees the trace, of whose steps the World has its

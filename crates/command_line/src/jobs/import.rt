@@ -1,16 +1,16 @@
 //! The command `import`: its words and its help text, and the job that they give.
 
-ghost use Rattle.std.specs.Prelude.{◌≡◌, IfOk, IfErr, codes, option_map};
+ghost use Rattle.std.specs.Prelude.{◌≡◌, IfOk, IfErr, option_map};
 ghost use Rattle.clap.specs.Words.{found_of, rows_of};
-ghost use Rattle.command_line.specs.Arguments.{IsArgument, IsCommand, IsMemory, flag_rule};
+ghost use Rattle.command_line.specs.Arguments.{IsCommand, IsMemory};
 ghost use Rattle.command_line.specs.Commands.Import.{IsImport, IsImportFault, IsImportOf, IsOneLengthRefusal, form_of, import_app, import_given, is_for_one_length};
 
 use crate::jobs::Job;
 use crate::jobs::arguments::{
-    flag, kept, new_command, optional_argument, positional_argument, text,
+    flag, flag_argument, kept, new_command, optional_argument, positional_argument, text,
 };
 use crate::line_errors::LineError;
-use clap::{Arg, ArgAction, ArgMatches, Command};
+use clap::{ArgMatches, Command};
 use command_options::{ImportForm, ImportOptions};
 use std::alloc::{AllocError, Global};
 
@@ -26,7 +26,21 @@ const TICK_HELP: &str = "The length of a tick; 1 if it is left out";
 
 const UNTIL_HELP: &str = "When LOG ends; at its last event if it is left out";
 
+const FROM_HELP: &str = "When the window of LOG begins";
+
 const IDLE_HELP: &str = "The longest wait that gets a receive of nothing";
+
+const SPREAD_HELP: &str = "Moves events to later ticks, no later than needed";
+
+const ALIGN_HELP: &str = "Moves the clocks of nodes, by no more than needed";
+
+const DROP_LOST_HELP: &str = "Leaves out sends of messages that no record receives";
+
+const MERGE_HELP: &str = "Makes one receive of those of a node in one tick";
+
+const TABLE_HELP: &str = "Prints a table of the steps in place of the trace";
+
+const TICKS_HELP: &str = "Prints a table of lengths of a tick, to choose W by";
 
 /// The trace that a log encodes, as a text of version 2.
 #[derive(Debug, Drop)]
@@ -47,75 +61,16 @@ pub fn command<'a>(alloc: Global) -> Result<Command<'a>, AllocError>
         optional_argument(alloc, "unit", "U", UNIT_HELP),
         optional_argument(alloc, "tick", "W", TICK_HELP),
         optional_argument(alloc, "until", "X", UNTIL_HELP),
+        optional_argument(alloc, "from", "X", FROM_HELP),
         optional_argument(alloc, "idle", "Y", IDLE_HELP),
-        spread_argument(alloc),
-        align_argument(alloc),
-        drop_lost_argument(alloc),
-        merge_argument(alloc),
-        table_argument(alloc),
-        ticks_argument(alloc),
+        flag_argument(alloc, "spread", SPREAD_HELP),
+        flag_argument(alloc, "align", ALIGN_HELP),
+        flag_argument(alloc, "drop-lost", DROP_LOST_HELP),
+        flag_argument(alloc, "merge", MERGE_HELP),
+        flag_argument(alloc, "table", TABLE_HELP),
+        flag_argument(alloc, "ticks", TICKS_HELP),
     ]?;
     new_command(alloc, "import", ABOUT, help(), arguments)
-}
-
-/// The flag --spread.
-fn spread_argument<'a>(alloc: Global) -> Arg<'a>
-    ensures { IsArgument (flag_rule (codes "spread")) result }
-{
-    Arg::new(alloc, "spread")
-        .long("spread")
-        .help("Moves events to later ticks, no later than needed")
-        .action(ArgAction::SetTrue)
-}
-
-/// The flag --align.
-fn align_argument<'a>(alloc: Global) -> Arg<'a>
-    ensures { IsArgument (flag_rule (codes "align")) result }
-{
-    Arg::new(alloc, "align")
-        .long("align")
-        .help("Moves the clocks of nodes, by no more than needed")
-        .action(ArgAction::SetTrue)
-}
-
-/// The flag --drop-lost.
-fn drop_lost_argument<'a>(alloc: Global) -> Arg<'a>
-    ensures { IsArgument (flag_rule (codes "drop-lost")) result }
-{
-    Arg::new(alloc, "drop-lost")
-        .long("drop-lost")
-        .help("Leaves out sends of messages that no record receives")
-        .action(ArgAction::SetTrue)
-}
-
-/// The flag --merge.
-fn merge_argument<'a>(alloc: Global) -> Arg<'a>
-    ensures { IsArgument (flag_rule (codes "merge")) result }
-{
-    Arg::new(alloc, "merge")
-        .long("merge")
-        .help("Makes one receive of those of a node in one tick")
-        .action(ArgAction::SetTrue)
-}
-
-/// The flag --table.
-fn table_argument<'a>(alloc: Global) -> Arg<'a>
-    ensures { IsArgument (flag_rule (codes "table")) result }
-{
-    Arg::new(alloc, "table")
-        .long("table")
-        .help("Prints a table of the steps in place of the trace")
-        .action(ArgAction::SetTrue)
-}
-
-/// The flag --ticks.
-fn ticks_argument<'a>(alloc: Global) -> Arg<'a>
-    ensures { IsArgument (flag_rule (codes "ticks")) result }
-{
-    Arg::new(alloc, "ticks")
-        .long("ticks")
-        .help("Prints a table of lengths of a tick, to choose W by")
-        .action(ArgAction::SetTrue)
 }
 
 /// The job that the words after `import` ask for; None if one is missing. The texts of its options are read
@@ -136,9 +91,11 @@ pub fn job(alloc: Global, found: &ArgMatches<'_>) -> Option<Result<Job, LineErro
     let unit = text(found, "unit");
     let tick = text(found, "tick");
     let until = text(found, "until");
+    let from = text(found, "from");
     let idle = text(found, "idle");
     Some(import_of(
-        alloc, ticks, log, nodes, unit, tick, until, idle, spread, align, drop_lost, merge, table,
+        alloc, ticks, log, nodes, unit, tick, until, from, idle, spread, align, drop_lost, merge,
+        table,
     ))
 }
 
@@ -151,6 +108,7 @@ fn import_of(
     unit: Option<&str>,
     tick: Option<&str>,
     until: Option<&str>,
+    from: Option<&str>,
     idle: Option<&str>,
     spread: bool,
     align: bool,
@@ -158,7 +116,7 @@ fn import_of(
     merge: bool,
     table: bool,
 ) -> Result<Job, LineError>
-    ensures job { IfOk result (IsImportOf ticks log.now (option_map (λ t. t.now) nodes.entry) (option_map (λ t. t.now) unit.entry) (option_map (λ t. t.now) tick.entry) (option_map (λ t. t.now) until.entry) (option_map (λ t. t.now) idle.entry) spread align drop_lost merge table) }
+    ensures job { IfOk result (IsImportOf ticks log.now (option_map (λ t. t.now) nodes.entry) (option_map (λ t. t.now) unit.entry) (option_map (λ t. t.now) tick.entry) (option_map (λ t. t.now) until.entry) (option_map (λ t. t.now) from.entry) (option_map (λ t. t.now) idle.entry) spread align drop_lost merge table) }
     ensures refused { IfErr result (IsImportFault ticks (option_map (λ t. t.now) tick.entry) (option_map (λ t. t.now) idle.entry) merge table) }
 {
     if ticks {
@@ -167,12 +125,12 @@ fn import_of(
         }
         let form = ImportForm::Ticks;
         return import(
-            alloc, log, nodes, unit, tick, until, idle, spread, align, drop_lost, merge, form,
+            alloc, log, nodes, unit, tick, until, from, idle, spread, align, drop_lost, merge, form,
         );
     }
     let form = form_of(table);
     import(
-        alloc, log, nodes, unit, tick, until, idle, spread, align, drop_lost, merge, form,
+        alloc, log, nodes, unit, tick, until, from, idle, spread, align, drop_lost, merge, form,
     )
 }
 
@@ -212,6 +170,7 @@ fn import(
     unit: Option<&str>,
     tick: Option<&str>,
     until: Option<&str>,
+    from: Option<&str>,
     idle: Option<&str>,
     spread: bool,
     align: bool,
@@ -219,7 +178,7 @@ fn import(
     merge: bool,
     form: ImportForm,
 ) -> Result<Job, LineError>
-    ensures job { IfOk result (IsImport log.now (option_map (λ t. t.now) nodes.entry) (option_map (λ t. t.now) unit.entry) (option_map (λ t. t.now) tick.entry) (option_map (λ t. t.now) until.entry) (option_map (λ t. t.now) idle.entry) spread align drop_lost merge form) }
+    ensures job { IfOk result (IsImport log.now (option_map (λ t. t.now) nodes.entry) (option_map (λ t. t.now) unit.entry) (option_map (λ t. t.now) tick.entry) (option_map (λ t. t.now) until.entry) (option_map (λ t. t.now) from.entry) (option_map (λ t. t.now) idle.entry) spread align drop_lost merge form) }
     ensures refused { IfErr result IsMemory }
 {
     let file = String::from_str(alloc, log)?;
@@ -228,6 +187,7 @@ fn import(
         unit: kept(alloc, unit)?,
         tick: kept(alloc, tick)?,
         until: kept(alloc, until)?,
+        from: kept(alloc, from)?,
         idle: kept(alloc, idle)?,
         spread,
         align,
@@ -273,6 +233,13 @@ version 2, whose tick 1 begins at the least time.
                  is that of X, and without it that of the greatest time. With
                  --unit, and for decimal seconds, also decimal seconds or a
                  duration, which is the time that comes so long after zero
+  --from X       a time as --until takes it: only a window of LOG is read, the
+                 events from X on, and none after --until. LOG may be of any
+                 length. A receive in the window keeps only the messages that a
+                 record of the window sends to its node; standard error tells
+                 how many events and messages are left out. All else is as if
+                 LOG had no other records, but records keep their numbers, and
+                 cycles aren't listed
   --idle Y       Y is written as W is. A node without an event for at most Y gets
                  a receive of nothing in the last tick of that time, counted in
                  ticks after --spread; standard error tells how many
@@ -350,8 +317,8 @@ Exit status:
   2  the command line is refused; --nodes isn't 2 to 64 different names; --unit
      is another word; --tick is neither a number nor a duration above 0, or is a
      duration if the times are numbers of no unit; --until is neither a time nor
-     a duration, doesn't fit the times, or is before an event; --idle is refused
-     as --tick is
+     a duration, doesn't fit the times, or is before an event; --from is refused
+     as --until is, or is after it; --idle is refused as --tick is
   3  the log is refused; the fault names the record, and the header is record 1
   5  out of memory
   6  LOG can't be opened or read, or the output can't be written

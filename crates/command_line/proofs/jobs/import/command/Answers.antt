@@ -14,8 +14,11 @@ returns c = c.new_command.ensures _ (rw c.in_ok-arguments.ensures.items (
           (
             c.optional_argument-5.ensures,
             (
-              c.spread_argument.ensures,
-              (c.align_argument.ensures, (c.drop_lost_argument.ensures, (c.merge_argument.ensures, (c.table_argument.ensures, (c.ticks_argument.ensures, tt))))),
+              c.optional_argument-6.ensures,
+              (
+                c.flag_argument.ensures,
+                (c.flag_argument-2.ensures, (c.flag_argument-3.ensures, (c.flag_argument-4.ensures, (c.flag_argument-5.ensures, (c.flag_argument-6.ensures, tt))))),
+              ),
             ),
           ),
         ),

@@ -1,0 +1,9 @@
+pub mod SeamPlaces
+pub mod LinesFirst
+pub mod TakenRows
+pub mod PartsTaken
+pub mod WindowsRead
+pub mod NumberedTables
+pub mod ListedRows
+pub mod ListedLogs
+pub mod EventsRead

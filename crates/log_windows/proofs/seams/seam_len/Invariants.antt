@@ -1,0 +1,13 @@
+use Rattle.std.proofs.Common.{◌≡◌, ◌≤◌, take}
+use Rattle.csv.specs.declared.parser.State.TheVariants as st
+use Rattle.shared_reading.specs.Seams.{state_after, IsClosed}
+use Rattle.log_windows.specs.Places.{state_of}
+use Rattle.log_windows.proofs.seams.seam_len.Given as goal
+
+-- where the reader is, and the last place between two records so far
+abbrev pub invariant-loop-i : goal.invariant-loop-i
+invariant-loop-i l = record {
+  within : l.seam ≤ l.i;
+  place : state_of l.place ≡ state_after st.StartRecord (take l.i l.text);
+  closed : IsClosed (take l.seam l.text);
+}

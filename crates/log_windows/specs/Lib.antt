@@ -1,0 +1,14 @@
+pub mod Places
+pub mod Rows
+pub mod Bounds
+pub mod KeptRows
+pub mod Windows
+pub mod Devices
+pub mod KeptTexts
+pub mod KeptNames
+pub mod LogWindows
+pub mod Lists
+pub mod Numbers
+pub mod NumberedRows
+pub mod WindowImports
+pub mod LogImports

@@ -1,0 +1,49 @@
+-- What is told about a window, by the records of the whole log.
+use Rattle.std.specs.Prelude.{ℕ, ◌+◌, ◌-◌, List, [], Option, option_map, slice_index_or}
+use Rattle.event_log.specs.declared.imports.Import.{Import}
+use Rattle.event_log.specs.declared.refusals.LogError.{LogError}
+use Rattle.event_log.specs.declared.refusals.LogError.TheVariants.{BadFields, BadTime, BadEvent, BadNode, BadMessage, TooManyNodes, SentBefore, NeverSent, WrongReceiver, ReceivedBefore, NotLater, SecondEvent, Cycle, NoOffsets}
+use Rattle.timed_events.specs.declared.lateness.LateMessage.{LateMessage}
+use Rattle.timed_events.specs.declared.lateness.Lateness.{Lateness}
+use Rattle.timed_events.specs.declared.spread_traces.Moved.{Moved}
+
+-- the place in the log of the event at a place of the window
+abbrev pub place_in : List ℕ → ℕ → ℕ
+place_in places i = slice_index_or places i 0
+
+-- the number in the log of the record of the window that has this number; an event at place i is in record i + 2
+abbrev pub number_in : List ℕ → ℕ → ℕ
+number_in places n = place_in places (n - 2) + 2
+
+-- a refusal of the window by the records of the log, without the lines of a cycle
+abbrev pub refusal_in : List ℕ → LogError → LogError
+refusal_in places (BadFields n) = BadFields (number_in places n)
+refusal_in places (BadTime n) = BadTime (number_in places n)
+refusal_in places (BadEvent n) = BadEvent (number_in places n)
+refusal_in places (BadNode n name) = BadNode (number_in places n) name
+refusal_in places (BadMessage n) = BadMessage (number_in places n)
+refusal_in places (TooManyNodes n) = TooManyNodes (number_in places n)
+refusal_in places (SentBefore n name) = SentBefore (number_in places n) name
+refusal_in places (NeverSent n name) = NeverSent (number_in places n) name
+refusal_in places (WrongReceiver n name node) = WrongReceiver (number_in places n) name node
+refusal_in places (ReceivedBefore n name) = ReceivedBefore (number_in places n) name
+refusal_in places (NotLater n name hint) = NotLater (number_in places n) name hint
+refusal_in places (SecondEvent n node tick hint) = SecondEvent (number_in places n) node tick hint
+refusal_in places (Cycle n lines) = Cycle (number_in places n) []
+refusal_in places (NoOffsets lines) = NoOffsets []
+refusal_in places why = why
+
+-- how far events moved, by the place of the farthest in the log
+abbrev pub moved_in : List ℕ → Moved → Moved
+moved_in places moved = record { events = moved.events; ticks = moved.ticks; farthest = option_map (place_in places) moved.farthest }
+
+-- a late message by the places of its events in the log
+abbrev pub late_in : List ℕ → LateMessage → LateMessage
+late_in places late = record { event = place_in places late.event; message = place_in places late.message; by = late.by }
+
+abbrev pub lateness_in : List ℕ → Lateness → Lateness
+lateness_in places lateness = record { messages = lateness.messages; worst = option_map (late_in places) lateness.worst }
+
+-- an import of the window by the records of the log
+abbrev pub import_in : List ℕ → Import → Import
+import_in places import = record import { moved = moved_in places import.moved; lateness = lateness_in places import.lateness }
