@@ -1,5 +1,5 @@
 -- What is kept of a log: its header, and the records in a window.
-use Rattle.std.specs.Prelude.{ℕ, ℤ, Bool, ◌==◌, false, List, [], ◌∷◌, ◌++◌, map, Result, Ok, Err, codes, is_some, length, nat_le, if◌then◌else◌}
+use Rattle.std.specs.Prelude.{ℕ, ℤ, ◌+◌, Bool, ◌==◌, false, List, [], ◌∷◌, ◌++◌, map, Result, Ok, Err, codes, is_some, length, nat_le, if◌then◌else◌}
 use Rattle.std.specs.List.{slice_split}
 use Rattle.std.specs.Str.{bytes_eq}
 use Rattle.csv.specs.Writing.{row_text}
@@ -16,15 +16,17 @@ use Rattle.log_windows.specs.declared.bounds.Times.{Times}
 use Rattle.log_windows.specs.Bounds.{is_within}
 use Rattle.log_windows.specs.Rows.{with_field}
 
--- the text of the records; the places of their events in the log; and the keys of the messages that they send
+-- the text of the records; the places of their events in the log; the keys of the messages that they send; and how many
+-- events are outside the window
 pub record Rows : Type 0 where
   pub text : List ℕ
   pub places : List ℕ
   pub sent : List (List ℕ)
+  pub outside : ℕ
 
 -- no records, after a line feed, so that no byte order mark begins the text
 abbrev pub begun : Rows
-begun = record { text = 10 ∷ []; places = []; sent = [] }
+begun = record { text = 10 ∷ []; places = []; sent = []; outside = 0 }
 
 -- whether a time is a whole number among decimal seconds
 abbrev pub needs_point : TimeKind → List ℕ → Bool
@@ -68,6 +70,7 @@ with_row columns place fields rows = record {
   text = rows.text ++ row_text our_writer fields;
   places = rows.places ++ place ∷ [];
   sent = keys_after columns fields rows.sent;
+  outside = rows.outside;
 }
 
 abbrev pub unless_large : Rows → Result Rows LogError
@@ -84,4 +87,5 @@ with_event columns place fields rows = after_records (next_part columns place) r
 -- the same if its time is in the window
 abbrev pub rows_after : Columns → Times → ℕ → ℤ → List (List ℕ) → Rows → Result Rows LogError
 rows_after columns times place time fields rows =
-    if is_within times.bounds time then with_event columns place (told_row columns times.kind fields) rows else Ok rows
+    if is_within times.bounds time then with_event columns place (told_row columns times.kind fields) rows
+    else Ok (record rows { outside = rows.outside + 1 })

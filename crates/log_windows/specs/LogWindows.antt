@@ -1,5 +1,5 @@
 -- The window of a log, as it is handed out.
-use Rattle.std.specs.Prelude.{ℕ, ◌≡◌, ◌-◌, ◌⊎◌, List, Option, IfSome, Ok, Err, length, MatchBool, ⊤}
+use Rattle.std.specs.Prelude.{ℕ, ◌≡◌, ◌⊎◌, List, Option, IfSome, Ok, Err, MatchBool, ⊤}
 use Rattle.event_log.specs.declared.refusals.LogError.{LogError}
 use Rattle.event_log.specs.declared.times.LogEnd.{LogEnd}
 use Rattle.event_log.specs.declared.times.TimeUnit.{TimeUnit}
@@ -16,12 +16,13 @@ use Rattle.log_windows.specs.Windows.{window_of}
 pub record IsKeptOf (r : Reading) (w : LogWindow) : Type 0 where
   pub kept : names_kept r.rows.sent r.rows.text ≡ Ok (record { text = w.text.items; unsent = w.unsent })
   pub places_are : w.places.items ≡ r.rows.places
-  pub outside_are : w.outside ≡ r.count - length r.rows.places
+  pub outside_are : w.outside ≡ r.rows.outside
 
 -- the window has all events of a log, in which each send is to one node
 pub record IsSpreadOf (text : List ℕ) (w : LogWindow) : Type 0 where
   pub sent : List (List ℕ)
-  pub spread : spread_of text ≡ Ok (record { text = w.text.items; places = w.places.items; sent = sent })
+  pub outside : ℕ
+  pub spread : spread_of text ≡ Ok (record { text = w.text.items; places = w.places.items; sent = sent; outside = outside })
   pub outside_are : w.outside ≡ 0
   pub unsent_are : w.unsent ≡ 0
 

@@ -59,10 +59,13 @@ fn window_of(alloc: Global, reading: Reading) -> Result<LogWindow, LogError>
     ensures window { IfOk result (IsKeptOf reading) }
     ensures refused { IfErr result (IsUnkept reading) }
 {
-    let Reading { count, rows, .. } = reading;
-    let WindowRows { text, places, sent } = rows;
+    let WindowRows {
+        text,
+        places,
+        sent,
+        outside,
+    } = reading.rows;
     let kept = names_kept(alloc, &text, sent)?;
-    let outside = u64::from(count).saturating_sub(places.len() as u64);
     Ok(LogWindow {
         text: kept.text,
         places,

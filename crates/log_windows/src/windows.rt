@@ -1,6 +1,6 @@
 //! Which records of a log are in a window, and what is kept of them.
 
-ghost use Rattle.std.specs.Prelude.{◌≡◌, ◌++◌, IfOk, IfErr, OnOk};
+ghost use Rattle.std.specs.Prelude.{◌≡◌, ◌++◌, ◌+◌, IfOk, IfErr, OnOk};
 ghost use Rattle.csv.specs.Records.{fields_of};
 ghost use Rattle.csv.specs.Writing.{row_text};
 ghost use Rattle.event_log.specs.LogRecords.{moment_as};
@@ -33,6 +33,8 @@ pub(crate) struct WindowRows {
     pub(crate) places: Vec<u32>,
     /// The messages that they send.
     pub(crate) sent: NameSet,
+    /// How many events are outside the window.
+    pub(crate) outside: u64,
 }
 
 impl Model for WindowRows {
@@ -40,7 +42,7 @@ impl Model for WindowRows {
 
     ghost Value = { Rows };
 
-    ghost view = { λ rows. record { text = rows.text.items; places = rows.places.items; sent = rows.sent } };
+    ghost view = { λ rows. record { text = rows.text.items; places = rows.places.items; sent = rows.sent; outside = rows.outside } };
 }
 
 /// How far a log was read.
@@ -146,6 +148,7 @@ impl WindowRows {
             text,
             places: Vec::new(alloc),
             sent: NameSet::new(alloc),
+            outside: 0,
         })
     }
 
@@ -176,7 +179,7 @@ impl WindowRows {
             (rows_after columns.now times place time (fields_of fields.now) self.old) }
     {
         if !is_within(times.bounds, time) {
-            return Ok(());
+            return self.leave_out();
         }
         if !needs_point(times.kind, field(fields, columns.time)) {
             return self.take_event(alloc, columns, place, fields);
@@ -185,6 +188,18 @@ impl WindowRows {
             return Err(LogError::Memory);
         };
         self.take_event(alloc, columns, place, &told)
+    }
+
+    /// Counts an event that is outside the window.
+    fn leave_out(&mut self) -> Result<(), LogError>
+        ensures left { OnOk result (self.new ≡ record self.old { outside = self.old.outside + 1 }) }
+        ensures memory { IfErr result (λ e. e ≡ LogError.Memory) }
+    {
+        let Some(outside) = self.outside.checked_add(1) else {
+            return Err(LogError::Memory);
+        };
+        self.outside = outside;
+        Ok(())
     }
 
     /// Keeps the records of the event at a place of the log: one for each node that it sends to.

@@ -8,6 +8,7 @@ returns-clause-log c =
     let read = rw (c.in_ok-take_rows.was, c.in-Ok.ensures) at c.take_rows.ensures in
     record {
       sent = _;
+      outside = _;
       spread = ap (λ r. r >>= λ (s : Spreading). Ok s.rows) read ∙ ap (λ (s : Spreading). Ok s.rows) (sym c.spreading.view_is);
       outside_are = refl;
       unsent_are = refl;
