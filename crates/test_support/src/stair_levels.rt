@@ -45,16 +45,3 @@ pub fn has_levels_at(stairs: &Stairs, levels: &[(u64, [u64; 7])]) -> bool {
     }
     true
 }
-
-/// Whether two have the same levels.
-pub fn same_stairs(a: &Stairs, b: &Stairs) -> bool {
-    if a.len() != b.len() {
-        return false;
-    }
-    for g in 1..a.len() as u64 + 1 {
-        if a.at(g) != b.at(g) {
-            return false;
-        }
-    }
-    true
-}

@@ -1,68 +1,54 @@
-//! Calls that look at a trace: copies of it and of its parts, its longest gaps, its report, and the check of that.
+//! Calls that no command makes, of which most look at a trace: copies, lists of steps and gaps, pieces, checks of rows,
+//! and the reading of texts.
 
-use crate::lent::{TraceCall, first_wrong_of, first_wrong_of_text};
-use crate::stairs::{is_part, is_reported};
-use crate::worked::{TAKEN_TOGETHER, silence};
+use crate::joins::{are_all_joined, is_joined};
+use crate::looks::{TraceCall, first_wrong_of};
 use bound_witness::gaps;
-use certificate_checker::{ClaimedRows, Verdict, check, check_claimed};
+use certificate_checker::{Verdict, check};
+use front::{ReportError, read_report};
 use std::alloc::{AllocError, Global};
-use step_trace::{Gap, Step, Trace};
+use std::test::Fail;
+use step_trace::{Gap, Trace};
 use test_support::stair_levels::never_delivered_rows;
-use test_support::texts::NEVER_DELIVERED;
-use test_support::traces::{are_equal, both};
+use test_support::texts::{NEVER_DELIVERED, NEVER_DELIVERED_REPORT};
+use test_support::traces::{are_equal, both, empty_trace, step_of};
+use trace_text::failing_devices::{AfterBytes, FailingReader};
+use trace_text::{Counting, TextError, read_trace};
+
+/// Processor 1 sends to 2 twice, which takes both messages together. One id takes no memory of its own.
+const TAKEN_TOGETHER: &str = "dls-trace,1,2,0\ninit,5,7\n1,1,S,2\n2,1,S,2\n3,2,R,1 2\nend,3\n";
 
 #[derive(Clone, Copy)]
 enum Look {
-    CopyOfConfig,
     Copy,
     OwnSteps,
     Placed,
-    CopyOfStep,
     Gaps,
     Check,
-    CheckClaimed,
-    Report,
-    Part,
+    JoinAfter(u64),
+    JoinAll,
+    ReadTrace(&'static str),
+    ReadReport,
 }
 
 impl TraceCall for Look {
     fn is_right(self, alloc: Global, trace: &Trace) -> Result<bool, AllocError> {
         match self {
-            Look::CopyOfConfig => is_config_copied(alloc, trace),
             Look::Copy => is_copied(alloc, trace),
-            Look::OwnSteps => are_own_steps(alloc, trace),
+            Look::OwnSteps => Ok(trace.restrict(alloc, 2)?.len() == 3),
             Look::Placed => is_placed(trace),
-            Look::CopyOfStep => is_step_copied(trace),
             Look::Gaps => are_gaps(alloc, trace),
             Look::Check => is_certified(alloc, trace),
-            Look::CheckClaimed => is_certified_as_claimed(alloc, trace),
-            Look::Report => is_reported(alloc, trace),
-            Look::Part => is_part(alloc, trace),
+            Look::JoinAfter(cut) => is_joined(alloc, trace, cut),
+            Look::JoinAll => are_all_joined(alloc, trace),
+            Look::ReadTrace(text) => is_trace_read(alloc, text, trace),
+            Look::ReadReport => is_report_read(alloc),
         }
     }
-}
-
-fn is_config_copied(alloc: Global, trace: &Trace) -> Result<bool, AllocError> {
-    Ok(trace.config().copy(alloc)?.is_same(trace.config()))
 }
 
 fn is_copied(alloc: Global, trace: &Trace) -> Result<bool, AllocError> {
     Ok(are_equal(&trace.copy(alloc)?, trace))
-}
-
-fn are_own_steps(alloc: Global, trace: &Trace) -> Result<bool, AllocError> {
-    Ok(are_steps(trace, &trace.restrict(alloc, 2)?, &[2, 4, 5]))
-}
-
-/// Whether these are the steps of these numbers.
-fn are_steps(trace: &Trace, steps: &[(u64, Step)], numbers: &[u64]) -> bool {
-    for (i, (no, step)) in steps.iter().enumerate() {
-        let is_step = matches!(trace.step(*no), Some(there) if there.is_same(step));
-        if !is_step || numbers.get(i) != Some(no) {
-            return false;
-        }
-    }
-    steps.len() == numbers.len()
 }
 
 /// Whether step 3 takes messages 1 and 2 in tick 3.
@@ -73,42 +59,18 @@ fn is_placed(trace: &Trace) -> Result<bool, AllocError> {
     }
 }
 
-fn is_step_copied(trace: &Trace) -> Result<bool, AllocError> {
-    match trace.step(3) {
-        Some(step) => Ok(step.clone()?.is_same(step)),
-        None => Ok(false),
-    }
-}
-
-const GAPS: &[Gap] = &[
-    Gap {
-        proc: 1,
-        from: 2,
-        to: 2,
-    },
-    Gap {
-        proc: 1,
-        from: 4,
-        to: 5,
-    },
-    Gap {
-        proc: 2,
-        from: 1,
-        to: 1,
-    },
-    Gap {
-        proc: 2,
-        from: 3,
-        to: 3,
-    },
-];
-
+/// Whether the fourth and last gap is that of processor 2 in tick 3.
 fn are_gaps(alloc: Global, trace: &Trace) -> Result<bool, AllocError> {
     let set = both();
     if !set.within(trace.config().n()) {
         return Ok(false);
     }
-    Ok(gaps(alloc, trace, set)?.as_slice() == GAPS)
+    let last = Gap {
+        proc: 2,
+        from: 3,
+        to: 3,
+    };
+    Ok(gaps(alloc, trace, set)?.as_slice().get(3) == Some(&last))
 }
 
 fn is_certified(alloc: Global, trace: &Trace) -> Result<bool, AllocError> {
@@ -119,63 +81,76 @@ fn is_certified(alloc: Global, trace: &Trace) -> Result<bool, AllocError> {
     Ok(check(alloc, trace, set, &never_delivered_rows())? == Verdict::Yes)
 }
 
-/// The same if the rows are claimed one after the other.
-fn is_certified_as_claimed(alloc: Global, trace: &Trace) -> Result<bool, AllocError> {
-    let set = both();
-    if !set.within(trace.config().n()) {
-        return Ok(false);
+fn is_trace_read(alloc: Global, text: &str, wanted: &Trace) -> Result<bool, AllocError> {
+    match read_trace(alloc, text.as_bytes()) {
+        Ok(trace) => Ok(are_equal(&trace, wanted)),
+        Err(TextError::Memory) => Err(AllocError),
+        Err(_) => Ok(false),
     }
-    let mut claimed = ClaimedRows::new(alloc);
-    for row in never_delivered_rows() {
-        claimed = claimed.with(trace.last_tick(), row)?;
+}
+
+/// Read in pieces, so that what was read grows again and again.
+fn is_report_read(alloc: Global) -> Result<bool, AllocError> {
+    let device = FailingReader::new(NEVER_DELIVERED_REPORT.as_bytes(), 7, AfterBytes::End);
+    match read_report(alloc, &mut Counting::new(device)) {
+        Ok(rows) => Ok(rows.as_slice() == never_delivered_rows().as_slice()),
+        Err(ReportError::Memory) => Err(AllocError),
+        Err(_) => Ok(false),
     }
-    Ok(check_claimed(alloc, trace, set, &claimed)? == Verdict::Yes)
 }
 
 const LOOKS: &[(&str, Look)] = &[
-    ("Config::copy", Look::CopyOfConfig),
-    ("Trace::copy", Look::Copy),
     ("Trace::restrict", Look::OwnSteps),
     ("gaps", Look::Gaps),
     ("check", Look::Check),
-    ("ClaimedRows::with and check_claimed", Look::CheckClaimed),
-    ("Stairs::of_trace and front", Look::Report),
-    ("Piece::of and finish", Look::Part),
+    ("a join before all", Look::JoinAfter(0)),
+    ("a join after tick 2", Look::JoinAfter(2)),
+    ("join_all", Look::JoinAll),
+    ("read_trace", Look::ReadTrace(NEVER_DELIVERED)),
+    ("read_report", Look::ReadReport),
 ];
 
-#[test]
-fn looks_at_a_trace(rt: HostRuntime) {
-    let wrong = first_wrong_of_text(rt.alloc(), NEVER_DELIVERED, LOOKS);
-    assert!(rt; wrong.is_none(), "{wrong:?}");
+const LOOKS_AT_IDS: &[(&str, Look)] = &[
+    ("Trace::placed", Look::Placed),
+    ("read_trace", Look::ReadTrace(TAKEN_TOGETHER)),
+];
+
+/// The first of these calls and of its allocations with a wrong outcome, if there was one.
+fn first_wrong_of_text(
+    alloc: Global,
+    text: &str,
+    calls: &[(&'static str, Look)],
+) -> Option<(&'static str, usize)> {
+    match read_trace(alloc, text.as_bytes()) {
+        Ok(trace) => first_wrong_of(alloc, &trace, calls),
+        Err(_) => Some(("before all", 0)),
+    }
 }
 
-/// One id takes no memory of its own, so these look at a step that takes two.
-const STEP_LOOKS: &[(&str, Look)] = &[
-    ("Trace::placed", Look::Placed),
-    ("Step::clone", Look::CopyOfStep),
-];
-
 #[test]
-fn looks_at_a_step(rt: HostRuntime) {
-    let wrong = first_wrong_of_text(rt.alloc(), TAKEN_TOGETHER, STEP_LOOKS);
-    assert!(rt; wrong.is_none(), "{wrong:?}");
+fn traces_are_looked_at(rt: HostRuntime) {
+    for (text, calls) in [(NEVER_DELIVERED, LOOKS), (TAKEN_TOGETHER, LOOKS_AT_IDS)] {
+        let wrong = first_wrong_of_text(rt.alloc(), text, calls);
+        assert!(rt; wrong.is_none(), "{wrong:?}");
+    }
+}
+
+/// A trace of so many Receives that take nothing.
+fn silence(alloc: Global, count: u64) -> Result<Trace, Fail> {
+    let mut trace = empty_trace(alloc, 2)?;
+    for _ in 0..count {
+        trace.push(step_of(alloc, 1, 0, &[])?)?;
+    }
+    Ok(trace)
 }
 
 const COPY: &[(&str, Look)] = &[("Trace::copy", Look::Copy)];
 
-/// The first allocation of a copy of so many steps with a wrong outcome, if there was one.
-fn first_wrong_copy(alloc: Global, count: u64) -> Option<(&'static str, usize)> {
-    match silence(alloc, count) {
-        Some(trace) => first_wrong_of(alloc, &trace, COPY),
-        None => Some(("before all", 0)),
-    }
-}
-
 /// A page has 256 steps.
 #[test]
-fn copies_of_pages(rt: HostRuntime) {
-    for count in [255, 256, 257] {
-        let wrong = first_wrong_copy(rt.alloc(), count);
-        assert!(rt; wrong.is_none(), "{count} steps: {wrong:?}");
-    }
+fn pages_are_copied(rt: HostRuntime) -> Result<(), Fail> {
+    let trace = silence(rt.alloc(), 257)?;
+    let wrong = first_wrong_of(rt.alloc(), &trace, COPY);
+    assert!(rt; wrong.is_none(), "{wrong:?}");
+    Ok(())
 }

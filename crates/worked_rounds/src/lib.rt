@@ -1,48 +1,28 @@
 //! Worked rounds and runs of Algorithm 1 (section 3 of Dwork, Lynch and Stockmeyer, "Consensus in the Presence of
-//! Partial Synchrony", 1988). These are tests alone: of one node, of all nodes over tables of who heard whom, of a
-//! World moved step by step, of Worlds whose processors take turns by the pace "heard out", and of a recorder with its
-//! seats and views.
+//! Partial Synchrony", 1988). These are tests alone: of one node, of all nodes over tables of who heard whom, of
+//! Worlds, also of processors that take turns by the pace "heard out", and of a recorder with its seats and views. Most
+//! runs are cases of `tests/cases/`.
 #![tactic(auto)]
 
 #[cfg(test)]
-mod decision_tests;
+mod locks;
 #[cfg(test)]
-mod drive_tests;
-#[cfg(test)]
-mod full_size_tests;
-#[cfg(test)]
-mod lock_tests;
-#[cfg(test)]
-mod long_scripts;
-#[cfg(test)]
-mod nodes;
-#[cfg(test)]
-mod phase_tests;
-#[cfg(test)]
-mod prefix_tests;
-#[cfg(test)]
-mod quorum_tests;
-#[cfg(test)]
-mod refusal_tests;
-#[cfg(test)]
-mod refused_recordings;
-#[cfg(test)]
-mod run_tests;
-#[cfg(test)]
-mod scripts;
+mod longest_drives;
 #[cfg(test)]
 mod seats;
 #[cfg(test)]
-mod size_tests;
+mod sizes;
 #[cfg(test)]
-mod step_tests;
+mod steps;
 #[cfg(test)]
-mod stranger_tests;
-#[cfg(test)]
-mod table_tests;
+mod strangers;
 #[cfg(test)]
 mod tables;
 #[cfg(test)]
-mod turn_tests;
+mod threads;
 #[cfg(test)]
-mod worked_nodes;
+mod turns;
+#[cfg(test)]
+mod worked_tables;
+#[cfg(test)]
+mod worlds;

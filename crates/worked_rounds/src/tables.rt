@@ -57,18 +57,6 @@ pub fn all_heard(rt: &impl Abort, alloc: Global, n: u64, rounds: u64) -> Result<
     Ok(heard)
 }
 
-/// Three processors: from round 2 on, 2 and 3 hear each other and themselves. Nothing else is heard.
-pub fn pair_in_touch(rt: &impl Abort, alloc: Global, rounds: u64) -> Result<Heard, Fail>
-    requires { rounds ≤ MAX_ROUNDS }
-{
-    let mut heard = Heard::new(alloc, 3, rounds)?;
-    for round in 2..rounds + 1 {
-        hear(rt, &mut heard, round, 2, &[2, 3]);
-        hear(rt, &mut heard, round, 3, &[2, 3]);
-    }
-    Ok(heard)
-}
-
 /// Three processors, and in these rounds each of them hears these senders. Nothing else is heard.
 pub fn heard_by_three(
     rt: &impl Abort,
@@ -135,16 +123,4 @@ pub fn hold(nodes: &[Node], held: &[(&[u64], &[(u64, u64)])]) -> bool {
 
 fn holds(node: &Node, proper: &[u64], locks: &[(u64, u64)]) -> bool {
     node.proper() == proper && node.locks() == locks && node.proposal().is_none() && !node.ack()
-}
-
-/// Whether the nodes of these processors have these decisions after all rounds of the table.
-pub fn all_decide(
-    rt: &impl Abort,
-    alloc: Global,
-    setup: (u64, &[u64]),
-    heard: &Heard,
-    decisions: &[Option<u64>],
-) -> Result<bool, Fail> {
-    let nodes = run(rt, alloc, setup, heard)?;
-    Ok(have_decisions(&nodes, decisions))
 }
