@@ -1,10 +1,12 @@
 //! Where a text lies between two records, by csv's default reader.
 
-ghost use Rattle.std.specs.Prelude.{◌≡◌, ◌≤◌, length, take};
+ghost use Rattle.std.specs.Prelude.{◌≡◌, ◌≤◌, false, length, take};
 ghost use Rattle.csv.specs.Machine.{step};
 ghost use Rattle.csv.specs.Reading.{default_config};
-ghost use Rattle.shared_reading.specs.Seams.{IsClosed};
+ghost use Rattle.shared_reading.specs.Seams.{IsClosed, has_quote};
 ghost use Rattle.log_windows.specs.Places.{seam_by, state_of};
+
+use memchr::{memchr, memrchr};
 
 /// Where csv's reader is in a text.
 #[derive(Clone, Copy)]
@@ -22,6 +24,28 @@ pub(crate) enum Place {
 
 /// How many bytes come before the last place between two records, if the text begins at such a place.
 pub(crate) fn seam_len(text: &[u8]) -> usize
+    ensures within { result ≤ length text.now }
+    ensures closed { IsClosed (take result text.now) }
+{
+    if memchr(b'"', text).is_some() {
+        return quoted_seam_len(text);
+    }
+    lines_len(text)
+}
+
+/// How many bytes the whole lines of a text have. Without quotes they are whole records.
+fn lines_len(text: &[u8]) -> usize
+    ensures within { result ≤ length text.now }
+    ensures closed { has_quote text.now ≡ false → IsClosed (take result text.now) }
+{
+    match memrchr(b'\n', text) {
+        Some(at) => at + 1,
+        None => 0,
+    }
+}
+
+/// The same as `seam_len`, byte by byte.
+fn quoted_seam_len(text: &[u8]) -> usize
     ensures within { result ≤ length text.now }
     ensures closed { IsClosed (take result text.now) }
 {

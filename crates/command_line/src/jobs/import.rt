@@ -207,7 +207,8 @@ each further record is an event. Columns other than these five are passed over.
   time     when it happened
   node     who sent, or who received
   event    send or receive
-  to       in a send, who it is for; in a receive it isn't looked at
+  to       in a send, who it is for: a node, or several with ; between them, each
+           of which gets the message; in a receive it isn't looked at
   message  in a send, the name of the message; in a receive, the names of those
            that it took, with one space between them, possibly none
 

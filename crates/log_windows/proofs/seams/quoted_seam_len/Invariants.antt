@@ -2,7 +2,7 @@ use Rattle.std.proofs.Common.{◌≡◌, ◌≤◌, take}
 use Rattle.csv.specs.declared.parser.State.TheVariants as st
 use Rattle.shared_reading.specs.Seams.{state_after, IsClosed}
 use Rattle.log_windows.specs.Places.{state_of}
-use Rattle.log_windows.proofs.seams.seam_len.Given as goal
+use Rattle.log_windows.proofs.seams.quoted_seam_len.Given as goal
 
 -- where the reader is, and the last place between two records so far
 abbrev pub invariant-loop-i : goal.invariant-loop-i

@@ -1,0 +1,22 @@
+use Rattle.std.proofs.Common.{◌+◌, refl, arith}
+use Rattle.csv.specs.declared.parser.State.TheVariants as st
+use Rattle.shared_reading.specs.Seams.{state_after}
+use Rattle.log_windows.specs.Places.{seam_by, state_of}
+use Rattle.log_windows.proofs.SeamPlaces.{after-more, closed-by, within-by}
+use Rattle.log_windows.proofs.seams.quoted_seam_len.Goals as goal
+
+pub loop-i-init : goal.loop-i-init
+unfolding state_after
+loop-i-init c = record { within = omega arith; place = refl; closed = refl }
+
+pub loop-i-preserved : goal.loop-i-preserved
+loop-i-preserved c =
+    let text = c.args.text.now in
+    let i = c.loop-i.i in
+    let place = state_of c.after-place.result in
+    let more = after-more st.StartRecord (state_of c.loop-i.place) place text i c.loop-i-test.true c.loop-i.invariant.place c.after-place.ensures in
+    record {
+      within = rw c.seam_by-seam.ensures (within-by place c.loop-i.seam (i + 1) (omega (arith, c.loop-i.invariant.within)));
+      place = more;
+      closed = rw c.seam_by-seam.ensures (closed-by place text c.loop-i.seam (i + 1) c.loop-i.invariant.closed more);
+    }
