@@ -20,4 +20,4 @@ at-least false P h = h
 pub spread-err : {A : Type 0} (P : LogError → LogWindow → Type 0) (Q : LogError → Type 0) (text : List ℕ) (w : LogWindow) (r : Result A LogError) → true ≡ may_list text → IsSpreadOf text w
     → IfErr r (λ why. P why w) → IfErr r (λ why. MatchBool (may_list text) (IsSpreadRefusal (P why) text why) (Q why))
 spread-err P Q text w (Ok a) e s h = tt
-spread-err P Q text w (Err why) e s h = subst (λ b. MatchBool b (IsSpreadRefusal (P why) text why) (Q why)) e (at-least (is_memory why) _ (inr (inr (w, s, h))))
+spread-err P Q text w (Err why) e s h = subst (λ b. MatchBool b (IsSpreadRefusal (P why) text why) (Q why)) e (at-least (is_memory why) _ (inr (w, s, h)))

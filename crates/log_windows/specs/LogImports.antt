@@ -1,10 +1,8 @@
 -- A log read as a trace. A record of it may send a message to several nodes.
-use Rattle.std.specs.Prelude.{ℕ, ◌≡◌, ◌<◌, ◌⊎◌, List, Err, length, MatchBool, ⊤}
-use Rattle.trace_text.specs.declared.byte_loops.TheConstants.{MAX_TEXT_BYTES}
+use Rattle.std.specs.Prelude.{ℕ, ◌⊎◌, List, MatchBool, ⊤}
 use Rattle.event_log.specs.declared.imports.Import.{Import}
 use Rattle.event_log.specs.declared.options.Options.{Options}
 use Rattle.event_log.specs.declared.refusals.LogError.{LogError}
-use Rattle.event_log.specs.declared.refusals.LogError.TheVariants.{TooLarge}
 use Rattle.event_log.specs.declared.tick_rows.TickRow.{TickRow}
 use Rattle.event_log.specs.declared.times.TimeKind.{TimeKind}
 use Rattle.event_log.specs.Imports.{IsImportOf, IsLogRefusal}
@@ -12,8 +10,8 @@ use Rattle.event_log.specs.Naming.{is_memory}
 use Rattle.event_log.specs.StepTables.{IsTableOf}
 use Rattle.event_log.specs.TickTables.{IsTickRefusal, IsTickTable}
 use Rattle.log_windows.specs.declared.reading.LogWindow.{LogWindow}
-use Rattle.log_windows.specs.Lists.{may_list, spread_of}
-use Rattle.log_windows.specs.LogWindows.{IsSpreadOf}
+use Rattle.log_windows.specs.Lists.{may_list}
+use Rattle.log_windows.specs.LogWindows.{IsSpreadOf, IsUnspread}
 use Rattle.log_windows.specs.WindowImports.{IsWindowImport, IsWindowImportRefusal, IsWindowTable, IsWindowTicksRefusal}
 
 -- it holds of the log in which each send is to one node
@@ -23,7 +21,7 @@ OfSpread P text = (w : LogWindow) × IsSpreadOf text w × P w
 -- that log isn't made, or is refused for this reason
 abbrev pub IsSpreadRefusal : (LogWindow → Type 0) → List ℕ → LogError → Type 0
 IsSpreadRefusal P text why =
-    MatchBool (is_memory why) ⊤ (((MAX_TEXT_BYTES < length text) × (why ≡ TooLarge)) ⊎ ((spread_of text ≡ Err why) ⊎ OfSpread P text))
+    MatchBool (is_memory why) ⊤ (IsUnspread text why ⊎ OfSpread P text)
 
 -- the import of a log
 abbrev pub IsLogImport : Options → List ℕ → Import → Type 0

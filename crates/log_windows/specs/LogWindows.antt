@@ -1,6 +1,8 @@
 -- The window of a log, as it is handed out.
-use Rattle.std.specs.Prelude.{ℕ, ◌≡◌, ◌⊎◌, List, Option, IfSome, Ok, Err, MatchBool, ⊤}
+use Rattle.std.specs.Prelude.{ℕ, ◌≡◌, ◌<◌, ◌⊎◌, List, Option, IfSome, Ok, Err, MatchBool, ⊤, length}
+use Rattle.trace_text.specs.declared.byte_loops.TheConstants.{MAX_TEXT_BYTES}
 use Rattle.event_log.specs.declared.refusals.LogError.{LogError}
+use Rattle.event_log.specs.declared.refusals.LogError.TheVariants.{TooLarge}
 use Rattle.event_log.specs.declared.times.LogEnd.{LogEnd}
 use Rattle.event_log.specs.declared.times.TimeUnit.{TimeUnit}
 use Rattle.event_log.specs.Naming.{is_memory}
@@ -25,6 +27,10 @@ pub record IsSpreadOf (text : List ℕ) (w : LogWindow) : Type 0 where
   pub spread : spread_of text ≡ Ok (record { text = w.text.items; places = w.places.items; sent = sent; outside = outside })
   pub outside_are : w.outside ≡ 0
   pub unsent_are : w.unsent ≡ 0
+
+-- why there is none: the text is too large, or the first refusal
+abbrev pub IsUnspread : List ℕ → LogError → Type 0
+IsUnspread text why = ((MAX_TEXT_BYTES < length text) × (why ≡ TooLarge)) ⊎ (spread_of text ≡ Err why)
 
 -- it isn't made for this reason, or out of memory
 abbrev pub IsUnkept : Reading → LogError → Type 0

@@ -1,11 +1,11 @@
 //! A log whose sends are each to one node: a record that lists several becomes a record for each of them.
 
-ghost use Rattle.std.specs.Prelude.{◌≡◌, IfOk, IfErr, MatchBool, Err, ⊤};
+ghost use Rattle.std.specs.Prelude.{◌≡◌, ◌≤◌, IfOk, IfErr, OnOk, MatchBool, Err, ⊤, length};
 ghost use Rattle.csv.specs.Records.{fields_of};
 ghost use Rattle.event_log.specs.Naming.{is_memory};
 ghost use Rattle.trace_text.specs.Records.{ReachesUnless};
-ghost use Rattle.log_windows.specs.Lists.{may_list, nothing_spread, spread_event, spread_header, spread_of};
-ghost use Rattle.log_windows.specs.LogWindows.{IsSpreadOf};
+ghost use Rattle.log_windows.specs.Lists.{may_list, nothing_spread, spread_event, spread_header};
+ghost use Rattle.log_windows.specs.LogWindows.{IsSpreadOf, IsUnspread};
 
 use crate::reading::LogWindow;
 use crate::rows::{TakeRows, take_rows};
@@ -13,6 +13,7 @@ use crate::windows::{MAX_LOGGED, WindowRows};
 use csv::ByteRecord;
 use event_log::{Columns, LogError, columns_of};
 use std::alloc::{AllocError, Global};
+use trace_text::MAX_TEXT_BYTES;
 
 /// How far the records of a log were gone through.
 #[derive(Drop)]
@@ -34,12 +35,17 @@ pub(crate) fn may_list(text: &[u8]) -> bool
 /// The log in which each send is to one node: a record that lists several, with semicolons between them, becomes one for
 /// each, in that order. All events are in this window.
 ///
-/// Refuses what its header is refused for; an event beyond `MAX_LOGGED`; and TooLarge for the text that this makes. The
-/// first record that is refused decides. Memory may come at any step.
+/// Refuses TooLarge; what its header is refused for; an event beyond `MAX_LOGGED`; and TooLarge for the text that this
+/// makes. The first record that is refused decides. Memory may come at any step, but only for a text that isn't too large.
 pub(crate) fn spread_log(alloc: Global, text: &[u8]) -> Result<LogWindow, LogError>
     ensures log { IfOk result (IsSpreadOf text.now) }
-    ensures refused { IfErr result (λ why. MatchBool (is_memory why) ⊤ (spread_of text.now ≡ Err why)) }
+    ensures refused { IfErr result (λ why. MatchBool (is_memory why) ⊤ (IsUnspread text.now why)) }
+    ensures small { OnOk result (length text.now ≤ MAX_TEXT_BYTES) }
+    ensures more { result ≡ Err LogError.Memory → length text.now ≤ MAX_TEXT_BYTES }
 {
+    if text.len() > MAX_TEXT_BYTES {
+        return Err(LogError::TooLarge);
+    }
     let Ok(mut spreading) = Spreading::new(alloc) else {
         return Err(LogError::Memory);
     };

@@ -1,19 +1,22 @@
 //! A log read as a trace. A record of it may send a message to several nodes, with semicolons between their names.
 
-ghost use Rattle.std.specs.Prelude.{IfErr, IfOk};
+ghost use Rattle.std.specs.Prelude.{◌≡◌, ◌≤◌, Err, IfErr, IfOk, length};
 ghost use Rattle.log_windows.specs.LogImports.{AreLogTicks, IsLogImport, IsLogImportRefusal, IsLogTable, IsLogTicksRefusal};
 
 use crate::imports::{window_import, window_table, window_ticks};
 use crate::lists::{may_list, spread_log};
 use event_log::{Import, LogError, LogTable, Options, TickTable, read_log, read_table, read_ticks};
 use std::alloc::Global;
+use trace_text::MAX_TEXT_BYTES;
 
 /// The import of a log: as `read_log` gives it, once each send is to one node.
 ///
 /// Refuses the same, by the records of the log; and TooLarge, if its text is too large with a record for each send.
+/// Memory comes only for a text that isn't too large.
 pub fn log_import(alloc: Global, text: &[u8], options: &Options) -> Result<Import, LogError>
     ensures import { IfOk result (IsLogImport options.now text.now) }
     ensures refused { IfErr result (IsLogImportRefusal options.now text.now) }
+    ensures more { result ≡ Err LogError.Memory → length text.now ≤ MAX_TEXT_BYTES }
 {
     if !may_list(text) {
         return read_log(alloc, text, options);
@@ -28,6 +31,7 @@ pub fn log_import(alloc: Global, text: &[u8], options: &Options) -> Result<Impor
 pub fn log_table(alloc: Global, text: &[u8], options: &Options) -> Result<LogTable, LogError>
     ensures table { IfOk result (λ t. IsLogTable options.now text.now t.import t.table.items) }
     ensures refused { IfErr result (IsLogImportRefusal options.now text.now) }
+    ensures more { result ≡ Err LogError.Memory → length text.now ≤ MAX_TEXT_BYTES }
 {
     if !may_list(text) {
         return read_table(alloc, text, options);
@@ -42,6 +46,7 @@ pub fn log_table(alloc: Global, text: &[u8], options: &Options) -> Result<LogTab
 pub fn log_ticks(alloc: Global, text: &[u8], options: &Options) -> Result<TickTable, LogError>
     ensures table { IfOk result (λ t. AreLogTicks options.now text.now t.kind t.rows.items) }
     ensures refused { IfErr result (IsLogTicksRefusal options.now text.now) }
+    ensures more { result ≡ Err LogError.Memory → length text.now ≤ MAX_TEXT_BYTES }
 {
     if !may_list(text) {
         return read_ticks(alloc, text, options);
