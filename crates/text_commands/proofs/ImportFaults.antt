@@ -29,7 +29,7 @@ refused-unimported form o text no_log.Memory h = tt
 refused-unimported form o text why h = (h, λ e. absurd (cc e))
 
 large-listed : (P : LogWindow → Type 0) (Q : Type 0) (text : List ℕ) → MAX_TEXT_BYTES < length text → (listed : Bool) → Q → MatchBool listed (IsSpreadRefusal P text no_log.TooLarge) Q
-large-listed P Q text h true q = inl (h, refl)
+large-listed P Q text h true q = inl (inl (h, refl))
 large-listed P Q text h false q = q
 
 -- a log that is too large is refused for that
