@@ -7,3 +7,5 @@ pub mod NumberedTables
 pub mod ListedRows
 pub mod ListedLogs
 pub mod EventsRead
+pub mod RowsRead
+pub mod WindowLaws

@@ -12,3 +12,4 @@ pub mod Numbers
 pub mod NumberedRows
 pub mod WindowImports
 pub mod LogImports
+pub mod WindowLaws

@@ -6,6 +6,7 @@ mod bounds;
 mod devices;
 mod imports;
 mod kept_names;
+mod laws;
 mod lists;
 mod logs;
 mod numbers;
@@ -16,6 +17,7 @@ mod windows;
 
 pub use devices::WindowError;
 pub use imports::{window_import, window_table, window_ticks};
+pub use laws::window_laws;
 pub use logs::{log_import, log_table, log_ticks};
 pub use reading::{LogWindow, read_window};
 pub use windows::MAX_LOGGED;
