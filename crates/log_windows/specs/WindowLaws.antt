@@ -63,12 +63,12 @@ is_in columns times event = option_map_or (is_within times.bounds) (time_as time
 abbrev pub events_in : Columns → Times → List (List (List ℕ)) → List Row
 events_in columns times events = filter (is_in columns times) (placed 0 events)
 
--- the records of an event in a window: one for each node that it sends to, with a time that is of its kind by itself
+-- the rows of an event in a window: one for each node that it sends to, with a time that is of its kind by itself
 abbrev pub rows_in : Columns → TimeKind → Row → List Row
 rows_in columns k event = at_place event.place (rows_of columns (told_row columns k event.fields))
 
--- the kind of the times, which the first event gives; each event has a time of this kind; the window by such times; the
--- records of the events in it; and the number of the others
+-- The first event gives the kind of the times, and each event has a time of this kind. The window by such times keeps the
+-- rows of exactly the events in it, and counts the others
 pub record IsCut (unit : Option TimeUnit) (from : LogEnd) (until : Option LogEnd) (columns : Columns) (header first : List (List ℕ)) (events : List (List (List ℕ))) (kept : Rows) : Type 0 where
   pub times : Times
   pub kind : option_map (λ moment. moment.kind) (moment_as (settled unit None) (field_of first columns.time)) ≡ Some times.kind
@@ -82,17 +82,17 @@ abbrev pub IsCutBy : Option TimeUnit → LogEnd → Option LogEnd → Columns �
 IsCutBy unit from until columns header [] kept = AreKept columns header [] kept × (kept.outside ≡ 0)
 IsCutBy unit from until columns header (first ∷ more) kept = IsCut unit from until columns header first (first ∷ more) kept
 
--- what the window of a log's records is
+-- what is kept of a log for a window, by all its records
 abbrev pub IsCutOf : Option TimeUnit → LogEnd → Option LogEnd → List (List (List ℕ)) → Rows → Type 0
 IsCutOf unit from until [] kept = IsBare kept
 IsCutOf unit from until (header ∷ events) kept =
     (columns : Columns) × (columns_of header ≡ Ok columns) × IsCutBy unit from until columns header events kept
 
--- the records of an event in which each send is to one node
+-- the rows of any event: one for each node that it sends to
 abbrev pub rows_all : Columns → Row → List Row
 rows_all columns event = at_place event.place (rows_of columns event.fields)
 
--- what a log's records are in which each send is to one node
+-- the log in which each send is to one node, by all records of a log
 abbrev pub IsListOf : List (List (List ℕ)) → Rows → Type 0
 IsListOf [] kept = IsBare kept
 IsListOf (header ∷ events) kept =
@@ -131,7 +131,7 @@ abbrev pub IsSentOf : List (List ℕ) → List (List (List ℕ)) → Kept → Ty
 IsSentOf sent [] kept = (kept.text ≡ 10 ∷ []) × (kept.unsent ≡ 0)
 IsSentOf sent (header ∷ events) kept = (columns : Columns) × (columns_of header ≡ Ok columns) × IsSentBy columns sent header events kept
 
--- what a window is that is handed out: what is kept of the log, in whose receives are only messages that it sends
+-- the window that is handed out: what is kept of the log, whose receives have only messages that it sends
 pub record IsWindowAtOnce (unit : Option TimeUnit) (from : LogEnd) (until : Option LogEnd) (records : List (List (List ℕ))) (w : LogWindow) : Type 0 where
   pub kept : Rows
   pub cut : IsCutOf unit from until records kept
