@@ -30,3 +30,4 @@ pub mod PlacedImports
 pub mod PlacedErrors
 pub mod TickRows
 pub mod TickTables
+pub mod PackedEvents

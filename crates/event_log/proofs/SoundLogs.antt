@@ -10,9 +10,6 @@ use Rattle.std.proofs.lemmas.List.{length-map}
 use Rattle.trace_text.specs.Records.{◌>>=◌, GivesUnless, after_records, records_of_text}
 use Rattle.trace_text.specs.declared.byte_loops.TheConstants.{MAX_TEXT_BYTES}
 use Rattle.event_log.specs.declared.columns.Columns.{Columns}
-use Rattle.event_log.specs.declared.naming.KeptEvent.{KeptEvent}
-use Rattle.event_log.specs.declared.naming.KeptAct.{KeptAct}
-use Rattle.event_log.specs.declared.naming.KeptAct.TheVariants as kept
 use Rattle.event_log.specs.declared.reading.Reading.{Reading}
 use Rattle.event_log.specs.declared.reading.TheConstants.{MAX_EVENTS}
 use Rattle.event_log.specs.declared.records.Verb.{Verb}
@@ -24,6 +21,8 @@ use Rattle.event_log.specs.declared.times.TimeUnit.{TimeUnit}
 use Rattle.event_log.specs.declared.logs.NamedEvents.{NamedEvents}
 use Rattle.event_log.specs.Columns.{columns_of}
 use Rattle.event_log.specs.Events.{resolved, resolved_act}
+use Rattle.event_log.specs.KeptEvents.{KeptAct, KeptEvent}
+use Rattle.event_log.specs.KeptEvents as kept
 use Rattle.event_log.specs.LogRecords.{Said, said_of}
 use Rattle.event_log.specs.Logs.{SeenLog, events_in, resolved_log, seen_log}
 use Rattle.event_log.specs.Reading.{after_told, at_end_by, enough_nodes, named_at_end, named_by, named_of, next_by, next_reading, nothing_read, rules_of, with_event}

@@ -3,9 +3,8 @@ use Rattle.std.specs.Prelude.{ℕ, ℤ, List, Option, map}
 use Rattle.timed_events.specs.declared.events.Event.{Event}
 use Rattle.timed_events.specs.declared.events.EventAct.{EventAct}
 use Rattle.timed_events.specs.declared.events.EventAct.TheVariants as act
-use Rattle.event_log.specs.declared.naming.KeptEvent.{KeptEvent}
-use Rattle.event_log.specs.declared.naming.KeptAct.{KeptAct}
-use Rattle.event_log.specs.declared.naming.KeptAct.TheVariants as kept
+use Rattle.event_log.specs.KeptEvents.{KeptAct, KeptEvent}
+use Rattle.event_log.specs.KeptEvents as kept
 use Rattle.event_log.specs.Names.{parts_of}
 use Rattle.event_log.specs.SentMessages.{Sent, place_for}
 

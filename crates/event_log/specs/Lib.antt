@@ -2,10 +2,13 @@ pub mod Times
 pub mod Columns
 pub mod RefusalTexts
 pub mod Results
+pub mod NameKeys
 pub mod Names
 pub mod LogRecords
 pub mod SentMessages
 pub mod SentLaws
+pub mod KeptEvents
+pub mod PackedEvents
 pub mod Naming
 pub mod Reading
 pub mod Events

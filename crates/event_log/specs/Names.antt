@@ -1,8 +1,10 @@
 -- The names of nodes and messages.
-use Rattle.std.specs.Prelude.{ℕ, Bool, not, ◌&&◌, ◌||◌, ◌==◌, List, [], ◌∷◌, ◌++◌, Vec, length, map, nat_lt, is_some, if◌then◌else◌}
+use Rattle.std.specs.Prelude.{ℕ, Bool, not, ◌&&◌, ◌||◌, ◌==◌, List, [], ◌∷◌, ◌++◌, length, map, nat_lt, is_some, if◌then◌else◌}
 use Rattle.std.specs.List.{list_all, list_any, slice_split}
 use Rattle.std.specs.Str.{bytes_eq}
 use Rattle.indexmap.specs.IndexSet.{IndexSet}
+use Rattle.event_log.specs.declared.name_keys.NameKey.{NameKey}
+use Rattle.event_log.specs.NameKeys.{name_of}
 use Rattle.event_log.specs.Times.{text_of}
 
 -- a control character: a byte below 32, or 127
@@ -39,5 +41,5 @@ unfoldable pub with_name : List (List ℕ) → List ℕ → List (List ℕ)
 with_name names name = if has_name names name then names else names ++ name ∷ []
 
 -- the names that a set keeps, in its order
-unfoldable pub names_in : {B S : Type 0} → IndexSet (Vec ℕ B) S → List (List ℕ)
-names_in set = map (λ name. name.items) set.keys
+unfoldable pub names_in : {S : Type 0} → IndexSet NameKey S → List (List ℕ)
+names_in set = map name_of set.keys

@@ -4,13 +4,11 @@ use Rattle.std.specs.List.{position_or_len}
 use Rattle.std.specs.Option.{option_map_or}
 use Rattle.std.specs.Str.{bytes_eq}
 use Rattle.trace_text.specs.Records.{◌>>=◌}
-use Rattle.event_log.specs.declared.naming.KeptEvent.{KeptEvent}
-use Rattle.event_log.specs.declared.naming.KeptAct.{KeptAct}
-use Rattle.event_log.specs.declared.naming.KeptAct.TheVariants.{Send, Receive}
 use Rattle.event_log.specs.declared.records.Verb.{Verb}
 use Rattle.event_log.specs.declared.records.Verb.TheVariants as verb
 use Rattle.event_log.specs.declared.refusals.LogError.{LogError}
 use Rattle.event_log.specs.declared.refusals.LogError.TheVariants.{TooManyNodes, SentBefore, Memory}
+use Rattle.event_log.specs.KeptEvents.{KeptAct, KeptEvent, Send, Receive}
 use Rattle.event_log.specs.LogRecords.{Said}
 use Rattle.event_log.specs.Names.{has_name, with_name}
 use Rattle.event_log.specs.SentMessages.{Sent, none_sent, place_for, with_send}

@@ -3,9 +3,10 @@
 ghost use Rattle.std.specs.Prelude.{◌≡◌, IfOk, map};
 ghost use Rattle.event_log.specs.Events.{resolved, seen};
 ghost use Rattle.event_log.specs.Names.{parts_of};
+ghost use Rattle.event_log.specs.PackedEvents.{lent_event};
 ghost use Rattle.event_log.specs.SentMessages.{place_for};
 
-use crate::naming::{KeptAct, KeptEvent};
+use crate::packed_events::{LentAct, LentEvent, PackedEvents};
 use crate::sent_messages::SentMessages;
 use std::alloc::{AllocError, Global};
 use timed_events::{Event, EventAct};
@@ -14,13 +15,16 @@ use timed_events::{Event, EventAct};
 pub(crate) fn events_of(
     alloc: Global,
     sent: &SentMessages,
-    kept: &[KeptEvent],
+    kept: &PackedEvents,
 ) -> Result<Vec<Event>, AllocError>
     ensures { IfOk result (λ events. map seen events.items ≡ map (resolved sent.now) kept.now) }
 {
     let mut events = Vec::with_capacity(alloc, kept.len())?;
     for i in 0..kept.len() {
-        events.push(event_of(alloc, sent, &kept[i])?)?;
+        let Some(event) = kept.get(i) else {
+            unreachable!();
+        };
+        events.push(event_of(alloc, sent, &event)?)?;
     }
     Ok(events)
 }
@@ -29,14 +33,14 @@ pub(crate) fn events_of(
 pub(crate) fn event_of(
     alloc: Global,
     sent: &SentMessages,
-    kept: &KeptEvent,
+    kept: &LentEvent<'_>,
 ) -> Result<Event, AllocError>
-    ensures { IfOk result (λ event. seen event ≡ resolved sent.now kept.now) }
+    ensures { IfOk result (λ event. seen event ≡ resolved sent.now (lent_event kept.now)) }
 {
     let act = match &kept.act {
-        KeptAct::Send { to } => EventAct::Send { to: *to },
-        KeptAct::Receive { messages: names } => EventAct::Receive {
-            messages: places_of(alloc, sent, kept.processor, names.as_bytes())?,
+        LentAct::Send { to } => EventAct::Send { to: *to },
+        LentAct::Receive { messages: names } => EventAct::Receive {
+            messages: places_of(alloc, sent, kept.processor, names)?,
         },
     };
     Ok(Event {
@@ -55,10 +59,11 @@ fn places_of(
 ) -> Result<Vec<Option<u32>>, AllocError>
     ensures { IfOk result (λ places. places.items ≡ map (place_for sent.now processor) (parts_of names.now)) }
 {
-    let mut places = Vec::new(alloc);
     if names.len() == 0 {
-        return Ok(places);
+        return Ok(Vec::new(alloc));
     }
+    // (nearly all receive one)
+    let mut places = Vec::with_capacity(alloc, 1)?;
     for name in names.split(|byte| *byte == b' ') {
         let place = sent.place_for(alloc, processor, name)?;
         places.push(place)?;

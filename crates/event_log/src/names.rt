@@ -3,8 +3,10 @@
 ghost use Rattle.std.specs.Prelude.{◌≡◌, ◌<◌, ℕ, List, [], IfSome, IfOk, OnOk, OnErr, is_some, length, not, option_map, position, slice_get};
 ghost use Rattle.std.specs.List.{list_any, position_or_len};
 ghost use Rattle.std.specs.Str.{bytes_eq};
+ghost use Rattle.event_log.specs.NameKeys.{name_of};
 ghost use Rattle.event_log.specs.Names.{are_message_names, has_name, is_control, is_message_name, is_name, is_node_name, names_in, with_name};
 
+use crate::name_keys::NameKey;
 use crate::times::text_of;
 use indexmap::IndexSet;
 use std::alloc::{AllocError, Global};
@@ -102,7 +104,7 @@ pub fn are_message_names(field: &[u8]) -> bool
 /// Different names, in the order in which they came. A name's place is its position, from 0.
 #[derive(Drop)]
 pub struct NameSet {
-    names: IndexSet<Vec<u8>>,
+    names: IndexSet<NameKey<'static>>,
 }
 
 impl Model for NameSet {
@@ -135,7 +137,7 @@ impl NameSet {
         ensures found { is_some result ≡ has_name self.now name.now }
         ensures within { IfSome result (λ place. place < length self.now) }
     {
-        self.names.get_index_of(name)
+        self.names.get_index_of(&NameKey::Lent(name))
     }
 
     /// The name at a place.
@@ -182,20 +184,23 @@ impl NameSet {
         ensures within { IfOk result (λ r. r.0 < length self.new) }
         ensures kept { OnErr result (self.new ≡ self.old) }
     {
-        let name = Vec::from_slice(alloc, name)?;
-        insert(&mut self.names, name)
+        let key = NameKey::new(alloc, name)?;
+        insert(&mut self.names, key)
     }
 }
 
 /// Puts a name last, unless it is there, and gives its place and whether it is new.
-fn insert(names: &mut IndexSet<Vec<u8>>, name: Vec<u8>) -> Result<(usize, bool), AllocError>
-    ensures names { OnOk result (names_in names.new ≡ with_name (names_in names.old) name.items) }
-    ensures place { IfOk result (λ r. r.0 ≡ position_or_len (bytes_eq name.items) (names_in names.old)) }
-    ensures added { IfOk result (λ r. r.1 ≡ not (has_name (names_in names.old) name.items)) }
+fn insert(
+    names: &mut IndexSet<NameKey<'static>>,
+    key: NameKey<'static>,
+) -> Result<(usize, bool), AllocError>
+    ensures names { OnOk result (names_in names.new ≡ with_name (names_in names.old) (name_of key.entry)) }
+    ensures place { IfOk result (λ r. r.0 ≡ position_or_len (bytes_eq (name_of key.entry)) (names_in names.old)) }
+    ensures added { IfOk result (λ r. r.1 ≡ not (has_name (names_in names.old) (name_of key.entry))) }
     ensures within { IfOk result (λ r. r.0 < length (names_in names.new)) }
     ensures kept { OnErr result (names_in names.new ≡ names_in names.old) }
 {
-    let Ok(added) = names.insert_full(name) else {
+    let Ok(added) = names.insert_full(key) else {
         return Err(AllocError);
     };
     Ok(added)

@@ -7,9 +7,11 @@ ghost use Rattle.event_log.specs.SentMessages.{with_send};
 ghost use Rattle.event_log.specs.Events.{resolved, seen};
 ghost use Rattle.event_log.specs.LogRecords.{said};
 ghost use Rattle.event_log.specs.Names.{with_name};
+ghost use Rattle.event_log.specs.PackedEvents.{lent_act};
 
 use crate::events::events_of;
 use crate::names::{MAX_NODES, Name, NameSet};
+use crate::packed_events::{LentAct, LentEvent, PackedEvents};
 use crate::records::{Told, Verb};
 use crate::refusals::LogError;
 use crate::results::both;
@@ -18,21 +20,6 @@ use std::alloc::{AllocError, Global};
 use std::marker::Model;
 use timed_events::Event;
 
-/// An event with numbers in place of the names of nodes.
-#[derive(Drop)]
-pub(crate) struct KeptEvent {
-    pub(crate) time: i128,
-    pub(crate) processor: u64,
-    pub(crate) act: KeptAct,
-}
-
-#[derive(Drop)]
-pub(crate) enum KeptAct {
-    Send { to: u64 },
-    /// The names of the messages, which may be sent by a later record.
-    Receive { messages: Name },
-}
-
 /// The names of the events so far, and these events.
 #[derive(Drop)]
 pub(crate) struct Naming {
@@ -40,13 +27,13 @@ pub(crate) struct Naming {
     nodes: NameSet,
     /// The messages that they sent.
     sent: SentMessages,
-    events: Vec<KeptEvent>,
+    events: PackedEvents,
 }
 
 impl Model for Naming {
     ghost Value = { Named };
 
-    ghost view = { λ n. record { nodes = n.nodes; sent = n.sent; events = n.events.items } };
+    ghost view = { λ n. record { nodes = n.nodes; sent = n.sent; events = n.events } };
 }
 
 impl Naming {
@@ -57,7 +44,7 @@ impl Naming {
         Naming {
             nodes,
             sent: SentMessages::new(alloc),
-            events: Vec::new(alloc),
+            events: PackedEvents::new(alloc),
         }
     }
 
@@ -73,7 +60,7 @@ impl Naming {
         ensures nodes { IfOk result (λ r. r.0 ≡ self.nodes) }
         ensures events { IfOk result (λ r. map seen r.1.items ≡ map (resolved self.sent) self.events) }
     {
-        let events = events_of(alloc, &self.sent, self.events.as_slice());
+        let events = events_of(alloc, &self.sent, &self.events);
         both(Ok(self.nodes), events)
     }
 
@@ -96,14 +83,13 @@ impl Naming {
         if numbers.count > MAX_NODES {
             return Err(LogError::TooManyNodes(at));
         }
-        let events = self.events.as_slice();
-        let act = name_act(alloc, &mut self.sent, events, place, numbers.to, told)?;
-        let event = KeptEvent {
+        let act = name_act(alloc, &mut self.sent, &self.events, place, numbers.to, told)?;
+        let event = LentEvent {
             time: told.moment.time,
             processor: numbers.processor,
             act,
         };
-        match self.events.push(event) {
+        match self.events.push(&event) {
             Ok(()) => Ok(()),
             Err(_) => Err(LogError::Memory),
         }
@@ -155,25 +141,24 @@ fn name_node(alloc: Global, nodes: &mut NameSet, name: &[u8]) -> Result<(u64, us
 }
 
 /// Takes in the message of a send, and gives what is kept of what the event at a place does.
-fn name_act(
+fn name_act<'a>(
     alloc: Global,
     sent: &mut SentMessages,
-    events: &[KeptEvent],
+    events: &PackedEvents,
     place: u32,
     to: u64,
-    told: &Told<'_>,
-) -> Result<KeptAct, LogError>
+    told: &Told<'a>,
+) -> Result<LentAct<'a>, LogError>
     ensures sent { OnOk result (sent.new ≡ sent_after place to sent.old (said told.now)) }
-    ensures act { GivesUnless is_memory (λ act. act) result (act_after (place + 2) to sent.old events.now (said told.now)) }
+    ensures act { GivesUnless is_memory lent_act result (act_after (place + 2) to sent.old events.now (said told.now)) }
 {
     if let Verb::Receive = told.verb {
-        let Ok(messages) = Name::new(alloc, told.messages) else {
-            return Err(LogError::Memory);
-        };
-        return Ok(KeptAct::Receive { messages });
+        return Ok(LentAct::Receive {
+            messages: told.messages,
+        });
     }
     match put_send(alloc, sent, events, place, to, told.messages) {
-        Ok(true) => Ok(KeptAct::Send { to }),
+        Ok(true) => Ok(LentAct::Send { to }),
         Ok(false) => Err(sent_before(alloc, u64::from(place) + 2, told.messages)),
         Err(_) => Err(LogError::Memory),
     }
@@ -184,7 +169,7 @@ fn name_act(
 fn put_send(
     alloc: Global,
     sent: &mut SentMessages,
-    events: &[KeptEvent],
+    events: &PackedEvents,
     place: u32,
     to: u64,
     name: &[u8],
@@ -206,7 +191,7 @@ fn put_send(
 fn was_sent_to(
     alloc: Global,
     sent: &SentMessages,
-    events: &[KeptEvent],
+    events: &PackedEvents,
     to: u64,
     name: &[u8],
 ) -> Result<bool, AllocError>
@@ -219,23 +204,21 @@ fn was_sent_to(
 }
 
 /// Whether the event at a place is a send to a node.
-fn is_send_to(events: &[KeptEvent], place: usize, to: u64) -> bool
+fn is_send_to(events: &PackedEvents, place: usize, to: u64) -> bool
     ensures { result ≡ is_send_to events.now place to }
 {
     match events.get(place) {
-        Some(event) => event.act.sends_to(to),
+        Some(event) => sends_to(&event.act, to),
         None => false,
     }
 }
 
-impl KeptAct {
-    fn sends_to(&self, node: u64) -> bool
-        ensures { result ≡ sends_to self.now node }
-    {
-        match self {
-            KeptAct::Send { to } => *to == node,
-            KeptAct::Receive { .. } => false,
-        }
+fn sends_to(act: &LentAct<'_>, node: u64) -> bool
+    ensures { result ≡ sends_to (lent_act act.now) node }
+{
+    match act {
+        LentAct::Send { to } => *to == node,
+        LentAct::Receive { .. } => false,
     }
 }
 

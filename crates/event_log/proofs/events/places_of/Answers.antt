@@ -9,10 +9,10 @@ use Rattle.event_log.proofs.MessageNames.{parts-none, parts-split}
 use Rattle.event_log.proofs.events.places_of.Goals as goal
 
 pub loop-name-init : goal.loop-name-init
-loop-name-init c = (grind serving, grind serving, c.new-places.ensures.items)
+loop-name-init c = (grind serving, grind serving, (rw c.in_ok-places.was at c.with_capacity.ensures).items)
 
 pub returns-then-names-eq0 : goal.returns-then-names-eq0
-returns-then-names-eq0 c = c.new-places.ensures.items ∙ sym (ap (λ names. map (place_for c.args.sent.now c.args.processor) names) (parts-none c.args.names.now (omega (arith, c.if-names-eq0.true))))
+returns-then-names-eq0 c = c.new.ensures.items ∙ sym (ap (λ names. map (place_for c.args.sent.now c.args.processor) names) (parts-none c.args.names.now (omega (arith, c.if-names-eq0.true))))
 
 pub loop-name-preserved : goal.loop-name-preserved
 loop-name-preserved c =
