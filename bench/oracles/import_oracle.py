@@ -837,12 +837,6 @@ def answer(log, options):
         status, (lines, told) = 0, imported(log, options)
     except Refused as refusal:
         status, lines, told = refusal.status, [], refusal.lines
-        # (the lines of a cycle aren't listed for a window, or a log that lists nodes)
-        is_window = options.from_ is not None or (isinstance(log, bytes) and b";" in log)
-        if is_window and told[0].endswith(b"behind a cycle of messages"):
-            told = told[0], told[-1]
-        if is_window and told[0].endswith(NO_OFFSETS):
-            told = told[:1]
     return status, b"".join(it + b"\n" for it in lines), b"".join(b"synchrony: " + it + b"\n" for it in told)
 
 

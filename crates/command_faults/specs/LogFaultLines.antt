@@ -3,6 +3,7 @@
 use Rattle.std.specs.Prelude.{ℕ, List, [], ◌∷◌, ◌++◌, codes, Option, Some, None}
 use Rattle.timed_events.specs.declared.events.Hint.{Hint}
 use Rattle.timed_events.specs.declared.events.Hint.TheVariants.{ShorterTick, Spread}
+use Rattle.event_log.specs.CycleLines.{lines_text}
 use Rattle.event_log.specs.RefusalTexts.{printed}
 use Rattle.command_faults.specs.declared.faults.ImportOption.{ImportOption}
 use Rattle.command_faults.specs.declared.faults.ImportOption.TheVariants as import_option
@@ -31,8 +32,8 @@ help_line FromUnfit = 10 ∷ codes "synchrony: --from is a time like those of th
 help_line TooManySteps = 10 ∷ codes "synchrony: a greater --tick or a shorter --idle makes fewer"
 help_line (NotLater number message hint) = hint_line hint
 help_line (SecondEvent number node tick hint) = hint_line hint
-help_line (Cycle number hops) = hops ++ 10 ∷ codes "synchrony: no clocks make this right: the records of a node are out of order, or a message is named wrongly"
-help_line (NoOffsets lines) = lines
+help_line (Cycle number lines) = lines_text lines ++ 10 ∷ codes "synchrony: no clocks make this right: the records of a node are out of order, or a message is named wrongly"
+help_line (NoOffsets lines) = lines_text lines
 help_line (BadTime number) = 10 ∷ codes "synchrony: a time is a whole number, decimal seconds like 1700000000.123456, or a time stamp like 2026-11-22T10:00:00.250Z; all are of the kind of record 2's, and with --unit whole numbers"
 help_line (BadNode number None) = 10 ∷ codes "synchrony: the name of a node is text with no control character or semicolon, and not empty"
 help_line (BadNode number (Some name)) = 10 ∷ (codes "synchrony: \"" ++ (printed name ++ codes "\" is not among --nodes"))

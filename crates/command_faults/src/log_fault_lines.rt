@@ -51,9 +51,9 @@ impl fmt::Display for HelpLine<'_> {
             ),
             LogError::NotLater(_, _, hint) => f.write_str(hint_line(*hint)),
             LogError::SecondEvent(_, _, _, hint) => f.write_str(hint_line(*hint)),
-            LogError::Cycle(_, hops) => write!(
+            LogError::Cycle(_, lines) => write!(
                 f,
-                "{hops}\nsynchrony: no clocks make this right: the records of a node are out of order, or a message is named wrongly"
+                "{lines}\nsynchrony: no clocks make this right: the records of a node are out of order, or a message is named wrongly"
             ),
             LogError::NoOffsets(lines) => write!(f, "{lines}"),
             LogError::BadTime(_) => f.write_str(

@@ -17,6 +17,7 @@ pub mod SoundLogs
 pub mod Stages
 pub mod Options
 pub mod ToldNames
+pub mod CycleLines
 pub mod HopLines
 pub mod LostSends
 pub mod Merges

@@ -5,6 +5,7 @@
 mod alignments;
 mod clock_lines;
 mod columns;
+mod cycle_lines;
 mod event_refusals;
 mod events;
 mod hop_lines;
@@ -37,7 +38,7 @@ mod tick_tables;
 mod times;
 
 pub use columns::{Column, Columns, columns_of};
-pub use hop_lines::HopLines;
+pub use cycle_lines::{CycleLine, CycleLines};
 pub use imports::{IdleReceives, Import, end_in, read_log};
 pub use laws::log_laws;
 pub use logs::{NamedEvents, events_of_log};

@@ -1,7 +1,7 @@
 //! Why a log is refused.
 
 use crate::columns::Column;
-use crate::hop_lines::HopLines;
+use crate::cycle_lines::CycleLines;
 use crate::names::Name;
 use thiserror::Error;
 use timed_events::Hint;
@@ -60,9 +60,9 @@ pub enum LogError {
     /// An earlier record is of the same node in the same tick; with what would help.
     SecondEvent(u64, Name, u64, Option<Hint>),
     /// The event is in a cycle of messages or behind one, and none before it is; with the lines of the hops of such a cycle.
-    Cycle(u64, HopLines),
+    Cycle(u64, CycleLines),
     /// If clocks are to be aligned: no offsets bring the messages into order; with the lines of a cycle of clocks.
-    NoOffsets(HopLines),
+    NoOffsets(CycleLines),
     /// If clocks are to be aligned: a time would be later than any of its kind, or a sum of times is too great.
     TooLate,
     /// The events and the receives of nothing are more than 1,000,000.

@@ -1,5 +1,7 @@
 -- What is told about a window, by the records of the whole log.
-use Rattle.std.specs.Prelude.{ℕ, ◌+◌, ◌-◌, List, [], Option, option_map, slice_index_or}
+use Rattle.std.specs.Prelude.{ℕ, ◌+◌, ◌-◌, List, map, Option, option_map, slice_index_or}
+use Rattle.event_log.specs.declared.cycle_lines.CycleLine.{CycleLine}
+use Rattle.event_log.specs.declared.cycle_lines.CycleLine.TheVariants as line
 use Rattle.event_log.specs.declared.imports.Import.{Import}
 use Rattle.event_log.specs.declared.refusals.LogError.{LogError}
 use Rattle.event_log.specs.declared.refusals.LogError.TheVariants.{BadFields, BadTime, BadEvent, BadNode, BadMessage, TooManyNodes, SentBefore, NeverSent, WrongReceiver, ReceivedBefore, NotLater, SecondEvent, Cycle, NoOffsets}
@@ -15,7 +17,17 @@ place_in places i = slice_index_or places i 0
 abbrev pub number_in : List ℕ → ℕ → ℕ
 number_in places n = place_in places (n - 2) + 2
 
--- a refusal of the window by the records of the log, without the lines of a cycle
+-- a line of a cycle by the records of the log
+abbrev pub line_in : List ℕ → CycleLine → CycleLine
+line_in places (line.Hop number node message sender sent after) = line.Hop (number_in places number) node message sender (number_in places sent) (number_in places after)
+line_in places (line.Clock number message sender receiver took sent) = line.Clock (number_in places number) message sender receiver took (number_in places sent)
+line_in places other = other
+
+-- the lines of a cycle by the records of the log
+abbrev pub lines_in : List ℕ → List CycleLine → List CycleLine
+lines_in places lines = map (line_in places) lines
+
+-- a refusal of the window by the records of the log
 abbrev pub refusal_in : List ℕ → LogError → LogError
 refusal_in places (BadFields n) = BadFields (number_in places n)
 refusal_in places (BadTime n) = BadTime (number_in places n)
@@ -29,8 +41,8 @@ refusal_in places (WrongReceiver n name node) = WrongReceiver (number_in places 
 refusal_in places (ReceivedBefore n name) = ReceivedBefore (number_in places n) name
 refusal_in places (NotLater n name hint) = NotLater (number_in places n) name hint
 refusal_in places (SecondEvent n node tick hint) = SecondEvent (number_in places n) node tick hint
-refusal_in places (Cycle n lines) = Cycle (number_in places n) []
-refusal_in places (NoOffsets lines) = NoOffsets []
+refusal_in places (Cycle n lines) = Cycle (number_in places n) (lines_in places lines)
+refusal_in places (NoOffsets lines) = NoOffsets (lines_in places lines)
 refusal_in places why = why
 
 -- how far events moved, by the place of the farthest in the log

@@ -22,7 +22,7 @@ pub fn window_import(
 {
     match read_log(alloc, &window.text, options) {
         Ok(import) => Ok(import_in(&window.places, import)),
-        Err(why) => Err(refusal_in(alloc, &window.places, why)),
+        Err(why) => Err(refusal_in(&window.places, why)),
     }
 }
 
@@ -43,7 +43,7 @@ pub fn window_table(
             let import = import_in(&window.places, import);
             Ok(LogTable { import, table })
         }
-        Err(why) => Err(refusal_in(alloc, &window.places, why)),
+        Err(why) => Err(refusal_in(&window.places, why)),
     }
 }
 
@@ -60,6 +60,6 @@ pub fn window_ticks(
 {
     match read_ticks(alloc, &window.text, options) {
         Ok(table) => Ok(table),
-        Err(why) => Err(refusal_in(alloc, &window.places, why)),
+        Err(why) => Err(refusal_in(&window.places, why)),
     }
 }

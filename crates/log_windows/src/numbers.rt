@@ -1,17 +1,17 @@
 //! What is told about a window, by the records of the whole log.
 
-ghost use Rattle.std.specs.Prelude.{◌≡◌, ◌++◌, [], IfOk, IfErr, Ok, OnOk};
+ghost use Rattle.std.specs.Prelude.{◌≡◌, ◌++◌, IfOk, IfErr, Ok, OnOk};
 ghost use Rattle.csv.specs.Records.{fields_of};
 ghost use Rattle.csv.specs.Writing.{row_text};
 ghost use Rattle.event_log.specs.Naming.{is_memory};
 ghost use Rattle.trace_text.specs.Records.{ReachesUnless};
 ghost use Rattle.trace_text.specs.RecordWriting.{our_writer};
-ghost use Rattle.log_windows.specs.Numbers.{import_in, late_in, lateness_in, moved_in, number_in, place_in, refusal_in};
+ghost use Rattle.log_windows.specs.Numbers.{import_in, late_in, lateness_in, line_in, lines_in, moved_in, number_in, place_in, refusal_in};
 ghost use Rattle.log_windows.specs.NumberedRows.{numbered_row, table_in};
 
 use crate::rows::{TakeRows, push_row, take_rows, with_field};
 use csv::ByteRecord;
-use event_log::{HopLines, Import, LogError};
+use event_log::{CycleLine, CycleLines, Import, LogError};
 use std::alloc::{AllocError, Global};
 use std::marker::Model;
 use timed_events::{LateMessage, Lateness, Moved};
@@ -37,9 +37,8 @@ fn number_in(places: &[u32], number: u64) -> u64
     u64::from(place_in(places, number.saturating_sub(2) as usize)) + 2
 }
 
-/// A refusal of the window by the records of the log. The lines of a cycle, which have numbers of the window, are left
-/// out.
-pub(crate) fn refusal_in(alloc: Global, places: &[u32], why: LogError) -> LogError
+/// A refusal of the window by the records of the log.
+pub(crate) fn refusal_in(places: &[u32], why: LogError) -> LogError
     ensures { result ≡ refusal_in places.now why }
 {
     match why {
@@ -63,16 +62,48 @@ pub(crate) fn refusal_in(alloc: Global, places: &[u32], why: LogError) -> LogErr
         LogError::SecondEvent(no, node, tick, hint) => {
             LogError::SecondEvent(number_in(places, no), node, tick, hint)
         }
-        LogError::Cycle(no, _) => LogError::Cycle(number_in(places, no), no_lines(alloc)),
-        LogError::NoOffsets(_) => LogError::NoOffsets(no_lines(alloc)),
+        LogError::Cycle(no, lines) => {
+            LogError::Cycle(number_in(places, no), lines_in(places, lines))
+        }
+        LogError::NoOffsets(lines) => LogError::NoOffsets(lines_in(places, lines)),
         why => why,
     }
 }
 
-fn no_lines(alloc: Global) -> HopLines
-    ensures { result ≡ [] }
+/// The lines of a cycle by the records of the log.
+fn lines_in(places: &[u32], lines: CycleLines) -> CycleLines
+    ensures { result ≡ lines_in places.now lines }
 {
-    HopLines::new(String::new(alloc))
+    let mut numbered = lines.into_lines();
+    for line in numbered.iter_mut() {
+        number_line(places, line);
+    }
+    CycleLines::new(numbered)
+}
+
+/// Puts numbers of the log in place of the window's.
+fn number_line(places: &[u32], line: &mut CycleLine)
+    ensures { line.new ≡ line_in places.now line.old }
+{
+    match line {
+        CycleLine::Hop {
+            number,
+            sent,
+            after,
+            ..
+        } => {
+            *number = number_in(places, *number);
+            *sent = number_in(places, *sent);
+            *after = number_in(places, *after);
+        }
+        CycleLine::Clock { number, .. } => {
+            *number = number_in(places, *number);
+        }
+        CycleLine::More(_) | CycleLine::Together(_) => {}
+    }
+    if let CycleLine::Clock { sent, .. } = line {
+        *sent = number_in(places, *sent);
+    }
 }
 
 /// An import of the window by the records of the log.

@@ -239,8 +239,7 @@ version 2, whose tick 1 begins at the least time.
                  length. A receive in the window keeps only the messages that a
                  record of the window sends to its node; standard error tells
                  how many events and messages are left out. All else is as if
-                 LOG had no other records, but records keep their numbers, and
-                 cycles aren't listed
+                 LOG had no other records, but records keep their numbers
   --idle Y       Y is written as W is. A node without an event for at most Y gets
                  a receive of nothing in the last tick of that time, counted in
                  ticks after --spread; standard error tells how many

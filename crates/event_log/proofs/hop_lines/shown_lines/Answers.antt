@@ -1,16 +1,11 @@
-use Rattle.std.proofs.Common.{ℕ, ◌≡◌, ◌+◌, ◌∙◌, List, [], ◌++◌, ap, arith, string_bytes}
-use Rattle.std.specs.List.{flat_map, range_with_len}
-use Rattle.std.proofs.lemmas.List.{flat_map_more}
-use Rattle.timed_events.proofs.CausalWalks.{range-more}
+use Rattle.std.proofs.Common.{◌∙◌, List, [], ◌∷◌, ◌++◌, ap₂, arith, sym}
+use Rattle.std.proofs.lemmas.List.FromFn.{map-range_with_len_more}
+use Rattle.event_log.specs.declared.cycle_lines.CycleLine.{CycleLine}
 use Rattle.event_log.specs.HopLines.{line_at}
 use Rattle.event_log.proofs.hop_lines.shown_lines.Goals as goal
-
--- the lines of one hop more
-one_more : (f : ℕ → List ℕ) (n : ℕ) → flat_map f (range_with_len 0 n) ++ f n ≡ flat_map f (range_with_len 0 (n + 1))
-one_more f n = rw (range-more 0 n n (omega arith)) (flat_map_more f [] (range_with_len 0 n) n)
 
 pub loop-k-preserved : goal.loop-k-preserved
 loop-k-preserved c =
     let line = line_at c.args.text.now c.args.nodes.now c.args.events.now c.args.hops.now in
-    c.in_ok-push_str.ensures.bytes ∙ ap (λ (text : List ℕ). string_bytes c.loop-k.lines ++ text) (c.as_str.ensures.value ∙ c.in_ok-line.ensures)
-    ∙ ap (λ (text : List ℕ). text ++ line c.loop-k.k) c.loop-k.invariant ∙ one_more line c.loop-k.k
+    c.in_ok-push.ensures.items ∙ ap₂ (λ (lines : List CycleLine) last. lines ++ last ∷ []) c.loop-k.invariant c.in_ok-hop_line.ensures
+    ∙ sym (map-range_with_len_more line 0 c.loop-k.k c.loop-k.k (omega arith))
