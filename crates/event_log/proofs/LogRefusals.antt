@@ -1,7 +1,8 @@
 -- Why a log is refused: for its text, for options that don't fit its times, or for its events.
-use Rattle.std.proofs.Common.{◌≡◌, ◌<◌, ◌⊎◌, ℕ, List, length, Bool, true, false, Option, Some, None, Err, inl, inr, refl, arith}
+use Rattle.std.proofs.Common.{◌≡◌, ◌<◌, ◌≤◌, ◌⊎◌, ℕ, List, length, Bool, true, false, Option, Some, None, Result, Ok, Err, inl, inr, refl, arith, if◌then◌else◌}
 use Rattle.std.specs.Prelude.{nat_le, option_map, ⊤, MatchBool}
 use Rattle.std.specs.Borrow.{Bor}
+use Rattle.std.proofs.lemmas.Bool.{leb-true}
 use Rattle.std.proofs.lemmas.Bool.Decides.{nat_tests}
 use Rattle.timed_events.specs.declared.events.Event.{Event}
 use Rattle.trace_text.specs.declared.byte_loops.TheConstants.{MAX_TEXT_BYTES}
@@ -9,6 +10,7 @@ use Rattle.event_log.specs.declared.options.Options.{Options}
 use Rattle.event_log.specs.declared.refusals.LogError.{LogError}
 use Rattle.event_log.specs.declared.refusals.LogError.TheVariants.{TooLarge, Memory}
 use Rattle.event_log.specs.Imports.{IsAlignRefusal, IsLogRefusal, IsRead, IsReadRefusal, IsUnaligned, IsUnalignedFor, IsUnfit, IsUntimed}
+use Rattle.event_log.specs.Logs.{SeenLog}
 use Rattle.event_log.specs.Naming.{is_memory}
 
 -- any refusal but out of memory
@@ -36,6 +38,14 @@ unfit-refusal o text why h = refusal-unless_memory o text why (λ n. inr (inl h)
 lent : (nodes : Option (List (List ℕ))) → (lent : Option (Bor (List (List ℕ)))) × (option_map (λ n. n.now) lent ≡ nodes)
 lent None = (None, refl)
 lent (Some nodes) = (Some (record { ref_ptr = (0, 0); now = nodes }), refl)
+
+small-by : {A : Type 0} (t : Bool) (n m : ℕ) (read : Result A LogError) (x : A) → nat_le n m ≡ t → (if t then read else Err TooLarge) ≡ Ok x → n ≤ m
+small-by true n m read x e h = leb-true n m e
+small-by false n m read x e h = absurd (cc)
+
+-- a text whose events are read isn't too large
+pub read-small : (o : Options) (text : List ℕ) (log : SeenLog) → IsRead o text (Ok log) → length text ≤ MAX_TEXT_BYTES
+read-small o text log h = small-by (nat_le (length text) MAX_TEXT_BYTES) (length text) MAX_TEXT_BYTES _ log refl h.staged
 
 -- a text that is too large is refused for that
 pub large-text : (o : Options) (text : List ℕ) → MAX_TEXT_BYTES < length text → IsRead o text (Err TooLarge)

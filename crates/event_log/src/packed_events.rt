@@ -6,6 +6,7 @@ ghost use Rattle.event_log.specs.PackedEvents.{ActIsWithin, IsWithin, lent_act, 
 
 use std::alloc::{AllocError, Global};
 use std::marker::Model;
+use std::mem::size_of;
 
 /// An event with numbers in place of the names of nodes.
 #[derive(Clone, Copy)]
@@ -43,6 +44,8 @@ enum PackedAct {
     /// Where the names of the messages begin, and where they end.
     Receive { from: u32, to: u32 },
 }
+
+const _: () = prove!(size_of::<PackedEvent>() == 32);
 
 impl Model for PackedEvents {
     ghost use Rattle.std.specs.Prelude.{List, length, map};
@@ -146,8 +149,8 @@ fn packed_act(start: usize, act: &LentAct<'_>) -> Result<PackedAct, AllocError>
     }
 }
 
-/// A number in four bytes. There is no room for a greater one: a text is too short for such a place, and the nodes are
-/// too few.
+/// The number in four bytes. A greater one counts as out of memory, but none comes: a text is too short for such a
+/// place, and the nodes are too few.
 fn narrow(number: u64) -> Result<u32, AllocError>
     ensures { IfOk result (λ narrow. narrow ≡ number) }
 {
