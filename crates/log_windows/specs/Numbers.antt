@@ -1,5 +1,5 @@
 -- What is told about a window, by the records of the whole log.
-use Rattle.std.specs.Prelude.{ℕ, ◌+◌, ◌-◌, List, map, Option, option_map, slice_index_or}
+use Rattle.std.specs.Prelude.{ℕ, ◌+◌, ◌-◌, List, map, option_map, slice_index_or}
 use Rattle.event_log.specs.declared.cycle_lines.CycleLine.{CycleLine}
 use Rattle.event_log.specs.declared.cycle_lines.CycleLine.TheVariants as line
 use Rattle.event_log.specs.declared.imports.Import.{Import}
