@@ -2,7 +2,7 @@
 
 ghost use Rattle.std.specs.Prelude.{◌≡◌, ◌<◌, ◌≤◌, false, Err, IfErr, IfOk, IsTrue, MatchBool, Ok, OnOk, length, ⊤};
 ghost use Rattle.csv.specs.Records.{fields_of};
-ghost use Rattle.trace_text.specs.Records.{GivesUnless, ReachesUnless, after_records, records_of_text};
+ghost use Rattle.trace_text.specs.Records.{GivesUnless, ReachesUnless};
 ghost use Rattle.event_log.specs.LogRecords.{said};
 ghost use Rattle.event_log.specs.Naming.{is_memory};
 ghost use Rattle.event_log.specs.Reading.{after_told, named_at_end, named_from, named_of, next_reading};
@@ -14,8 +14,9 @@ use crate::naming::Naming;
 use crate::records::{Rules, Told, told_of};
 use crate::refusals::LogError;
 use crate::results::{both, put_error};
+use crate::rows::{TakeRows, take_rows};
 use crate::times::{TimeKind, TimeUnit, settled};
-use csv::{ByteRecord, ErrorKind, ReaderBuilder};
+use csv::ByteRecord;
 use std::alloc::Global;
 use trace_text::MAX_TEXT_BYTES;
 
@@ -76,7 +77,7 @@ fn read_kind(alloc: Global, text: &[u8], reading: &mut Reading<'_>) -> Result<Ti
     if text.len() > MAX_TEXT_BYTES {
         return Err(LogError::TooLarge);
     }
-    read_records(alloc, text, reading)?;
+    take_rows(alloc, text, reading)?;
     kind_at_end(reading)
 }
 
@@ -97,30 +98,9 @@ fn kind_at_end(reading: &Reading<'_>) -> Result<TimeKind, LogError>
     }
 }
 
-/// Takes in all records that csv reads from a text: those of its default reader, without a header row, of any length.
-/// The first record that is refused decides. A header may have any number of columns, so no record is too long.
-fn read_records(alloc: Global, text: &[u8], reading: &mut Reading<'_>) -> Result<(), LogError>
-    ensures { ReachesUnless is_memory result reading.new
-        (after_records next_reading reading.old (records_of_text text.now)) }
-{
-    let mut reader = ReaderBuilder::new()
-        .has_headers(false)
-        .flexible(true)
-        .from_reader(alloc, text);
-    let mut record = ByteRecord::new(alloc);
-    loop {
-        match reader.read_byte_record(&mut record) {
-            Ok(true) => reading.take(alloc, &record)?,
-            Ok(false) => return Ok(()),
-            Err(why) => match why.kind() {
-                ErrorKind::OutOfMemory | ErrorKind::Io(_) => return Err(LogError::Memory),
-                _ => unreachable!(),
-            },
-        }
-    }
-}
+impl<'a> TakeRows for Reading<'a> {
+    ghost next = { next_reading };
 
-impl<'a> Reading<'a> {
     /// Takes in one more record: the header, or an event.
     fn take(&mut self, alloc: Global, fields: &ByteRecord) -> Result<(), LogError>
         ensures { ReachesUnless is_memory result self.new

@@ -6,9 +6,8 @@ ghost use Rattle.csv.specs.Reading.{strip_bom};
 ghost use Rattle.trace_text.specs.Faults.{inner_of, faults_of};
 ghost use Rattle.log_windows.specs.Devices.{GoesOnTo, Grew, IsFrontTaken, IsReadTo, IsRowRefusal, IsUnfilled, IsWholeRead, faults_after_rows};
 
-use crate::rows::{TakeRows, take_rows};
 use crate::seams::seam_len;
-use event_log::LogError;
+use event_log::{LogError, TakeRows, take_rows};
 use std::alloc::Global;
 use std::io::Read;
 use trace_text::{Counting, MAX_TEXT_BYTES};

@@ -7,10 +7,10 @@ ghost use Rattle.trace_text.specs.Records.{GivesUnless, ReachesUnless};
 ghost use Rattle.log_windows.specs.KeptTexts.{is_receive, kept_event, kept_names, next_name, with_kept, with_word};
 ghost use Rattle.log_windows.specs.KeptNames.{names_kept, next_kept};
 
-use crate::rows::{TakeRows, push_row, take_rows, with_field};
+use crate::rows::{push_row, with_field};
 use crate::windows::key_of;
 use csv::ByteRecord;
-use event_log::{Columns, LogError, NameSet, are_message_names, columns_of};
+use event_log::{Columns, LogError, NameSet, TakeRows, are_message_names, columns_of, take_rows};
 use std::alloc::{AllocError, Global};
 use std::marker::Model;
 use trace_text::records::{field, field_is};

@@ -8,10 +8,9 @@ ghost use Rattle.log_windows.specs.Lists.{may_list, nothing_spread, spread_event
 ghost use Rattle.log_windows.specs.LogWindows.{IsSpreadOf, IsUnspread};
 
 use crate::reading::LogWindow;
-use crate::rows::{TakeRows, take_rows};
 use crate::windows::{MAX_LOGGED, WindowRows};
 use csv::ByteRecord;
-use event_log::{Columns, LogError, columns_of};
+use event_log::{Columns, LogError, TakeRows, columns_of, take_rows};
 use std::alloc::{AllocError, Global};
 use trace_text::MAX_TEXT_BYTES;
 

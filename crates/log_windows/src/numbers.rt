@@ -9,9 +9,9 @@ ghost use Rattle.trace_text.specs.RecordWriting.{our_writer};
 ghost use Rattle.log_windows.specs.Numbers.{import_in, late_in, lateness_in, line_in, lines_in, moved_in, number_in, place_in, refusal_in};
 ghost use Rattle.log_windows.specs.NumberedRows.{numbered_row, table_in};
 
-use crate::rows::{TakeRows, push_row, take_rows, with_field};
+use crate::rows::{push_row, with_field};
 use csv::ByteRecord;
-use event_log::{CycleLine, CycleLines, Import, LogError};
+use event_log::{CycleLine, CycleLines, Import, LogError, TakeRows, take_rows};
 use std::alloc::{AllocError, Global};
 use std::marker::Model;
 use timed_events::{LateMessage, Lateness, Moved};

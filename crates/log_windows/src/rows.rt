@@ -1,56 +1,15 @@
-//! The records of a text, taken in one after the other, and the text of a record.
+//! The text of a record, and a record with another field.
 
-ghost use Rattle.std.specs.Prelude.{◌≡◌, ◌++◌, ℕ, List, Result, IfOk, OnOk};
+ghost use Rattle.std.specs.Prelude.{◌≡◌, ◌++◌, IfOk, OnOk};
 ghost use Rattle.csv.specs.Records.{fields_of};
 ghost use Rattle.csv.specs.Writing.{row_text};
-ghost use Rattle.event_log.specs.Naming.{is_memory};
-ghost use Rattle.event_log.specs.declared.refusals.LogError.{LogError};
-ghost use Rattle.trace_text.specs.Records.{ReachesUnless, after_records, records_of_text};
 ghost use Rattle.trace_text.specs.RecordWriting.{our_writer};
 ghost use Rattle.log_windows.specs.Rows.{field_or, with_field};
 
-use csv::{ByteRecord, ErrorKind, ReaderBuilder};
-use event_log::LogError;
+use csv::ByteRecord;
 use std::alloc::{AllocError, Global};
 use trace_text::record_writing::{record_writer, text_written};
 use trace_text::records::field;
-
-/// What takes in the records of a text.
-pub(crate) trait TakeRows {
-    // what one more record makes of it, or why the record is refused
-    ghost next: { Self → List (List ℕ) → Result Self LogError };
-
-    /// Takes in one more record. If it is refused, what it was taken into is of no more use.
-    fn take(&mut self, alloc: Global, fields: &ByteRecord) -> Result<(), LogError>
-        ensures { ReachesUnless is_memory result self.new (next self.old (fields_of fields.now)) };
-}
-
-/// Takes in all records that csv reads from a text: those of its default reader, without a header row, of any length.
-/// The first record that is refused decides.
-pub(crate) fn take_rows<T: TakeRows>(
-    alloc: Global,
-    text: &[u8],
-    taker: &mut T,
-) -> Result<(), LogError>
-    ensures { ReachesUnless is_memory result taker.new
-        (after_records T.next taker.old (records_of_text text.now)) }
-{
-    let mut reader = ReaderBuilder::new()
-        .has_headers(false)
-        .flexible(true)
-        .from_reader(alloc, text);
-    let mut record = ByteRecord::new(alloc);
-    loop {
-        match reader.read_byte_record(&mut record) {
-            Ok(true) => taker.take(alloc, &record)?,
-            Ok(false) => return Ok(()),
-            Err(why) => match why.kind() {
-                ErrorKind::OutOfMemory | ErrorKind::Io(_) => return Err(LogError::Memory),
-                _ => unreachable!(),
-            },
-        }
-    }
-}
 
 /// Puts a record last in a text, with quotes where they are needed.
 pub(crate) fn push_row(

@@ -11,11 +11,11 @@ ghost use Rattle.log_windows.specs.KeptRows.{begun, key_of, keys_after, needs_po
 ghost use Rattle.log_windows.specs.Windows.{event_after, header_after, nothing_read};
 
 use crate::bounds::{Times, is_within, kind_of, times_by};
-use crate::rows::{TakeRows, push_row, with_field};
+use crate::rows::{push_row, with_field};
 use csv::ByteRecord;
 use event_log::{
-    Columns, LogEnd, LogError, Moment, NameSet, TimeKind, TimeUnit, columns_of, moment_in,
-    read_moment, settled,
+    Columns, LogEnd, LogError, Moment, NameSet, TakeRows, TimeKind, TimeUnit, columns_of,
+    moment_in, read_moment, settled,
 };
 use std::alloc::{AllocError, Global};
 use std::marker::Model;

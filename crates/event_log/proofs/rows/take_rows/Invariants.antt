@@ -1,7 +1,7 @@
 use Rattle.std.proofs.Common.{◌≡◌, List, ℕ, Ok}
 use Rattle.trace_text.specs.Records.{after_records}
 use Rattle.trace_text.proofs.RecordLoops.{HasRead, bytes_left}
-use Rattle.log_windows.proofs.rows.take_rows.Given as goal
+use Rattle.event_log.proofs.rows.take_rows.Given as goal
 
 -- the records that were read lead to what was reached
 abbrev pub invariant-loop-taker : goal.invariant-loop-taker

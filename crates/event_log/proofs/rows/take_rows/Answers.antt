@@ -5,7 +5,7 @@ use Rattle.csv.specs.Records.{fields_of}
 use Rattle.trace_text.proofs.RecordLoops.{HasRead-more, HasRead-less, HasRead-all, HasRead-front}
 use Rattle.trace_text.proofs.TakenRecords.{after_records-more, after_records-refused}
 use Rattle.event_log.specs.Naming.{is_memory}
-use Rattle.log_windows.proofs.rows.take_rows.Goals as goal
+use Rattle.event_log.proofs.rows.take_rows.Goals as goal
 
 pub loop-taker-init : goal.loop-taker-init
 unfolding Reached
