@@ -785,7 +785,7 @@ def imported(log, options):
         refuse_log(b"text too large")
     # (a window's record has to fit; one without quotes is a line)
     if start is not None and b'"' not in log and max(map(len, re.split(rb"[\r\n]", log))) > TEXT_LIMIT:
-        raise Refused(5, b"out of memory")
+        refuse_log(b"text too large")
     records = records_of(log)
     places, numbers, told = places_of(records), range(2, len(records) + 1), []
     if start is not None:

@@ -1,20 +1,24 @@
 -- A text that is read part by part leads where it leads when it is read whole.
-use Rattle.std.proofs.Common.{◌≡◌, ◌≤◌, ◌∙◌, ℕ, zero, suc, List, [], ◌∷◌, ◌++◌, length, take, drop, Option, Some, None, IfSome, Result, Ok, Err, Bool, true, false, cond, refl, sym, ap, subst, arith, append_assoc, append-nil, take-append-drop}
+use Rattle.std.proofs.Common.{◌≡◌, ◌≤◌, ◌<◌, ◌+◌, ◌∙◌, ℕ, zero, suc, List, [], ◌∷◌, ◌++◌, length, take, drop, Option, Some, None, IfSome, Result, Ok, Err, Bool, true, false, cond, inl, inr, refl, sym, ap, subst, arith, append_assoc, append-nil, take-append-drop}
 use Rattle.std.specs.Prelude.{MatchBool, ⊤}
 use Rattle.std.proofs.KnownBytes.{Consumes-nil, Consumes-trans, Consumes-whole}
 use Rattle.std.specs.Io.KnownBytes.{Consumes, IsAtEnd}
 use Rattle.csv.specs.Reading.{default_config, is_bom, records, strip_bom}
+use Rattle.csv.specs.declared.parser.State.TheVariants as st
+use Rattle.trace_text.specs.declared.byte_loops.TheConstants.{MAX_TEXT_BYTES}
 use Rattle.trace_text.specs.Records.{after_records, records_of_text}
 use Rattle.trace_text.proofs.TakenRecords.{after_records-append}
 use Rattle.shared_reading.specs.Seams.{IsClosed}
 use Rattle.shared_reading.proofs.Splits.{records-split}
 use Rattle.event_log.specs.declared.refusals.LogError.{LogError}
-use Rattle.event_log.specs.declared.refusals.LogError.TheVariants.{Memory}
+use Rattle.event_log.specs.declared.refusals.LogError.TheVariants.{Memory, TooLarge}
 use Rattle.event_log.specs.Naming.{is_memory}
 use Rattle.log_windows.specs.declared.devices.WindowError.{WindowError}
 use Rattle.log_windows.specs.declared.devices.WindowError.TheVariants as unread
-use Rattle.log_windows.specs.Devices.{Grew, IsReadTo, IsRowRefusal, IsTaken, IsUnfilled, IsWholeRead}
+use Rattle.log_windows.specs.Devices.{Grew, HasRefusal, IsReadTo, IsRowRefusal, IsTaken, IsUnfilled, IsWholeRead}
+use Rattle.log_windows.specs.Places.{EndsNone}
 use Rattle.log_windows.proofs.LinesFirst.{closed-behind-line, rows-behind-line}
+use Rattle.log_windows.proofs.SeamPlaces.{none-behind}
 use Rattle.log_windows.proofs.TakenRows.{after_records-err, unless}
 
 -- bytes, and what comes behind them, are their front, and then the others with what comes behind
@@ -33,9 +37,9 @@ grew-more old mid new before so_far after bytes g c e = record {
 
 -- those that were whole were taken in
 pub front-taken : {S : Type 0} (next : S → List (List ℕ) → Result S LogError) (old new : S) (bytes rest after : List ℕ) (cut : ℕ) → rest ≡ 10 ∷ bytes → (cut ≡ 0 → ⊥)
-    → IsClosed (take cut rest) → after_records next old (records_of_text (take cut rest)) ≡ Ok new → after ≡ take 1 rest ++ drop cut rest → IsTaken next old new bytes after
-front-taken next old new bytes rest after zero e some closed h k = absurd (some refl)
-front-taken next old new bytes rest after (suc n) e some closed h k =
+    → cut ≤ length rest → IsClosed (take cut rest) → EndsNone rest cut → after_records next old (records_of_text (take cut rest)) ≡ Ok new → after ≡ take 1 rest ++ drop cut rest → IsTaken next old new bytes after
+front-taken next old new bytes rest after zero e some within closed last h k = absurd (some refl)
+front-taken next old new bytes rest after (suc n) e some within closed last h k =
     let own : IsClosed (take n bytes) = closed-behind-line (take n bytes) (subst (λ xs. IsClosed (take (suc n) xs)) e closed) in
     let reads : after_records next old (records default_config (take n bytes)) ≡ Ok new =
     ap (λ rs. after_records next old rs) (sym (rows-behind-line (take n bytes))) ∙ subst (λ xs. after_records next old (records_of_text (take (suc n) xs)) ≡ Ok new) e h in
@@ -47,6 +51,8 @@ front-taken next old new bytes rest after (suc n) e some closed h k =
       leads = λ more. ap (λ xs. after_records next old (records default_config xs)) (front-rest bytes more n)
           ∙ ap (λ rs. after_records next old rs) (records-split (take n bytes) (drop n bytes ++ more) own)
           ∙ after_records-append next old new (records default_config (take n bytes)) (records default_config (drop n bytes ++ more)) reads;
+      endless = none-behind st.StartRecord (suc n) (10 ∷ bytes) (subst (λ xs. suc n ≤ length xs) e within) (subst (λ xs. IsClosed (take (suc n) xs)) e closed)
+          (subst (λ xs. EndsNone xs (suc n)) e last);
     }
 
 -- or one of them was refused
@@ -119,6 +125,11 @@ read-refused next s (Some text) None gone bytes state why c leads refuses = absu
 read-refused next s (Some text) (Some ys) gone bytes state why c leads refuses =
     ap (λ xs. after_records next s (records_of_text xs)) (c ∙ append_assoc gone bytes ys) ∙ leads ys ∙ refuses ys
 
+if-refused : {S : Type 0} (next : S → List (List ℕ) → Result S LogError) (s : S) (known : Option (List ℕ)) (why : LogError) → IfSome known (λ text. after_records next s (records_of_text text) ≡ Err why)
+    → IfSome known (λ text. HasRefusal next s text why)
+if-refused next s None why h = tt
+if-refused next s (Some text) why h = inl h
+
 if-unless : (t : Bool) (known : Option (List ℕ)) (P : List ℕ → Type 0) → MatchBool t ⊤ (IfSome known P) → IfSome known (λ text. MatchBool t ⊤ (P text))
 if-unless true None P h = tt
 if-unless true (Some text) P h = tt
@@ -128,8 +139,32 @@ pub part-refused : {S : Type 0} (next : S → List (List ℕ) → Result S LogEr
     → MatchBool (is_memory why) ⊤ ((more : List ℕ) → after_records next state (records default_config (h.bytes ++ more)) ≡ Err why)
     → IfSome known (IsRowRefusal next s (unread.Log why))
 part-refused next s known left rest state why h r =
-    if-unless (is_memory why) known (λ text. after_records next s (records_of_text text) ≡ Err why)
-    (unless (is_memory why) _ _ (λ refuses. read-refused next s known left h.gone h.bytes state why h.read h.leads refuses) r)
+    if-unless (is_memory why) known (λ text. HasRefusal next s text why)
+    (unless (is_memory why) _ _ (λ refuses. if-refused next s known why (read-refused next s known left h.gone h.bytes state why h.read h.leads refuses)) r)
+
+-- what was read has a record that is too long
+long-read : {S : Type 0} (next : S → List (List ℕ) → Result S LogError) (s : S) (known left : Option (List ℕ)) (gone bytes : List ℕ) (state : S) → Consumes known left (gone ++ bytes)
+    → ((more : List ℕ) → after_records next s (records_of_text (gone ++ (bytes ++ more))) ≡ after_records next state (records default_config (bytes ++ more)))
+    → MAX_TEXT_BYTES < length bytes → EndsNone bytes 0 → IfSome known (IsRowRefusal next s (unread.Log TooLarge))
+long-read next s None left gone bytes state c leads size endless = tt
+long-read next s (Some text) None gone bytes state c leads size endless = absurd c
+long-read next s (Some text) (Some ys) gone bytes state c leads size endless = inr (refl, record {
+  front = gone;
+  long = bytes;
+  behind = ys;
+  whole = c ∙ append_assoc gone bytes ys;
+  state = state;
+  leads = leads;
+  size = size;
+  endless = endless;
+})
+
+pub part-long : {S : Type 0} (next : S → List (List ℕ) → Result S LogError) (s : S) (known left : Option (List ℕ)) (rest after : List ℕ) (old new : S) (h : IsReadTo next s known left rest old)
+    → IsTaken next old new h.bytes after → MAX_TEXT_BYTES + 1 < length after → IfSome known (IsRowRefusal next s (unread.Log TooLarge))
+unfolding part-taken
+part-long next s known left rest after old new h t size =
+    let r = part-taken next s known left rest after old new h t in
+    long-read next s known left (h.gone ++ t.front) t.others new r.read r.leads (omega (arith, size, ap length t.rest_is)) t.endless
 
 -- a failed read, or out of memory
 pub unfilled : {S : Type 0} (next : S → List (List ℕ) → Result S LogError) (s : S) (known : Option (List ℕ)) (e : WindowError) → IsUnfilled e → IfSome known (IsRowRefusal next s e)
@@ -158,6 +193,6 @@ ended next s known left rest state end at leads h = record {
 pub end-refused : {S : Type 0} (next : S → List (List ℕ) → Result S LogError) (s : S) (known left : Option (List ℕ)) (rest : List ℕ) (state : S) (why : LogError) → IsAtEnd left
     → MatchBool (is_memory why) ⊤ (after_records next state (records_of_text rest) ≡ Err why) → IsReadTo next s known left rest state → IfSome known (IsRowRefusal next s (unread.Log why))
 end-refused next s known left rest state why at r h =
-    if-unless (is_memory why) known (λ text. after_records next s (records_of_text text) ≡ Err why)
-    (unless (is_memory why) _ _ (λ refuses. Consumes-whole known left (h.gone ++ h.bytes) (λ text. after_records next s (records_of_text text) ≡ Err why) h.read at
-    (rest-leads next s h.gone h.bytes rest state h.rest_is h.leads ∙ refuses)) r)
+    if-unless (is_memory why) known (λ text. HasRefusal next s text why)
+    (unless (is_memory why) _ _ (λ refuses. if-refused next s known why (Consumes-whole known left (h.gone ++ h.bytes) (λ text. after_records next s (records_of_text text) ≡ Err why) h.read at
+    (rest-leads next s h.gone h.bytes rest state h.rest_is h.leads ∙ refuses))) r)

@@ -1,7 +1,7 @@
 -- Places of a text that lie between two records.
-use Rattle.std.proofs.Common.{◌≡◌, ◌≤◌, ◌<◌, ◌+◌, ◌==◌, ◌∙◌, ℕ, List, [], ◌∷◌, ◌++◌, true, false, Option, Some, None, length, get_or, take, drop, refl, sym, ap, subst, arith}
+use Rattle.std.proofs.Common.{◌≡◌, ◌≤◌, ◌<◌, ◌+◌, ◌==◌, ◌∙◌, ℕ, zero, suc, List, [], ◌∷◌, ◌++◌, Bool, true, false, Option, Some, None, length, get_or, take, drop, refl, sym, ap, subst, arith}
 use Rattle.std.specs.Prelude.{MatchOption, ⊤}
-use Rattle.std.proofs.lemmas.Bool.{eqb-true, or_parts}
+use Rattle.std.proofs.lemmas.Bool.{eqb-false, eqb-true, or_parts}
 use Rattle.std.proofs.lemmas.List.{take_more, take-append-drop}
 use Rattle.std.proofs.lemmas.List.Folds.{list_any-append}
 use Rattle.csv.specs.Machine.{step}
@@ -11,7 +11,11 @@ use Rattle.csv.specs.declared.parser.State.TheVariants as st
 use Rattle.memchr.specs.Find.{IsLastByte, is_byte}
 use Rattle.shared_reading.specs.Seams.{state_after, IsClosed, ends_line, has_quote}
 use Rattle.shared_reading.proofs.QuoteFree.{closed}
-use Rattle.log_windows.specs.Places.{seam_by}
+use Rattle.log_windows.specs.Places.{EndsNone, seam_by}
+
+-- the reader is between two records after none of these bytes
+abbrev pub NoneClosed : List ℕ → ℕ → ℕ → Type 0
+NoneClosed text from until = (n : ℕ) → from ≤ n → n < until → IsClosed (take (n + 1) text) → ⊥
 
 after-append : (s : State) (a : List ℕ) (c : ℕ) → state_after s (a ++ c ∷ []) ≡ (step default_config (state_after s a) c).0
 unfolding state_after
@@ -55,3 +59,38 @@ pub lines-closed : (text : List ℕ) (place : Option ℕ) (k : ℕ) → IsLastBy
 lines-closed text None k h e q = cc e
 lines-closed text (Some j) k h e q =
     subst (λ x. MatchOption x ⊤ (λ i. IsClosed (take (i + 1) text))) e (line-closed text j h.0.high h.1 q)
+
+-- no line feed is behind the last one
+pub lines-last : (text : List ℕ) (place : Option ℕ) (k : ℕ) → IsLastByte (is_byte 10) text place → place ≡ Some k → EndsNone text (k + 1)
+lines-last text None k h e = cc e
+lines-last text (Some j) k h e =
+    subst (λ x. MatchOption x ⊤ (λ i. EndsNone text (i + 1))) e (λ n low high is ended. h.0.after n low high (ap (λ c. c == 10) is))
+
+pub none-later : (text : List ℕ) (place : Option ℕ) → IsLastByte (is_byte 10) text place → place ≡ None → EndsNone text 0
+none-later text None h e = λ n low high is ended. h n low high (ap (λ c. c == 10) is)
+none-later text (Some j) h e = cc e
+
+-- nor is a place between two records behind the last one
+one-more : (text : List ℕ) (seam i n : ℕ) (t : Bool) → (n == i) ≡ t → NoneClosed text seam i → (IsClosed (take (i + 1) text) → ⊥) → seam ≤ n → n < i + 1 → IsClosed (take (n + 1) text) → ⊥
+one-more text seam i n true e h k low high ended = k (subst (λ m. IsClosed (take (m + 1) text)) (eqb-true n i e) ended)
+one-more text seam i n false e h k low high ended = h n low (omega (arith, high, eqb-false n i e)) ended
+
+pub none-by : (s : State) (text : List ℕ) (seam i : ℕ) → NoneClosed text seam i → s ≡ state_after st.StartRecord (take (i + 1) text) → NoneClosed text (seam_by s seam (i + 1)) (i + 1)
+none-by st.StartRecord text seam i h e = λ n low high ended. absurd (omega (arith, low, high))
+none-by s text seam i h e = λ n low high ended. one-more text seam i n (n == i) refl h (λ k. absurd (cc (e ∙ k))) low high ended
+
+-- behind a place between two records no line feed ends a record of what is there, if none does in the whole
+pub none-behind : (s : State) (k : ℕ) (xs : List ℕ) → k ≤ length xs → state_after s (take k xs) ≡ st.StartRecord
+    → ((n : ℕ) → k ≤ n → n < length xs → get_or xs n 0 ≡ 10 → state_after s (take (n + 1) xs) ≡ st.StartRecord → ⊥) → EndsNone (drop k xs) 0
+unfolding state_after
+none-behind s zero xs l c h = λ n low high is ended. h n low high is (subst (λ x. state_after x (take (n + 1) xs) ≡ st.StartRecord) (sym c) ended)
+none-behind s (suc k) [] l c h = absurd (omega (arith, l))
+none-behind s (suc k) (x ∷ xs) l c h =
+    none-behind (step default_config s x).0 k xs (omega (arith, l)) c (λ n low high is ended.
+    let next : suc (n + 1) ≡ suc n + 1 = omega arith in
+    h (suc n) (omega (arith, low)) (omega (arith, high)) is (subst (λ m. state_after s (take m (x ∷ xs)) ≡ st.StartRecord) next ended))
+
+-- a line feed that begins a text ends a record
+pub some-end : (bytes rest : List ℕ) → rest ≡ 10 ∷ bytes → EndsNone rest 0 → ⊥
+unfolding state_after
+some-end bytes rest e h = subst (λ xs. EndsNone xs 0) e h 0 (omega arith) (omega arith) refl refl

@@ -1,14 +1,16 @@
 -- The records of a text that is read from a device part by part.
-use Rattle.std.specs.Prelude.{ℕ, ◌≡◌, ◌++◌, ◌∷◌, List, Option, IfSome, Result, Ok, Err, MatchBool, ⊤}
+use Rattle.std.specs.Prelude.{ℕ, ◌≡◌, ◌<◌, ◌⊎◌, ◌++◌, ◌∷◌, List, length, Option, IfSome, Result, Ok, Err, MatchBool, ⊤}
 use Rattle.std.specs.Io.KnownBytes.{Consumes}
 use Rattle.csv.specs.Reading.{default_config, records}
+use Rattle.trace_text.specs.declared.byte_loops.TheConstants.{MAX_TEXT_BYTES}
 use Rattle.trace_text.specs.Faults.{one_more}
 use Rattle.trace_text.specs.Records.{after_records, records_of_text}
 use Rattle.event_log.specs.declared.refusals.LogError.{LogError}
-use Rattle.event_log.specs.declared.refusals.LogError.TheVariants.{Memory}
+use Rattle.event_log.specs.declared.refusals.LogError.TheVariants.{Memory, TooLarge}
 use Rattle.event_log.specs.Naming.{is_memory}
 use Rattle.log_windows.specs.declared.devices.WindowError.{WindowError}
 use Rattle.log_windows.specs.declared.devices.WindowError.TheVariants as unread
+use Rattle.log_windows.specs.Places.{EndsNone}
 
 -- the records of a text, which is all that the device had, if that is known, lead there
 pub record IsWholeRead {S : Type 0} (next : S → List (List ℕ) → Result S LogError) (start end : S) (known : Option (List ℕ)) : Type 0 where
@@ -16,10 +18,26 @@ pub record IsWholeRead {S : Type 0} (next : S → List (List ℕ) → Result S L
   pub is : IfSome known (λ bytes. text ≡ bytes)
   pub leads : after_records next start (records_of_text text) ≡ Ok end
 
--- the refusal is that of the first record that is refused; a failed read and out of memory may come anywhere
+-- Behind a front of the text come more bytes than a record may have, in which no line feed ends a record. For any bytes
+-- after them, the records of all lead where those after the front lead from some state: the front isn't refused.
+pub record HasLongRecord {S : Type 0} (next : S → List (List ℕ) → Result S LogError) (start : S) (text : List ℕ) : Type 0 where
+  pub front : List ℕ
+  pub long : List ℕ
+  pub behind : List ℕ
+  pub whole : text ≡ front ++ (long ++ behind)
+  pub state : S
+  pub leads : (more : List ℕ) → after_records next start (records_of_text (front ++ (long ++ more))) ≡ after_records next state (records default_config (long ++ more))
+  pub size : MAX_TEXT_BYTES < length long
+  pub endless : EndsNone long 0
+
+-- the first record that is refused is refused for this reason; or the text is too large for a record that is too long
+abbrev pub HasRefusal : {S : Type 0} → (S → List (List ℕ) → Result S LogError) → S → List ℕ → LogError → Type 0
+HasRefusal next start text why = (after_records next start (records_of_text text) ≡ Err why) ⊎ ((why ≡ TooLarge) × HasLongRecord next start text)
+
+-- the same; a failed read and out of memory may come anywhere
 abbrev pub IsRowRefusal : {S : Type 0} → (S → List (List ℕ) → Result S LogError) → S → WindowError → List ℕ → Type 0
 IsRowRefusal next start unread.Read text = ⊤
-IsRowRefusal next start (unread.Log why) text = MatchBool (is_memory why) ⊤ (after_records next start (records_of_text text) ≡ Err why)
+IsRowRefusal next start (unread.Log why) text = MatchBool (is_memory why) ⊤ (HasRefusal next start text why)
 
 -- the count of faults after reading: one more if it answers Read
 abbrev pub faults_after_rows : {A : Type 0} → Result A WindowError → ℕ → ℕ
@@ -51,13 +69,14 @@ abbrev pub GoesOnTo : {S A : Type 0} → (S → List (List ℕ) → Result S Log
 GoesOnTo next start known left rest state (Ok x) = IsReadTo next start known left rest state
 GoesOnTo next start known left rest state (Err e) = IfSome known (IsRowRefusal next start e)
 
--- the front of the bytes was taken in, and the others are behind a line feed
+-- The front of the bytes was taken in, and the others are behind a line feed. No line feed of theirs ends a record.
 pub record IsTaken {S : Type 0} (next : S → List (List ℕ) → Result S LogError) (old new : S) (bytes rest : List ℕ) : Type 0 where
   pub front : List ℕ
   pub others : List ℕ
   pub whole : bytes ≡ front ++ others
   pub rest_is : rest ≡ 10 ∷ others
   pub leads : (more : List ℕ) → after_records next old (records default_config (bytes ++ more)) ≡ after_records next new (records default_config (others ++ more))
+  pub endless : EndsNone others 0
 
 -- the same; or a record of theirs is refused, whatever comes behind
 abbrev pub IsFrontTaken : {S A : Type 0} → (S → List (List ℕ) → Result S LogError) → S → S → List ℕ → List ℕ → Result A LogError → Type 0

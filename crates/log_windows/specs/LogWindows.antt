@@ -10,9 +10,10 @@ use Rattle.log_windows.specs.declared.devices.WindowError.{WindowError}
 use Rattle.log_windows.specs.declared.devices.WindowError.TheVariants as unread
 use Rattle.log_windows.specs.declared.reading.LogWindow.{LogWindow}
 use Rattle.log_windows.specs.declared.windows.Reading.{Reading}
+use Rattle.log_windows.specs.Devices.{HasLongRecord}
 use Rattle.log_windows.specs.KeptNames.{names_kept}
 use Rattle.log_windows.specs.Lists.{spread_of}
-use Rattle.log_windows.specs.Windows.{window_of}
+use Rattle.log_windows.specs.Windows.{next_row, nothing_read, window_of}
 
 -- the window is what is kept of the records that were read, without the received messages that it doesn't send
 pub record IsKeptOf (r : Reading) (w : LogWindow) : Type 0 where
@@ -48,10 +49,12 @@ pub record IsWindowOf (unit : Option TimeUnit) (from : LogEnd) (until : Option L
   pub is : IfSome known (λ bytes. text ≡ bytes)
   pub window : IsWindow unit from until text w
 
--- why a text has no window: the first record that is refused
+-- why a text has no window: the first record that is refused, what is kept of all, or a record that is too long
 abbrev pub HasNoWindow : Option TimeUnit → LogEnd → Option LogEnd → List ℕ → LogError → Type 0
 HasNoWindow unit from until text why =
-    (window_of unit from until text ≡ Err why) ⊎ ((r : Reading) × (window_of unit from until text ≡ Ok r) × (names_kept r.rows.sent r.rows.text ≡ Err why))
+    (window_of unit from until text ≡ Err why)
+    ⊎ (((r : Reading) × (window_of unit from until text ≡ Ok r) × (names_kept r.rows.sent r.rows.text ≡ Err why))
+    ⊎ ((why ≡ TooLarge) × HasLongRecord next_row (nothing_read unit from until) text))
 
 -- the same; a failed read and out of memory may come anywhere
 abbrev pub IsWindowRefusal : Option TimeUnit → LogEnd → Option LogEnd → WindowError → List ℕ → Type 0

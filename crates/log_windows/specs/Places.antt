@@ -1,7 +1,8 @@
 -- Where csv's reader is in a text.
-use Rattle.std.specs.Prelude.{ℕ}
+use Rattle.std.specs.Prelude.{ℕ, ◌≡◌, ◌≤◌, ◌<◌, ◌+◌, List, length, get_or, take}
 use Rattle.csv.specs.declared.parser.State.{State}
 use Rattle.csv.specs.declared.parser.State.TheVariants as st
+use Rattle.shared_reading.specs.Seams.{IsClosed}
 use Rattle.log_windows.specs.declared.seams.Place.{Place}
 use Rattle.log_windows.specs.declared.seams.Place.TheVariants as place
 
@@ -18,3 +19,7 @@ state_of place.AfterReturn = st.AfterCr
 abbrev pub seam_by : State → ℕ → ℕ → ℕ
 seam_by st.StartRecord seam next = next
 seam_by s seam next = seam
+
+-- no line feed from a place on leaves the reader between two records
+abbrev pub EndsNone : List ℕ → ℕ → Type 0
+EndsNone text from = (n : ℕ) → from ≤ n → n < length text → get_or text n 0 ≡ 10 → IsClosed (take (n + 1) text) → ⊥

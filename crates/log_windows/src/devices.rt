@@ -41,7 +41,7 @@ impl From<LogError> for WindowError {
 }
 
 /// Takes in all records of the text that a device has left, of any length. The first record that is refused decides.
-/// A record of more than `MAX_TEXT_BYTES` is out of memory.
+/// TooLarge decides if more than `MAX_TEXT_BYTES` were read of a record, and not its end.
 ///
 /// Refuses Read at the first fault. Memory may come at any step.
 pub(crate) fn take_rows_from<R: Read, T: TakeRows>(
@@ -99,7 +99,7 @@ fn behind_line(rest: &[u8]) -> &[u8]
     &rest[1..]
 }
 
-/// Reads to the end, and takes in part after part.
+/// Reads to the end, and takes in part after part. Refuses TooLarge if a record has more than `MAX_TEXT_BYTES`.
 fn take_parts<R: Read, T: TakeRows>(
     alloc: Global,
     reader: &mut Counting<R>,
@@ -115,8 +115,8 @@ fn take_parts<R: Read, T: TakeRows>(
 {
     for _ in 0..u64::MAX {
         take_front(alloc, rest, taker)?;
-        if rest.len() > MAX_TEXT_BYTES {
-            return Err(WindowError::Log(LogError::Memory));
+        if rest.len() > MAX_TEXT_BYTES + 1 {
+            return Err(WindowError::Log(LogError::TooLarge));
         }
         let room = rest.len() + PART_BYTES;
         if fill(reader, piece, rest, room)? {

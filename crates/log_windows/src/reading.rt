@@ -33,8 +33,8 @@ pub struct LogWindow {
 ///
 /// Refuses Read at the first fault. Else the first record that is refused decides: for what its header lacks; for an
 /// event beyond `MAX_LOGGED`; for a time that can't be read; for a start or an end that doesn't fit the times, or a start
-/// after the end; for a window whose text is too large. Memory may come at any step, and a record of more than
-/// `MAX_TEXT_BYTES` counts as out of memory.
+/// after the end; for a window whose text is too large. TooLarge also decides if more than `MAX_TEXT_BYTES` were read of
+/// a record, and not its end. Memory may come at any step.
 pub fn read_window<R: Read>(
     alloc: Global,
     reader: &mut Counting<R>,

@@ -4,7 +4,7 @@ ghost use Rattle.std.specs.Prelude.{◌≡◌, ◌≤◌, false, length, take};
 ghost use Rattle.csv.specs.Machine.{step};
 ghost use Rattle.csv.specs.Reading.{default_config};
 ghost use Rattle.shared_reading.specs.Seams.{IsClosed, has_quote};
-ghost use Rattle.log_windows.specs.Places.{seam_by, state_of};
+ghost use Rattle.log_windows.specs.Places.{EndsNone, seam_by, state_of};
 
 use memchr::{memchr, memrchr};
 
@@ -22,10 +22,12 @@ pub(crate) enum Place {
     AfterReturn,
 }
 
-/// How many bytes come before the last place between two records, if the text begins at such a place.
+/// How many bytes come before the last place between two records, if the text begins at such a place. A carriage return
+/// may end a record behind it, but no line feed.
 pub(crate) fn seam_len(text: &[u8]) -> usize
     ensures within { result ≤ length text.now }
     ensures closed { IsClosed (take result text.now) }
+    ensures last { EndsNone text.now result }
 {
     if memchr(b'"', text).is_some() {
         return quoted_seam_len(text);
@@ -37,6 +39,7 @@ pub(crate) fn seam_len(text: &[u8]) -> usize
 fn lines_len(text: &[u8]) -> usize
     ensures within { result ≤ length text.now }
     ensures closed { has_quote text.now ≡ false → IsClosed (take result text.now) }
+    ensures last { EndsNone text.now result }
 {
     match memrchr(b'\n', text) {
         Some(at) => at + 1,
@@ -48,6 +51,7 @@ fn lines_len(text: &[u8]) -> usize
 fn quoted_seam_len(text: &[u8]) -> usize
     ensures within { result ≤ length text.now }
     ensures closed { IsClosed (take result text.now) }
+    ensures last { EndsNone text.now result }
 {
     let mut place = Place::StartRecord;
     let mut seam = 0;

@@ -1,6 +1,15 @@
+use Rattle.std.proofs.Common.{subst}
 use Rattle.std.proofs.lemmas.Result.{err_from_is_err_and}
 use Rattle.log_windows.proofs.PartsTaken.{front-refused, front-taken}
+use Rattle.log_windows.specs.Places.{EndsNone}
+use Rattle.log_windows.proofs.SeamPlaces.{some-end}
 use Rattle.log_windows.proofs.devices.take_front.Goals as goal
+
+-- the line feed is whole, and so something is
+pub returns-then-cut-eq0 : goal.returns-then-cut-eq0
+returns-then-cut-eq0 g c = λ bytes e.
+    let rest = c.args.rest.now.items in
+    absurd (some-end bytes rest e (subst (λ n. EndsNone rest n) c.if-cut-eq0.true (rw c.deref.ensures.value at c.seam_len-cut.ensures.last)))
 
 pub returns-in_err-take_rows : goal.returns-in_err-take_rows
 returns-in_err-take_rows g c =
@@ -11,4 +20,4 @@ returns-in_err-take_rows g c =
 pub returns : goal.returns
 returns g c = λ bytes e.
     front-taken g.T.TakeRows.next c.args.taker.now c.take_rows.new.taker bytes c.args.rest.now.items c.remove_after_first.new.bytes.items c.seam_len-cut.result e c.if-cut-eq0.false
-    (rw c.deref.ensures.value at c.seam_len-cut.ensures.closed) (rw c.deref-2.ensures.value at c.in_ok-take_rows.ensures) c.remove_after_first.ensures
+    (rw c.deref.ensures.value at c.seam_len-cut.ensures.within) (rw c.deref.ensures.value at c.seam_len-cut.ensures.closed) (rw c.deref.ensures.value at c.seam_len-cut.ensures.last) (rw c.deref-2.ensures.value at c.in_ok-take_rows.ensures) c.remove_after_first.ensures

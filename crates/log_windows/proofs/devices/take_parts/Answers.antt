@@ -2,7 +2,7 @@ use Rattle.std.proofs.Common.{◌≡◌, ◌∙◌, arith, refl}
 use Rattle.std.proofs.lemmas.Result.{err_from_is_err_and}
 use Rattle.event_log.specs.declared.refusals.LogError.TheVariants.{Memory}
 use Rattle.log_windows.specs.declared.devices.WindowError.TheVariants as unread
-use Rattle.log_windows.proofs.PartsTaken.{more-read, part-refused, part-taken, unfilled}
+use Rattle.log_windows.proofs.PartsTaken.{more-read, part-long, part-refused, part-taken, unfilled}
 use Rattle.log_windows.proofs.devices.take_parts.Goals as goal
 
 pub loop-init : goal.loop-init
@@ -19,11 +19,13 @@ pub returns-in_err-take_front-clause-faults : goal.returns-in_err-take_front-cla
 returns-in_err-take_front-clause-faults g c =
     let p = err_from_is_err_and c.from_residual.result c.from_residual.ensures.1 in rw (p.1, p.2) c.loop.invariant.faults
 
-pub returns-then-len-gt-MAX_TEXT_BYTES-clause-goes_on : goal.returns-then-len-gt-MAX_TEXT_BYTES-clause-goes_on
-returns-then-len-gt-MAX_TEXT_BYTES-clause-goes_on g c = λ start known h. unfilled g.T.TakeRows.next start known (unread.Log Memory) refl
+pub returns-then-len-clause-goes_on : goal.returns-then-len-clause-goes_on
+returns-then-len-clause-goes_on g c = λ start known h.
+    let r = c.loop.invariant.read start known h in
+    part-long g.T.TakeRows.next start known _ _ _ _ _ r (c.in_ok-take_front.ensures r.bytes r.rest_is) (omega (arith, c.if-len.true, c.len.ensures))
 
-pub returns-then-len-gt-MAX_TEXT_BYTES-clause-faults : goal.returns-then-len-gt-MAX_TEXT_BYTES-clause-faults
-returns-then-len-gt-MAX_TEXT_BYTES-clause-faults g c = c.loop.invariant.faults
+pub returns-then-len-clause-faults : goal.returns-then-len-clause-faults
+returns-then-len-clause-faults g c = c.loop.invariant.faults
 
 pub returns-in_err-fill-clause-goes_on : goal.returns-in_err-fill-clause-goes_on
 returns-in_err-fill-clause-goes_on g c =

@@ -2,6 +2,7 @@ use Rattle.std.proofs.Common.{◌≡◌, ◌≤◌, take}
 use Rattle.csv.specs.declared.parser.State.TheVariants as st
 use Rattle.shared_reading.specs.Seams.{state_after, IsClosed}
 use Rattle.log_windows.specs.Places.{state_of}
+use Rattle.log_windows.proofs.SeamPlaces.{NoneClosed}
 use Rattle.log_windows.proofs.seams.quoted_seam_len.Given as goal
 
 -- where the reader is, and the last place between two records so far
@@ -10,4 +11,5 @@ invariant-loop-i l = record {
   within : l.seam ≤ l.i;
   place : state_of l.place ≡ state_after st.StartRecord (take l.i l.text);
   closed : IsClosed (take l.seam l.text);
+  last : NoneClosed l.text l.seam l.i;
 }
