@@ -1,7 +1,7 @@
 -- A text that is read part by part leads where it leads when it is read whole.
 use Rattle.std.proofs.Common.{◌≡◌, ◌≤◌, ◌<◌, ◌+◌, ◌∙◌, ℕ, zero, suc, List, [], ◌∷◌, ◌++◌, length, take, drop, Option, Some, None, IfSome, Result, Ok, Err, Bool, true, false, cond, inl, inr, refl, sym, ap, subst, arith, append_assoc, append-nil, take-append-drop}
 use Rattle.std.specs.Prelude.{MatchBool, ⊤}
-use Rattle.std.proofs.KnownBytes.{Consumes-nil, Consumes-trans, Consumes-whole}
+use Rattle.std.proofs.KnownBytes.{Consumes-trans, Consumes-whole}
 use Rattle.std.specs.Io.KnownBytes.{Consumes, IsAtEnd}
 use Rattle.csv.specs.Reading.{default_config, is_bom, records, strip_bom}
 use Rattle.csv.specs.declared.parser.State.TheVariants as st
@@ -11,7 +11,7 @@ use Rattle.trace_text.proofs.TakenRecords.{after_records-append}
 use Rattle.shared_reading.specs.Seams.{IsClosed}
 use Rattle.shared_reading.proofs.Splits.{records-split}
 use Rattle.event_log.specs.declared.refusals.LogError.{LogError}
-use Rattle.event_log.specs.declared.refusals.LogError.TheVariants.{Memory, TooLarge}
+use Rattle.event_log.specs.declared.refusals.LogError.TheVariants.{TooLarge}
 use Rattle.event_log.specs.Naming.{is_memory}
 use Rattle.log_windows.specs.declared.devices.WindowError.{WindowError}
 use Rattle.log_windows.specs.declared.devices.WindowError.TheVariants as unread
@@ -148,16 +148,19 @@ long-read : {S : Type 0} (next : S → List (List ℕ) → Result S LogError) (s
     → MAX_TEXT_BYTES < length bytes → EndsNone bytes 0 → IfSome known (IsRowRefusal next s (unread.Log TooLarge))
 long-read next s None left gone bytes state c leads size endless = tt
 long-read next s (Some text) None gone bytes state c leads size endless = absurd c
-long-read next s (Some text) (Some ys) gone bytes state c leads size endless = inr (refl, record {
-  front = gone;
-  long = bytes;
-  behind = ys;
-  whole = c ∙ append_assoc gone bytes ys;
-  state = state;
-  leads = leads;
-  size = size;
-  endless = endless;
-})
+long-read next s (Some text) (Some ys) gone bytes state c leads size endless = inr (
+  refl,
+  record {
+    front = gone;
+    long = bytes;
+    behind = ys;
+    whole = c ∙ append_assoc gone bytes ys;
+    state = state;
+    leads = leads;
+    size = size;
+    endless = endless;
+  },
+)
 
 pub part-long : {S : Type 0} (next : S → List (List ℕ) → Result S LogError) (s : S) (known left : Option (List ℕ)) (rest after : List ℕ) (old new : S) (h : IsReadTo next s known left rest old)
     → IsTaken next old new h.bytes after → MAX_TEXT_BYTES + 1 < length after → IfSome known (IsRowRefusal next s (unread.Log TooLarge))

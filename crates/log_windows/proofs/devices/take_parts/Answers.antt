@@ -1,4 +1,4 @@
-use Rattle.std.proofs.Common.{◌≡◌, ◌∙◌, arith, refl}
+use Rattle.std.proofs.Common.{◌∙◌, arith, refl}
 use Rattle.std.proofs.lemmas.Result.{err_from_is_err_and}
 use Rattle.event_log.specs.declared.refusals.LogError.TheVariants.{Memory}
 use Rattle.log_windows.specs.declared.devices.WindowError.TheVariants as unread
