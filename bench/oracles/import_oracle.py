@@ -762,6 +762,13 @@ def row_length(record):
     return sum(fields) + len(fields) + (2 if fields == [0] else 0)
 
 
+def great_line(log):
+    """Where the first line begins that is too long for a record, or None. With quotes a record may have several lines."""
+    if b'"' in log:
+        return None
+    return next((line.start() for line in re.finditer(rb"[^\r\n]+", log) if len(line[0]) > TEXT_LIMIT), None)
+
+
 def window_lines(outside, unsent):
     """The notes on a window that leaves out so many events, and so many received messages."""
     lines = []
@@ -783,14 +790,16 @@ def imported(log, options):
         raise Refused(6, b"cannot read", b"%b: %b" % (os.fsencode(log.filename), trouble))
     if start is None and len(log) > TEXT_LIMIT:
         refuse_log(b"text too large")
-    # (a window's record has to fit; one without quotes is a line)
-    if start is not None and b'"' not in log and max(map(len, re.split(rb"[\r\n]", log))) > TEXT_LIMIT:
+    great = None if start is None else great_line(log)
+    records = records_of(log[:great])
+    if great is not None and not records:
         refuse_log(b"text too large")
-    records = records_of(log)
     places, numbers, told = places_of(records), range(2, len(records) + 1), []
     if start is not None:
         all_events = len(records) - 1
         records, numbers, told_kind = window_of(records, places[0], start, until, told_kind)
+        if great is not None:
+            refuse_log(b"text too large")
         outside = all_events - len(numbers)
     if start is not None or b";" in log:
         records, numbers = spread_out_lists(records, numbers, places)
