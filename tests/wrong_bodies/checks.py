@@ -17,12 +17,14 @@ from gate_libraries import are_of_gate, kit, newest, words_over
 from verdicts import Told
 
 
-def say(text):
-    print(text, flush=True)
+def say(text, to=sys.stdout):
+    """One write a line: `print` writes the line feed apart, and checks run side by side."""
+    to.write(f"{text}\n")
+    to.flush()
 
 
 def progress(text):
-    print(f"mutants: {text}", file=sys.stderr, flush=True)
+    say(f"mutants: {text}", sys.stderr)
 
 
 def folder_of_copy(checkout):
