@@ -21,7 +21,7 @@ use Rattle.link_bounds.specs.Rows.{IsRow, IsSentFrom, Precedes}
 -- what a pass over these members knows that has gone back over the steps after number done
 pub record KnowsAfter (set : ℕ) (trace : Recorded) (done : ℕ) (pass : Pass) : Type 0 where
   pub members : pass.set ≡ set
-  pub receives : KnowsReceives trace done pass.receives
+  pub receives : KnowsReceives set trace done pass.receives
   pub paces : KnowsPaces trace done pass.paces
   pub links : KnowsLinks set trace done pass.links
 

@@ -36,20 +36,20 @@ IsLastMissByNumber-from_last set steps x b high r m undelivered below l = record
 }
 
 -- the last miss of a message is in the notes
-pub IsLastMissByNumber-from_known : (set : ℕ) (t : Recorded) (x b : ℕ) (r : Receives) → IsWellFormed t.config t.steps → b ≤ t.config.n → IsMessage set t.steps x b → KnowsReceives t x r
+pub IsLastMissByNumber-from_known : (set : ℕ) (t : Recorded) (x b : ℕ) (r : Receives) → IsWellFormed t.config t.steps → b ≤ t.config.n → IsMessage set t.steps x b → KnowsReceives set t x r
     → IsLastMissByNumber set t.steps x (last_missed r x b)
 IsLastMissByNumber-from_known set t x b r w within m k = go (get_or r.links.items x 0 == 0) refl where
   go : (none : Bool) → (get_or r.links.items x 0 == 0) ≡ none → IsLastMissByNumber set t.steps x (cond none (get_or r.last.items b 0) (get_or r.links.items (get_or r.links.items x 0) 0))
   go true e =
       let none : get_or r.links.items x 0 ≡ 0 = eqb-true _ _ e in
       IsLastMissByNumber-from_last set t.steps x b (length t.steps + 1) (get_or r.last.items b 0) m
-      (λ d l. (k.taken x b (m.from, m.sent)).none none d.place d.after d.takes)
+      (λ d l. (k.taken x b m.receiver (m.from, m.sent)).none none d.place d.after d.takes)
       (λ y i. let inside = step_at_within t.steps y _ i.receive.step in omega (arith, inside))
-      (k.last b within)
+      (k.last b within m.receiver)
   go false e =
       let some = eqb-false _ _ e in
-      let f = (k.taken x b (m.from, m.sent)).found (let positive : 0 < get_or r.links.items x 0 = omega (arith, some) in positive) in
+      let f = (k.taken x b m.receiver (m.from, m.sent)).found (let positive : 0 < get_or r.links.items x 0 = omega (arith, some) in positive) in
       IsLastMissByNumber-from_last set t.steps x b (get_or r.links.items x 0) (get_or r.links.items (get_or r.links.items x 0) 0) m
       (λ d l. omega (arith, w.once d.place (get_or r.links.items x 0) x d.takes f.1, d.until, l))
       (λ y i. elim (cases_lt y (get_or r.links.items x 0)) [ inl l ↦ l | inr late ↦ absurd (i.undelivered (record { place = get_or r.links.items x 0; after = f.0; until = late; takes = f.1 })) ])
-      (k.before b (get_or r.links.items x 0) (taker_receives t.config t.steps x b _ _ w m.sent f.1) f.0)
+      (k.before b (get_or r.links.items x 0) m.receiver (taker_receives t.config t.steps x b _ _ w m.sent f.1) f.0)

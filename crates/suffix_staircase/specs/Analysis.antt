@@ -60,7 +60,7 @@ pub record KnowsGaps (set : ℕ) (trace : Recorded) (g f : ℕ) (witness : Optio
 -- what a pass over these members knows that has gone back over the steps after number done
 pub record KnowsStepsAfter (set : ℕ) (trace : Recorded) (done : ℕ) (pass : Pass) : Type 0 where
   pub members : pass.set ≡ set
-  pub receives : KnowsReceives trace done pass.receives
+  pub receives : KnowsReceives set trace done pass.receives
   pub next_steps : KnowsNextSteps set trace done pass.next_steps
   pub misses : KnowsMissesAfter set trace done pass.level.delta pass.level.miss
 

@@ -1,9 +1,10 @@
 -- What is known of the Receives after a step, in numbers from 1 with 0 for none. Numbers rise with ticks. So a miss
 -- is also one by the numbers of its steps, as long as its Receive is in a later tick than its Send.
-use Rattle.std.specs.Prelude.{ℕ, ◌≡◌, ◌+◌, ◌<◌, ◌≤◌, ◌==◌, List, ◌∷◌, length, slice_index, slice_set, if◌then◌else◌}
+use Rattle.std.specs.Prelude.{ℕ, ◌≡◌, ◌+◌, ◌<◌, ◌≤◌, ◌==◌, List, ◌∷◌, length, slice_index, slice_set, IsTrue, if◌then◌else◌}
 use Rattle.std.specs.List.{list_any}
 use Rattle.step_trace.specs.declared.rows.Miss.{Miss}
 use Rattle.step_trace.specs.declared.steps.Step.{Step}
+use Rattle.step_trace.specs.Processors.{has_proc}
 use Rattle.step_trace.specs.Traces.{Recorded, TakesAt, IsReceiveOf, IsSentTo}
 use Rattle.step_trace.specs.Bounds.{IsMessage}
 use Rattle.suffix_staircase.specs.declared.receives.Receives.{Receives}
@@ -43,16 +44,16 @@ pub record IsFirstReceive (steps : List Step) (p low r : ℕ) : Type 0 where
   pub found : 0 < r → (low < r) × IsReceiveOf steps r p
   pub first : (y : ℕ) → IsReceiveOf steps y p → low < y → (0 < r) × (r ≤ y)
 
--- what is known of the Receives after step x
-pub record KnowsReceives (trace : Recorded) (x : ℕ) (r : Receives) : Type 0 where
+-- what is known of the Receives of members after step x
+pub record KnowsReceives (set : ℕ) (trace : Recorded) (x : ℕ) (r : Receives) : Type 0 where
   pub links_long : length r.links.items ≡ length trace.steps + 1
   pub first_long : length r.first.items ≡ trace.config.n + 1
   pub last_long : length r.last.items ≡ trace.config.n + 1
-  pub taken : (s p : ℕ) → IsSentTo trace.steps s p → IsTaker trace.steps x s (slice_index r.links.items s)
-  pub before : (p y : ℕ) → IsReceiveOf trace.steps y p → x < y → IsLastReceive trace.steps p x y (slice_index r.links.items y)
+  pub taken : (s p : ℕ) → IsTrue (has_proc set p) → IsSentTo trace.steps s p → IsTaker trace.steps x s (slice_index r.links.items s)
+  pub before : (p y : ℕ) → IsTrue (has_proc set p) → IsReceiveOf trace.steps y p → x < y → IsLastReceive trace.steps p x y (slice_index r.links.items y)
   pub clear : (p y : ℕ) → IsReceiveOf trace.steps y p → y ≤ x → slice_index r.links.items y ≡ 0
-  pub first : (p : ℕ) → p ≤ trace.config.n → IsFirstReceive trace.steps p x (slice_index r.first.items p)
-  pub last : (p : ℕ) → p ≤ trace.config.n → IsLastReceive trace.steps p x (length trace.steps + 1) (slice_index r.last.items p)
+  pub first : (p : ℕ) → p ≤ trace.config.n → IsTrue (has_proc set p) → IsFirstReceive trace.steps p x (slice_index r.first.items p)
+  pub last : (p : ℕ) → p ≤ trace.config.n → IsTrue (has_proc set p) → IsLastReceive trace.steps p x (length trace.steps + 1) (slice_index r.last.items p)
 
 -- x is noted at these places, and at others there is what was before
 abbrev pub NotesAt : ℕ → List ℕ → List ℕ → List ℕ → Type 0

@@ -2,7 +2,7 @@
 //!
 //! Steps and processors are numbered from 1, and 0 denotes none.
 
-ghost use Rattle.std.specs.Prelude.{◌≡◌, ◌-◌, ◌<◌, ◌≤◌, length, Some, All, IfOk, slice_index, replicate};
+ghost use Rattle.std.specs.Prelude.{ℕ, ◌≡◌, ◌-◌, ◌<◌, ◌≤◌, length, Some, All, IfOk, slice_index, replicate};
 ghost use Rattle.step_trace.specs.declared.traces.TheConstants.{MAX_STEPS};
 ghost use Rattle.step_trace.specs.Traces.{step_at, IsWellFormed};
 ghost use Rattle.suffix_staircase.specs.Receives.{KnowsReceives, NotesReceive, NotesAt, IsLastMissByNumber, last_missed};
@@ -10,16 +10,16 @@ ghost use Rattle.suffix_staircase.specs.Receives.{KnowsReceives, NotesReceive, N
 use std::alloc::{AllocError, Global};
 use step_trace::{Act, ProcSet, Step, Trace};
 
-/// What is known of the Receives after a step. One list has an entry for each step, so the entries are no wider than a
-/// number of a step needs.
+/// What is known of the Receives of members after a step. One list has an entry for each step, so the entries are no
+/// wider than a number of a step needs.
 #[derive(Debug, Drop)]
 pub struct Receives {
-    // For each message, the Receive after the step that takes it. And for each Receive after the step, the one of the
-    // same processor right before it, if that comes after the step too.
+    // For each message to a member, the Receive after the step that takes it. And for each member's Receive after the
+    // step, the one of the same member right before it, if that comes after the step too.
     links: Vec<u32>,
-    // For each processor, its first Receive after the step.
+    // For each member, its first Receive after the step.
     first: Vec<u32>,
-    // For each processor, its last Receive after the step.
+    // For each member, its last Receive after the step.
     last: Vec<u32>,
 }
 
@@ -46,7 +46,7 @@ fn zeros(alloc: Global, count: usize) -> Result<Vec<u32>, AllocError>
 impl Receives {
     /// What is known after the last step: there is none.
     pub fn after_all(alloc: Global, trace: &Trace) -> Result<Self, AllocError>
-        ensures { IfOk result (λ r. KnowsReceives trace.now (length trace.now.steps) r) }
+        ensures { IfOk result (λ r. (set : ℕ) → KnowsReceives set trace.now (length trace.now.steps) r) }
     {
         let steps = trace.len() + 1;
         let processors = trace.config().n() as usize + 1;
@@ -62,15 +62,18 @@ impl Receives {
     pub fn step_back(&mut self, trace: &Trace, set: ProcSet, no: u64) -> u64
         requires low { 1 ≤ no }
         requires high { no ≤ length trace.now.steps }
-        requires known { KnowsReceives trace.now no self.old }
-        ensures known { KnowsReceives trace.now (no - 1) self.new }
+        requires known { KnowsReceives set trace.now no self.old }
+        ensures known { KnowsReceives set trace.now (no - 1) self.new }
         ensures missed { IsLastMissByNumber set trace.now.steps no result }
         ensures sound { IsWellFormed trace.now.config trace.now.steps }
     {
         let step = step_of(trace, no);
+        if !set.contains(step.proc) {
+            return 0;
+        }
         match &step.act {
             Act::Send { to } => {
-                if set.contains(step.proc) && set.contains(*to) {
+                if set.contains(*to) {
                     self.last_missed(no, *to)
                 } else {
                     0

@@ -12,6 +12,7 @@ use Rattle.timeouts.specs.Deliveries.{KnowsTaken, TakesAfter, taken_by}
 use Rattle.timeouts.specs.Passes.{AreFrom}
 use Rattle.timeouts.proofs.AwaitedLaws.{longer_limit}
 use Rattle.timeouts.proofs.StepOrder.{place_below}
+use Rattle.timeouts.proofs.DeliveryLaws.{taker_is}
 
 -- after the last step nothing is sent
 pub IsLeastBound-no_delay : (t : Recorded) (p q : ℕ) → IsLeastBound (λ e. TakesAfter t p q (length t.steps) e) 1
@@ -45,20 +46,20 @@ record IsTakenBy (t : Recorded) (n by : ℕ) : Type 0 where
   pub no_sooner : (y : ℕ) → y ≤ t.last → IsDelivered t n y → by ≤ y
 
 -- if no Receive takes it
-untaken : (t : Recorded) (n : ℕ) (taken : List ℕ) → IsTimed t → IsWellFormed t.config t.steps → KnowsTaken t n taken → get_or taken n 0 ≡ 0 → IsTakenBy t n (t.last + 1)
-untaken t n taken time w known none = record {
+untaken : (t : Recorded) (p q n : ℕ) (taken : List ℕ) → IsTimed t → IsWellFormed t.config t.steps → IsFrom t.steps p q n → KnowsTaken t q n taken → get_or taken n 0 ≡ 0 → IsTakenBy t n (t.last + 1)
+untaken t p q n taken time w message known none = record {
   end = omega arith;
   taken = λ l. absurd (omega (arith, l));
   no_sooner = λ y room d.
       let takes = d.takes in
-      let is = known.each n d.place (w.earlier d.place n takes.0 takes.1 takes.2).0 takes in
+      let is = known.each n d.place (w.earlier d.place n takes.0 takes.1 takes.2).0 takes (taker_is t.config t.steps p q n d.place w message takes) in
       let inside = (time.inside d.place takes.0 takes.1).0 in
       absurd (omega (arith, is, none, inside));
 }
 
 -- if one does
-taken_at : (t : Recorded) (n : ℕ) (taken : List ℕ) → IsTimed t → IsWellFormed t.config t.steps → KnowsTaken t n taken → 0 < get_or taken n 0 → IsTakenBy t n (get_or taken n 0)
-taken_at t n taken time w known some =
+taken_at : (t : Recorded) (p q n : ℕ) (taken : List ℕ) → IsTimed t → IsWellFormed t.config t.steps → IsFrom t.steps p q n → KnowsTaken t q n taken → 0 < get_or taken n 0 → IsTakenBy t n (get_or taken n 0)
+taken_at t p q n taken time w message known some =
     let place = known.found n some in
     let takes = place.1 in
     let tick = place.2 in
@@ -68,17 +69,17 @@ taken_at t n taken time w known some =
       taken = λ l. record { place = place.0; after = time.later place.0 n takes; until = omega (arith, tick); takes = takes };
       no_sooner = λ y room d.
           let taken_too = d.takes in
-          let is = known.each n d.place (w.earlier d.place n taken_too.0 taken_too.1 taken_too.2).0 taken_too in
+          let is = known.each n d.place (w.earlier d.place n taken_too.0 taken_too.1 taken_too.2).0 taken_too (taker_is t.config t.steps p q n d.place w message taken_too) in
           let until = d.until in
           omega (arith, is, until);
     }
 
-IsTakenBy-known : (t : Recorded) (n : ℕ) (taken : List ℕ) → IsTimed t → IsWellFormed t.config t.steps → KnowsTaken t n taken → IsTakenBy t n (taken_by (t.last + 1) (get_or taken n 0))
-IsTakenBy-known t n taken time w known = go (get_or taken n 0 == 0) refl where
+IsTakenBy-known : (t : Recorded) (p q n : ℕ) (taken : List ℕ) → IsTimed t → IsWellFormed t.config t.steps → IsFrom t.steps p q n → KnowsTaken t q n taken → IsTakenBy t n (taken_by (t.last + 1) (get_or taken n 0))
+IsTakenBy-known t p q n taken time w message known = go (get_or taken n 0 == 0) refl where
   go : (b : Bool) → (get_or taken n 0 == 0) ≡ b → IsTakenBy t n (cond b (t.last + 1) (get_or taken n 0))
-  go true e = untaken t n taken time w known (eqb-true (get_or taken n 0) 0 e)
+  go true e = untaken t p q n taken time w message known (eqb-true (get_or taken n 0) 0 e)
   go false e = let other = eqb-false (get_or taken n 0) 0 e in
-      taken_at t n taken time w known (elim (cases_lt 0 (get_or taken n 0)) [ inl l ↦ l | inr l ↦ absurd (other (omega (arith, l))) ])
+      taken_at t p q n taken time w message known (elim (cases_lt 0 (get_or taken n 0)) [ inl l ↦ l | inr l ↦ absurd (other (omega (arith, l))) ])
 
 -- over a message it is the greater of both delays
 message_delay : (t : Recorded) (p q n delay by : ℕ) → IsFrom t.steps p q n → IsTakenBy t n by → IsLeastBound (λ e. TakesAfter t p q n e) delay
@@ -108,16 +109,16 @@ message_delay t p q n delay by message own k = record {
     | inr room ↦ (let soon = own.no_sooner (tick_of t n + e) room (h n (some n message) message room) in omega (arith, soon))
   ]
 
-pub IsLeastBound-message_delay : (t : Recorded) (p q n delay : ℕ) (taken : List ℕ) → IsTimed t → IsWellFormed t.config t.steps → KnowsTaken t n taken → IsFrom t.steps p q n → IsLeastBound (λ e. TakesAfter t p q n e) delay
+pub IsLeastBound-message_delay : (t : Recorded) (p q n delay : ℕ) (taken : List ℕ) → IsTimed t → IsWellFormed t.config t.steps → KnowsTaken t q n taken → IsFrom t.steps p q n → IsLeastBound (λ e. TakesAfter t p q n e) delay
     → IsLeastBound (λ e. TakesAfter t p q (n - 1) e) (max delay (taken_by (t.last + 1) (get_or taken n 0) - tick_of t n))
-IsLeastBound-message_delay t p q n delay taken time w known message k = message_delay t p q n delay (taken_by (t.last + 1) (get_or taken n 0)) message (IsTakenBy-known t n taken time w known) k
+IsLeastBound-message_delay t p q n delay taken time w known message k = message_delay t p q n delay (taken_by (t.last + 1) (get_or taken n 0)) message (IsTakenBy-known t p q n taken time w message known) k
 
 -- the messages after number done are those of tick g and later
-pub IsLeastBound-delay : (t : Recorded) (p q g done delay : ℕ) → IsTimed t → done ≤ length t.steps → tick_of t done < g → AreFrom t g done → IsLeastBound (λ e. TakesAfter t p q done e) delay → IsLeastBound (λ e. TakesWithin t p q g e) delay
+pub IsLeastBound-delay : (t : Recorded) (p q g done delay : ℕ) → IsTimed t → done ≤ length t.steps → tick_of t done < g → AreFrom t p q g done → IsLeastBound (λ e. TakesAfter t p q done e) delay → IsLeastBound (λ e. TakesWithin t p q g e) delay
 IsLeastBound-delay t p q g done delay time within before each k = record {
   positive = k.positive;
   holds = record { each = λ s message from room. k.holds s (place_below t time done s _ within message (omega (arith, before, from))) message room };
-  least = λ e positive h. k.least e positive (λ s after message room. h.each s message (each s _ after message) room);
+  least = λ e positive h. k.least e positive (λ s after message room. h.each s message (each s _ after message (inl refl)) room);
 }
 
 -- no delay is longer than the trace

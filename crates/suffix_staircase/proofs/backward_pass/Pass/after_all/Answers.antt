@@ -5,7 +5,7 @@ use Rattle.suffix_staircase.proofs.backward_pass.Pass.after_all.Goals as goal
 pub returns-clause-steps : goal.returns-clause-steps
 returns-clause-steps c = record {
   members = refl;
-  receives = c.in_ok-after_all.ensures;
+  receives = c.in_ok-after_all.ensures c.args.set;
   next_steps = c.in_ok-after_all-2.ensures;
   misses = KnowsMissesAfter-after_all c.args.set c.args.trace.now;
 }
