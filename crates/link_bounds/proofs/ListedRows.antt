@@ -44,7 +44,7 @@ IsPhiRow-listed members t g p paces start end within k member =
     let inside = within p member in
     IsPhiRow-from_known members t g p (bound_from paces p g) start member
     (KnowsGapsOf-from t p g k.done (get_or paces.next_steps.items p 0) (get_or paces.bounds.items p without_evidence) range.0 range.1
-    (IsNextFrom-before t p g k.done (get_or paces.next_steps.items p 0) start end k.before (known.next.each p range.0 inside)) (known.each p range.0 inside))
+    (IsNextFrom-before t p g k.done (get_or paces.next_steps.items p 0) start end k.before (known.next.each p range.0 inside range.0)) (known.each p range.0 inside))
 
 -- the link of a place
 module _ (members : ℕ) (t : Recorded) (time : IsTimed t) (g place : ℕ) (links : Links) (rows : List BoundRow) (k : KnowsLinksFrom members t g links) (inside : place < length links.bounds.items)

@@ -136,7 +136,7 @@ module _ (t : Recorded) (time : IsTimed t) (x : ℕ) (s : Step) (at : step_at t.
       let few = k.few in
       KnowsGapsOf-step t s.proc (tick_of t x) (bound_from old s.proc (tick_of t x + 1)) low (record { place = x; step = (s.act, at); tick = refl })
       (KnowsGapsOf-from t s.proc (tick_of t x + 1) x (get_or next s.proc 0) (get_or old.bounds.items s.proc without_evidence) low (omega arith)
-      (IsNextFrom-step t time x (get_or next s.proc 0) s at (k.next.each s.proc low high)) (k.each s.proc low high))
+      (IsNextFrom-step t time x (get_or next s.proc 0) s at (k.next.each s.proc low high low)) (k.each s.proc low high))
 
   -- the bounds of all
   pub bounds_back : (p : ℕ) → 1 ≤ p → p ≤ t.config.n

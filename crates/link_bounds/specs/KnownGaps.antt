@@ -24,7 +24,7 @@ KnowsGapsOf trace p g bound = AllowsAll Gap (IsOwnGap trace p g) (λ w. w.from) 
 pub record KnowsPaces (trace : Recorded) (done : ℕ) (paces : Paces) : Type 0 where
   pub sound : IsTrace trace
   pub few : trace.config.n ≤ MAX_MEMBER
-  pub next : AreNextTicks trace done paces.next_steps.items
+  pub next : AreNextTicks (λ p. 1 ≤ p) trace done paces.next_steps.items
   pub long : length paces.bounds.items ≡ trace.config.n + 1
   pub each : (p : ℕ) → 1 ≤ p → p ≤ trace.config.n → KnowsGapsOf trace p (slice_index paces.next_steps.items p) (slice_index_or paces.bounds.items p without_evidence)
 

@@ -112,7 +112,7 @@ GapsLowered-with_over set t x q until level longest k = go (nat_le level.phi (un
   }
 
 -- so it does with that of the member whose next step comes last
-pub GapsLowered-with_gap : (set : ℕ) (t : Recorded) (x q : ℕ) (next : List ℕ) (level : Level) → 1 ≤ x → IsWithin set t.config.n → AreNextSteps t x next → IsLatest set next (length next) q
+pub GapsLowered-with_gap : (set : ℕ) (t : Recorded) (x q : ℕ) (next : List ℕ) (level : Level) → 1 ≤ x → IsWithin set t.config.n → AreNextSteps set t x next → IsLatest set next (length next) q
     → KnowsGaps set t (x + 1) level.phi level.gap → GapsLowered set t x level (with_gap level q x (get_or next q 0))
 GapsLowered-with_gap set t x q next level start within known latest k =
     let l = IsLongest-from_latest set t x q next start within known latest in

@@ -100,7 +100,7 @@ TickLowered-with_gap set t done high g old new levels time within inside idle lo
     let next = steps.next_steps in
     let start : 1 ≤ g = omega (arith, low) in
     let lowered = subst (λ (l : Level). GapsLowered set t g old.level l) (sym is)
-    (GapsLowered-with_gap set t g old.next_steps.latest old.next_steps.by_processor.items old.level start within (AreNextSteps-at_border t done g old.next_steps.by_processor.items border next.next) next.latest known.gaps) in
+    (GapsLowered-with_gap set t g old.next_steps.latest old.next_steps.by_processor.items old.level start within (AreNextSteps-at_border set t done g old.next_steps.by_processor.items border next.next) next.latest known.gaps) in
     let misses : KnowsMissesAfter set t done new.level.delta new.level.miss = rw (lowered.delta, lowered.miss) steps.misses in
     record {
       falling = CanStandBefore-through new.level old.level levels (lowered_stands set t g old.level new.level lowered) known.falling;

@@ -12,10 +12,10 @@ member_range mask p m =
     (omega (arith, ltb-true 0 p range.0), leb-true p MAX_MEMBER range.1)
 
 -- a gap from x on ends before the next step of its processor
-gap_until : (set : ℕ) (t : Recorded) (x : ℕ) (next : List ℕ) (w : Gap) → IsWithin set t.config.n → AreNextSteps t x next → IsGap set t w → w.from ≡ x → w.to < get_or next w.proc 0
+gap_until : (set : ℕ) (t : Recorded) (x : ℕ) (next : List ℕ) (w : Gap) → IsWithin set t.config.n → AreNextSteps set t x next → IsGap set t w → w.from ≡ x → w.to < get_or next w.proc 0
 gap_until set t x next w within k gap e = elim (cases_lt w.to (get_or next w.proc 0)) [
   | inl l ↦ l
-  | inr h ↦ (let own = k.each w.proc (member_range set w.proc gap.member).0 (within w.proc gap.member) in
+  | inr h ↦ (let own = k.each w.proc (member_range set w.proc gap.member).0 (within w.proc gap.member) gap.member in
       absurd (gap.silent (get_or next w.proc 0) (omega (arith, own.from, e)) h (own.step (omega (arith, h, gap.inside)))))
 ]
 
@@ -26,7 +26,7 @@ pub record IsLongest (set : ℕ) (trace : Recorded) (x q until : ℕ) : Type 0 w
   pub least : (w : Gap) → IsGap set trace w → w.from ≡ x → w.to + 1 ≡ until → q ≤ w.proc
 
 -- the member whose next step comes last has the longest gap
-pub IsLongest-from_latest : (set : ℕ) (t : Recorded) (x q : ℕ) (next : List ℕ) → 1 ≤ x → IsWithin set t.config.n → AreNextSteps t x next → IsLatest set next (length next) q
+pub IsLongest-from_latest : (set : ℕ) (t : Recorded) (x q : ℕ) (next : List ℕ) → 1 ≤ x → IsWithin set t.config.n → AreNextSteps set t x next → IsLatest set next (length next) q
     → IsLongest set t x q (get_or next q 0)
 IsLongest-from_latest set t x q next start within k latest = record {
   gap = gap q latest;
@@ -44,7 +44,7 @@ IsLongest-from_latest set t x q next start within k latest = record {
   gap zero l h = absurd (omega (arith, k.zero, h))
   gap (suc p) l h =
       let member = l.member (omega arith) in
-      let own = k.each (suc p) (omega arith) (within (suc p) member) in
+      let own = k.each (suc p) (omega arith) (within (suc p) member) member in
       record {
         member = member;
         start = start;

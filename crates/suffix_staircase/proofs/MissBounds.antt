@@ -1,9 +1,10 @@
 -- The least communication bound from the misses, and one step back.
-use Rattle.std.proofs.Common.{ℕ, ◌≡◌, ◌+◌, ◌-◌, ◌<◌, ◌≤◌, inl, inr, Option, Some, None, Bool, true, false, cond, refl, ap, subst, arith}
+use Rattle.std.proofs.Common.{ℕ, ◌≡◌, ◌+◌, ◌-◌, ◌<◌, ◌≤◌, inl, inr, Option, Some, None, Bool, true, false, IsTrue, cond, refl, ap, subst, arith}
 use Rattle.std.specs.Prelude.{nat_le}
 use Rattle.std.proofs.lemmas.Bool.{cases_eq, cases_lt, leb-true, leb-false}
-use Rattle.suffix_staircase.proofs.Common.{Miss, DeltaHolds, IsDelta, tick_of, Recorded, IsMiss, NamesMiss, Level, StandsBefore, KnowsMisses, NamesAfter, KnowsMissesAfter, with_miss, MissRefutes-sound, IsNamedMiss-refutes, DeltaHolds-unrefuted}
+use Rattle.suffix_staircase.proofs.Common.{Miss, Step, has_proc, DeltaHolds, IsDelta, tick_of, Recorded, step_at, IsMiss, NamesMiss, Level, StandsBefore, KnowsMisses, NamesAfter, KnowsMissesAfter, with_miss, MissRefutes-sound, IsNamedMiss-refutes, DeltaHolds-unrefuted}
 use Rattle.suffix_staircase.proofs.MissNumbers.{IsLastMissOf}
+use Rattle.suffix_staircase.proofs.ReceivesLowered.{same_step}
 
 -- a bound with its named miss is positive
 delta_positive : (set : ℕ) (t : Recorded) (g d : ℕ) (o : Option Miss) → NamesMiss set t g d o → 1 ≤ d
@@ -108,3 +109,14 @@ MissesLowered-with_miss set t x r level low k l = go (nat_le level.delta (tick_o
     phi = refl;
     gap = refl;
   }
+
+-- a step of a processor that is no member sends no message that counts
+pub KnowsMissesAfter-other : (set : ℕ) (t : Recorded) (x d : ℕ) (y : Step) (o : Option Miss) → 1 ≤ x → step_at t.steps x ≡ Some y → ¬ IsTrue (has_proc set y.proc) → KnowsMissesAfter set t x d o → KnowsMissesAfter set t (x - 1) d o
+KnowsMissesAfter-other set t x d y o low at other k = misses_kept set t x d 0 o low k
+    (record { found = λ l. absurd (omega (arith, l)); last = λ missed i. absurd (unsent missed i) })
+    (let positive = after_positive set t x d o k.named in omega (arith, positive))
+  where
+    unsent : (missed : ℕ) → ¬ IsMiss set t (record { sent = x; missed = missed })
+    unsent missed i =
+        let proc = ap (λ (z : Step). z.proc) (same_step t.steps x _ _ i.message.sent at) in
+        other (subst (λ (p : ℕ). IsTrue (has_proc set p)) proc i.message.sender)

@@ -31,17 +31,25 @@ next_tick_above t time p x next s h n = elim (cases_lt t.last next) [
   | inr l ↦ (let i = n.step l in let r = ticks_rise t time x i.0 s _ h i.2.1 (omega (arith, i.1)) in omega (arith, r, i.3))
 ]
 
+-- going back over a step of none of these processors, the notes stay right
+pub AreNextTicks-other : (Of : ℕ → Type 0) (t : Recorded) (x : ℕ) (s : Step) (next : List ℕ) → step_at t.steps x ≡ Some s → ¬ Of s.proc → AreNextTicks Of t x next → AreNextTicks Of t (x - 1) next
+AreNextTicks-other Of t x s next h other k = record {
+  long = k.long;
+  zero = k.zero;
+  each = λ p a b of. IsNextTick-other t p x _ s h (λ e. other (subst Of (sym e) of)) (k.each p a b of);
+}
+
 -- going back over a step, the notes are right again
-pub AreNextTicks-back : (t : Recorded) → IsTimed t → (x : ℕ) (s : Step) (next : List ℕ) → 1 ≤ s.proc → s.proc ≤ t.config.n → step_at t.steps x ≡ Some s → AreNextTicks t x next
-    → AreNextTicks t (x - 1) (set next s.proc (tick_of t x))
-AreNextTicks-back t time x s next low high h k =
+pub AreNextTicks-back : (Of : ℕ → Type 0) (t : Recorded) → IsTimed t → (x : ℕ) (s : Step) (next : List ℕ) → 1 ≤ s.proc → s.proc ≤ t.config.n → step_at t.steps x ≡ Some s → AreNextTicks Of t x next
+    → AreNextTicks Of t (x - 1) (set next s.proc (tick_of t x))
+AreNextTicks-back Of t time x s next low high h k =
     let place : s.proc < length next = omega (arith, k.long, high) in
     record {
       long = length-set next s.proc (tick_of t x) ∙ k.long;
       zero = (let other : 0 ≢ s.proc = omega arith in rw get_or-set_other k.zero);
-      each = λ p a b. elim (cases_eq p s.proc) [
+      each = λ p a b of. elim (cases_eq p s.proc) [
         | inl e ↦ subst (λ (m : ℕ). IsNextTick t m (x - 1) (get_or (set next s.proc (tick_of t x)) m 0)) (sym e) (rw get_or-set_same (IsNextTick-own t time x s h))
-        | inr ne ↦ (let other : p ≢ s.proc = ne in rw get_or-set_other (IsNextTick-other t p x _ s h (λ e. ne (sym e)) (k.each p a b)))
+        | inr ne ↦ (let other : p ≢ s.proc = ne in rw get_or-set_other (IsNextTick-other t p x _ s h (λ e. ne (sym e)) (k.each p a b of)))
       ];
     }
 
@@ -52,11 +60,11 @@ get_or-replicate_all (suc m) v zero h = refl
 get_or-replicate_all (suc m) v (suc k) h = get_or-replicate_all m v k (omega arith)
 
 -- after the last step no processor has a next step
-pub AreNextTicks-after_all : (t : Recorded) (next : List ℕ) → next ≡ set (replicate (t.config.n + 1) (t.last + 1)) 0 0 → AreNextTicks t (length t.steps) next
-AreNextTicks-after_all t next e = subst (λ (xs : List ℕ). AreNextTicks t (length t.steps) xs) (sym e) (record {
+pub AreNextTicks-after_all : (Of : ℕ → Type 0) (t : Recorded) (next : List ℕ) → next ≡ set (replicate (t.config.n + 1) (t.last + 1)) 0 0 → AreNextTicks Of t (length t.steps) next
+AreNextTicks-after_all Of t next e = subst (λ (xs : List ℕ). AreNextTicks Of t (length t.steps) xs) (sym e) (record {
   long = length-set (replicate (t.config.n + 1) (t.last + 1)) 0 0 ∙ length-replicate (t.config.n + 1) (t.last + 1);
   zero = get_or-set_same (replicate (t.config.n + 1) (t.last + 1)) 0 0 0 (omega (arith, length-replicate (t.config.n + 1) (t.last + 1)));
-  each = λ p a b.
+  each = λ p a b of.
       let other : p ≢ 0 = omega arith in
       let value = get_or-replicate_all (t.config.n + 1) (t.last + 1) p (omega arith) in
       rw (get_or-set_other, value) (record {

@@ -1,7 +1,7 @@
 -- Between the ticks of two steps in a row, what is known by numbers is known by ticks.
-use Rattle.std.proofs.Common.{ℕ, ◌≡◌, ◌+◌, ◌-◌, ◌<◌, ◌≤◌, ◌⊎◌, inl, inr, List, [], ◌∷◌, length, Option, Some, None, refl, suc, zero, arith}
+use Rattle.std.proofs.Common.{ℕ, ◌≡◌, ◌+◌, ◌-◌, ◌<◌, ◌≤◌, ◌⊎◌, inl, inr, List, [], ◌∷◌, length, Option, Some, None, IsTrue, refl, suc, zero, arith}
 use Rattle.std.proofs.lemmas.Bool.{cases_lt}
-use Rattle.suffix_staircase.proofs.Common.{Step, Miss, tick_of, IsTimed, Recorded, step_at, NamesMiss, step_at_within, ticks_rise, KnowsMisses, NamesAfter, KnowsMissesAfter, AreIdleUpTo, IsNextTick, AreNextTicks, IsNextStep, AreNextSteps}
+use Rattle.suffix_staircase.proofs.Common.{Step, Miss, has_proc, tick_of, IsTimed, Recorded, step_at, NamesMiss, step_at_within, ticks_rise, KnowsMisses, NamesAfter, KnowsMissesAfter, AreIdleUpTo, IsNextTick, AreNextTicks, IsNextStep, AreNextSteps}
 
 -- the steps after number done are those in tick g or later
 pub record IsBorder (trace : Recorded) (done g : ℕ) : Type 0 where
@@ -89,10 +89,10 @@ IsNextStep-at_border t p done g next b n = record {
   step = λ l. (let s = n.step l in record { place = s.0; step = s.2; tick = s.3 });
 }
 
--- so for all processors
-pub AreNextSteps-at_border : (t : Recorded) (done g : ℕ) (next : List ℕ) → IsBorder t done g → AreNextTicks t done next → AreNextSteps t g next
-AreNextSteps-at_border t done g next b k = record {
+-- so for all members
+pub AreNextSteps-at_border : (set : ℕ) (t : Recorded) (done g : ℕ) (next : List ℕ) → IsBorder t done g → AreNextTicks (λ p. IsTrue (has_proc set p)) t done next → AreNextSteps set t g next
+AreNextSteps-at_border set t done g next b k = record {
   long = k.long;
   zero = k.zero;
-  each = λ p low high. IsNextStep-at_border t p done g _ b (k.each p low high);
+  each = λ p low high member. IsNextStep-at_border t p done g _ b (k.each p low high member);
 }

@@ -11,11 +11,11 @@ pub record IsNextTick (trace : Recorded) (p done next : ℕ) : Type 0 where
   pub first : (k : ℕ) → done < k → IsStepOf trace.steps k p → next ≤ tick_of trace k
   pub step : next ≤ trace.last → (k : ℕ) × (done < k) × IsStepOf trace.steps k p × (tick_of trace k ≡ next)
 
--- the tick of the next step of each processor of a trace after number done, and 0 at number 0
-pub record AreNextTicks (trace : Recorded) (done : ℕ) (next : List ℕ) : Type 0 where
+-- the tick of the next step of each of these processors of a trace after number done, and 0 at number 0
+pub record AreNextTicks (Of : ℕ → Type 0) (trace : Recorded) (done : ℕ) (next : List ℕ) : Type 0 where
   pub long : length next ≡ trace.config.n + 1
   pub zero : slice_index next 0 ≡ 0
-  pub each : (p : ℕ) → 1 ≤ p → p ≤ trace.config.n → IsNextTick trace p done (slice_index next p)
+  pub each : (p : ℕ) → 1 ≤ p → p ≤ trace.config.n → Of p → IsNextTick trace p done (slice_index next p)
 
 -- the first tick from g on in which p takes a step, or one after the last tick if there is none
 pub record IsNextStep (trace : Recorded) (p g next : ℕ) : Type 0 where
@@ -24,11 +24,11 @@ pub record IsNextStep (trace : Recorded) (p g next : ℕ) : Type 0 where
   pub silent : (x : ℕ) → g ≤ x → x < next → ¬ StepsIn trace x p
   pub step : next ≤ trace.last → StepsIn trace next p
 
--- the next step of each processor of a trace from tick g on, and 0 at number 0
-pub record AreNextSteps (trace : Recorded) (g : ℕ) (next : List ℕ) : Type 0 where
+-- the next step of each member from tick g on, and 0 at number 0
+pub record AreNextSteps (set : ℕ) (trace : Recorded) (g : ℕ) (next : List ℕ) : Type 0 where
   pub long : length next ≡ trace.config.n + 1
   pub zero : slice_index next 0 ≡ 0
-  pub each : (p : ℕ) → 1 ≤ p → p ≤ trace.config.n → IsNextStep trace p g (slice_index next p)
+  pub each : (p : ℕ) → 1 ≤ p → p ≤ trace.config.n → IsTrue (has_proc set p) → IsNextStep trace p g (slice_index next p)
 
 -- of the members of the set below `until`, the one whose number here is greatest, and of these the
 -- least: 0 if there is none
@@ -38,7 +38,7 @@ pub record IsLatest (set : ℕ) (next : List ℕ) (until latest : ℕ) : Type 0 
   pub greatest : (p : ℕ) → p < until → 1 ≤ p → IsTrue (has_proc set p) → slice_index next p ≤ slice_index next latest
   pub least : (p : ℕ) → p < latest → 1 ≤ p → IsTrue (has_proc set p) → slice_index next p < slice_index next latest
 
--- what is known of the next steps after number done
+-- what is known of the next steps of members after number done
 pub record KnowsNextSteps (set : ℕ) (trace : Recorded) (done : ℕ) (known : NextSteps) : Type 0 where
-  pub next : AreNextTicks trace done known.by_processor.items
+  pub next : AreNextTicks (λ p. IsTrue (has_proc set p)) trace done known.by_processor.items
   pub latest : IsLatest set known.by_processor.items (length known.by_processor.items) known.latest

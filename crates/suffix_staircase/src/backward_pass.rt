@@ -13,7 +13,7 @@ ghost use Rattle.suffix_staircase.specs.Analysis.{AreLevels, KnowsStepsAfter, Kn
 
 use crate::levels::Level;
 use crate::next_steps::NextSteps;
-use crate::receives::Receives;
+use crate::receives::{Receives, step_of};
 use crate::staircases::StairBuilder;
 use std::alloc::{AllocError, Global};
 use step_trace::{Gap, Miss, ProcSet, Trace};
@@ -67,7 +67,7 @@ impl Pass {
         Ok(())
     }
 
-    /// Goes back over a step, which is in this tick.
+    /// Goes back over a step, which is in this tick. One of another processor changes nothing.
     fn step_back(&mut self, trace: &Trace, no: u64, tick: u64)
         requires low { 1 ≤ no }
         requires high { no ≤ length trace.now.steps }
@@ -79,6 +79,9 @@ impl Pass {
         ensures phi { self.new.level.phi ≡ self.old.level.phi }
         ensures gap { self.new.level.gap ≡ self.old.level.gap }
     {
+        if !self.set.contains(step_of(trace, no).proc) {
+            return;
+        }
         let missed = self.receives.step_back(trace, self.set, no);
         self.next_steps.step_back(trace, self.set, no, tick);
         let long = tick_of(trace, missed).saturating_sub(tick);

@@ -1,8 +1,11 @@
-//! The tick of the next step of each processor, as far as the gaps from a tick on depend on it.
+//! The tick of the next step of each member, as far as the gaps from a tick on depend on it.
 //!
 //! Processors are numbered from 1. The entry of number 0 is 0, so that each member comes later.
 
-ghost use Rattle.std.specs.Prelude.{◌≡◌, ◌+◌, ◌-◌, ◌<◌, ◌≤◌, length, IfOk, slice_index};
+ghost use Rattle.std.specs.Prelude.{ℕ, ◌≡◌, ◌+◌, ◌-◌, ◌<◌, ◌≤◌, length, IfOk, IsTrue, Some, slice_index};
+ghost use Rattle.step_trace.specs.declared.steps.Step.{Step};
+ghost use Rattle.step_trace.specs.Processors.{has_proc};
+ghost use Rattle.step_trace.specs.Traces.{step_at};
 ghost use Rattle.step_trace.specs.Ticks.{tick_of, IsTimed};
 ghost use Rattle.suffix_staircase.specs.NextSteps.{AreNextTicks, IsLatest, KnowsNextSteps};
 
@@ -14,7 +17,7 @@ use step_trace::{ProcSet, Trace};
 /// comes last.
 #[derive(Debug, Drop)]
 pub(crate) struct NextSteps {
-    // For each processor, the tick of its next step: one after the last if there is none.
+    // For each member, the tick of its next step: one after the last if there is none.
     by_processor: Vec<u64>,
     // The member whose next step comes in the last tick, and of these the least: 0 if there is no member.
     latest: u64,
@@ -33,12 +36,13 @@ impl NextSteps {
         })
     }
 
-    /// Goes back over a step, which is in this tick.
+    /// Goes back over a step of a member, which is in this tick.
     pub(crate) fn step_back(&mut self, trace: &Trace, set: ProcSet, no: u64, tick: u64)
         requires low { 1 ≤ no }
         requires high { no ≤ length trace.now.steps }
         requires tick { tick ≡ tick_of trace.now no }
         requires timed { IsTimed trace.now }
+        requires member { (x : Step) → (step_at trace.now.steps no ≡ Some x) → IsTrue (has_proc set x.proc) }
         requires known { KnowsNextSteps set trace.now no self.old }
         ensures { KnowsNextSteps set trace.now (no - 1) self.new }
     {
@@ -68,7 +72,7 @@ impl NextSteps {
 
 /// The next steps from the end of a trace on: each is one after the last tick.
 fn no_next_steps(alloc: Global, trace: &Trace) -> Result<Vec<u64>, AllocError>
-    ensures { IfOk result (λ n. AreNextTicks trace.now (length trace.now.steps) n.items) }
+    ensures { IfOk result (λ n. (set : ℕ) → AreNextTicks (λ p. IsTrue (has_proc set p)) trace.now (length trace.now.steps) n.items) }
 {
     let processors = trace.config().n() as usize + 1;
     let mut next_steps = vec![in alloc; trace.last_tick() + 1; processors]?;

@@ -1,9 +1,36 @@
-use Rattle.std.proofs.Common.{ℕ, ◌≡◌, ◌-◌, refl, sym, ap, subst, ◌∙◌, arith}
-use Rattle.suffix_staircase.proofs.Common.{tick_of, Level, with_miss}
-use Rattle.suffix_staircase.proofs.MissBounds.{MissesLowered, MissesLowered-with_miss}
+use Rattle.std.proofs.Common.{ℕ, ◌≡◌, ◌-◌, IsTrue, refl, sym, ap, subst, ◌∙◌, arith}
+use Rattle.suffix_staircase.proofs.Common.{Step, has_proc, tick_of, Level, with_miss}
+use Rattle.suffix_staircase.proofs.MissBounds.{KnowsMissesAfter-other, MissesLowered, MissesLowered-with_miss}
 use Rattle.suffix_staircase.proofs.MissNumbers.{IsLastMissOf-from_numbers, last_miss_bound}
+use Rattle.suffix_staircase.proofs.NextSteps.{AreNextTicks-other}
+use Rattle.suffix_staircase.proofs.ReceivesLowered.{KnowsReceives-other, same_step}
 use Rattle.suffix_staircase.proofs.backward_pass.Pass.step_back.Goals as goal
 use Rattle.suffix_staircase.proofs.backward_pass.Pass.step_back.Goals.{After-note_miss}
+
+pub returns-then-not-contains-clause-known : goal.returns-then-not-contains-clause-known
+returns-then-not-contains-clause-known c =
+    let set = c.args.self.now.set in
+    let t = c.args.trace.now in
+    let step = c.step_of.result.now in
+    let at = c.step_of.ensures.step in
+    let known = c.requires.known in
+    let other : ¬ IsTrue (has_proc set step.proc) = λ member. cc (member, c.contains.ensures, c.if-not-contains.true) in
+    record {
+      members = refl;
+      receives = KnowsReceives-other set t c.args.no step c.args.self.now.receives c.step_of.ensures.sound at other known.receives;
+      next_steps = record {
+        next = AreNextTicks-other (λ p. IsTrue (has_proc set p)) t c.args.no step _ at other known.next_steps.next;
+        latest = known.next_steps.latest;
+      };
+      misses = KnowsMissesAfter-other set t c.args.no c.args.self.now.level.delta step c.args.self.now.level.miss c.requires.low at other known.misses;
+    }
+
+pub step_back-requires-clause-member : goal.step_back-requires-clause-member
+step_back-requires-clause-member c =
+    let set = c.args.self.now.set in
+    λ x at.
+    let same = same_step c.args.trace.now.steps c.args.no x c.step_of.result.now at c.step_of.ensures.step in
+    subst (λ (s : Step). IsTrue (has_proc set s.proc)) (sym same) (sym c.contains.ensures ∙ c.if-not-contains.false)
 
 pub tick_of-requires : goal.tick_of-requires
 tick_of-requires c = last_miss_bound c.args.self.now.set c.args.trace.now c.args.no c.step_back-missed.result c.step_back-missed.ensures.missed
