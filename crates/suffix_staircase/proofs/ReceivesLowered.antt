@@ -99,11 +99,11 @@ pub KnowsReceives-other : (set : ℕ) (t : Recorded) (x : ℕ) (y : Step) (r : R
 KnowsReceives-other set t x y r sound h other k =
     KnowsReceives-lower set t x r (step_at_within t.steps x y h).0
     (λ s p member m taken.
-        let sent = (sound.earlier x s taken.0 taken.1 taken.2).1 in
-        let same = ap (λ (z : Step). z.act) (same_step t.steps s _ _ sent.1 m.1) in
-        let here = ap (λ (z : Step). z.proc) (same_step t.steps x _ _ h taken.1) in
-        other cc)
+    let sent = (sound.earlier x s taken.0 taken.1 taken.2).1 in
+    let same = ap (λ (z : Step). z.act) (same_step t.steps s _ _ sent.1 m.1) in
+    let here = ap (λ (z : Step). z.proc) (same_step t.steps x _ _ h taken.1) in
+    other cc)
     (λ p member receive.
-        let here = ap (λ (z : Step). z.proc) (same_step t.steps x _ _ h receive.step) in
-        other cc)
+    let here = ap (λ (z : Step). z.proc) (same_step t.steps x _ _ h receive.step) in
+    other cc)
     k
