@@ -99,7 +99,7 @@ does-same : (numbers : List ℕ) (a b : EventAct) (does : Act) → seen_act a �
 does-same numbers (act.Send to) (act.Send other) does e h = let same : to ≡ other = cc in h ∙ ap step_act.Send same
 does-same numbers (act.Send to) (act.Receive messages) does e h = absurd (cc)
 does-same numbers (act.Receive messages) (act.Send to) does e h = absurd (cc)
-does-same numbers (act.Receive messages) (act.Receive others) does e h = let same : messages.items ≡ others.items = cc in (h.0, h.1, subst (λ ms. AreIdsOf numbers ms h.0) same h.2)
+does-same numbers (act.Receive messages) (act.Receive others) does e h = let same : messages ≡ others = cc in (h.0, h.1, subst (λ ms. AreIdsOf numbers ms h.0) same h.2)
 
 module _ (xs ys : List Event) (same : map seen xs ≡ map seen ys) where
   looks-same : {X : Type 0} (f : Event → X) (g : Seen → X) → ((e : Event) → f e ≡ g (seen e)) → (i : ℕ) (d : X) → option_map_or f (slice_get xs i) d ≡ option_map_or f (slice_get ys i) d

@@ -21,7 +21,7 @@ pub record Seen : Type 0 where
 
 abbrev pub seen_act : EventAct → SeenAct
 seen_act (act.Send to) = Sends to
-seen_act (act.Receive messages) = Receives messages.items
+seen_act (act.Receive messages) = Receives messages
 
 -- what a contract sees of an event
 abbrev pub seen : Event → Seen

@@ -12,7 +12,7 @@ use Rattle.idle_laws.proofs.SortedPlaces.{numbered, sorted}
 act-of : (numbers : List ℕ) (e : EventAct) → (a : Act) × IsActOf numbers e a
 act-of numbers (Send to) = (act.Send to, refl)
 act-of numbers (Receive messages) =
-    let r = sorted (λ x. x) (map (sent_number numbers) messages.items) in
+    let r = sorted (λ x. x) (map (sent_number numbers) messages) in
     (act.Receive false r.0, (r.0, refl, record { each = r.1; rising = r.2 }))
 
 steps-at : (events : List Event) (numbers places : List ℕ) → ((k : ℕ) → k < length places → slice_index places k < length events) → (steps : List Step) × AllZip (IsStepAt events numbers) places steps

@@ -22,7 +22,7 @@ use Rattle.timed_events.specs.IdleTicks.{HasEventIn, IsIdleTick, AreIdle, IsFree
 use Rattle.timed_events.specs.IdleTraces.{IsGrown}
 use Rattle.timed_events.specs.TickedEvents.{AreFit}
 use Rattle.timed_events.proofs.FittingEvents.{named-may}
-use Rattle.timed_events.proofs.Messages.{is_for-inside}
+use Rattle.timed_events.proofs.TakenMessages.{is_for-inside}
 use Rattle.timed_events.proofs.PassedEvents.{one-at_moment, own-passed}
 use Rattle.timed_events.proofs.RankedEvents.{messages-none, moment-parts}
 

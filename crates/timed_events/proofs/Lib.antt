@@ -1,6 +1,6 @@
 pub mod TimeBounds
 pub mod Firsts
-pub mod Messages
+pub mod TakenMessages
 pub mod Moments
 pub mod EventReasons
 pub mod PassedEvents

@@ -10,7 +10,7 @@ use Rattle.timed_events.specs.Checks.{is_for, processor_at, messages_at, was_rec
 use Rattle.timed_events.specs.CausalWalks.{AreRightlyReceived}
 use Rattle.timed_events.specs.Spreads.{AreLeast}
 use Rattle.timed_events.proofs.Firsts.{first_of-found, first_of-each}
-use Rattle.timed_events.proofs.Messages.{is_for-inside}
+use Rattle.timed_events.proofs.TakenMessages.{is_for-inside}
 use Rattle.timed_events.proofs.FittingEvents.{names-message}
 use Rattle.timed_events.proofs.PassedEvents.{own-passed}
 use Rattle.timed_events.proofs.RankedEvents.{named-at, messages-none, least-moments}

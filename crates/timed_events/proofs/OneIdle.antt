@@ -97,7 +97,7 @@ abbrev IsSameAct : EventAct → EventAct → Type 0
 IsSameAct (Send to) (Send for) = to ≡ for
 IsSameAct (Send to) (Receive messages) = ⊥
 IsSameAct (Receive messages) (Send to) = ⊥
-IsSameAct (Receive messages) (Receive others) = messages.items ≡ others.items
+IsSameAct (Receive messages) (Receive others) = messages ≡ others
 
 record IsSame (x y : Event) : Type 0 where
   own : x.processor ≡ y.processor

@@ -22,7 +22,7 @@ sends_to (Receive messages) p = false
 -- the messages that it receives
 abbrev pub received_in : EventAct → List (Option ℕ)
 received_in (Send to) = []
-received_in (Receive messages) = messages.items
+received_in (Receive messages) = messages
 
 -- whether this is message s
 abbrev pub is_message : ℕ → Option ℕ → Bool

@@ -59,7 +59,7 @@ pub record AreIdle (n : ℕ) (events : List Event) (ticks : List ℕ) (last limi
 -- it receives nothing
 abbrev pub IsOfNothing : EventAct → Type 0
 IsOfNothing (Send to) = ⊥
-IsOfNothing (Receive messages) = messages.items ≡ []
+IsOfNothing (Receive messages) = messages ≡ []
 
 -- the event is a receive of nothing by the processor of this tick
 pub record IsIdleReceive (x : IdleTick) (event : Event) : Type 0 where

@@ -1,6 +1,7 @@
 pub mod Times
 pub mod Firsts
 pub mod Checks
+pub mod HeldMessages
 pub mod Orders
 pub mod TimedTraces
 pub mod Spreads

@@ -1,6 +1,8 @@
 //! Events, the clock that turns their times into ticks, and why they make no trace.
 
+use crate::messages::Messages;
 use std::alloc::AllocError;
+use std::mem::size_of;
 
 /// One event of a log: when it happened, to whom, and what. Events are named by their places, from 0 on.
 #[derive(Debug, Drop)]
@@ -17,10 +19,12 @@ pub struct Event {
 pub enum EventAct {
     /// A message was sent to this processor.
     Send { to: u64 },
-    /// These messages were received, possibly none: each is the place of the event that sent it, or nothing if no event
-    /// did.
-    Receive { messages: Vec<Option<u32>> },
+    /// These messages were received, possibly none.
+    Receive { messages: Messages },
 }
+
+// (a log may have a million of them)
+const _: () = prove!(size_of::<Event>() == 48);
 
 impl EventAct {
     ghost use Rattle.std.specs.Prelude.{◌≡◌};

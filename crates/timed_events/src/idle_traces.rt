@@ -13,6 +13,7 @@ ghost use Rattle.timed_events.specs.Times.{times_refusal};
 
 use crate::events::{Clock, Event, EventAct, EventError};
 use crate::idle_ticks::{IdleTick, idle_ticks};
+use crate::messages::Messages;
 use crate::orders::order_of;
 use crate::spread_traces::Moved;
 use crate::ticked_events::{TickedEvents, ticked_events};
@@ -161,7 +162,7 @@ fn filled_trace(
 {
     let ticks = with_idle_ticks(ticks, idles)?;
     let count = events.len();
-    add_receives(alloc, idles, events)?;
+    add_receives(idles, events)?;
     if let Ok(ordered) = ordered_by_ticks(alloc, n, events.as_slice(), &ticks, last) {
         return Ok(ordered);
     }
@@ -182,29 +183,26 @@ fn with_idle_ticks(ticks: Vec<u32>, idles: &[IdleTick]) -> Result<Vec<u32>, Allo
 }
 
 /// Adds a receive of nothing for each of the idle ticks to the events.
-fn add_receives(
-    alloc: Global,
-    idles: &[IdleTick],
-    events: &mut Vec<Event>,
-) -> Result<(), AllocError>
+fn add_receives(idles: &[IdleTick], events: &mut Vec<Event>) -> Result<(), AllocError>
     ensures grown { OnOk result (IsGrown events.old.items idles.now events.new.items) }
     ensures unchanged { OnErr result (events.new.items ≡ events.old.items) }
 {
     events.reserve(idles.len())?;
     for idle in idles {
-        events.push_reserved(receive_of_nothing(alloc, *idle));
+        events.push_reserved(receive_of_nothing(*idle));
     }
     Ok(())
 }
 
 /// A receive of nothing by the processor of an idle tick.
-fn receive_of_nothing(alloc: Global, idle: IdleTick) -> Event
+fn receive_of_nothing(idle: IdleTick) -> Event
     ensures { IsIdleReceive idle result }
 {
-    let messages = Vec::new(alloc);
     Event {
         time: 0,
         processor: idle.processor,
-        act: EventAct::Receive { messages },
+        act: EventAct::Receive {
+            messages: Messages::none(),
+        },
     }
 }
