@@ -9,7 +9,7 @@ ghost use Rattle.event_log.specs.SentMessages.{place_for};
 use crate::packed_events::{LentAct, LentEvent, PackedEvents};
 use crate::sent_messages::SentMessages;
 use std::alloc::{AllocError, Global};
-use timed_events::{Event, EventAct};
+use timed_events::{Event, EventAct, Messages};
 
 /// The events that were kept, with the places of the sends in place of the names of messages.
 pub(crate) fn events_of(
@@ -40,7 +40,7 @@ pub(crate) fn event_of(
     let act = match &kept.act {
         LentAct::Send { to } => EventAct::Send { to: *to },
         LentAct::Receive { messages: names } => EventAct::Receive {
-            messages: places_of(alloc, sent, kept.processor, names)?,
+            messages: Messages::new(alloc, places_of(alloc, sent, kept.processor, names)?)?,
         },
     };
     Ok(Event {

@@ -12,7 +12,7 @@ use crate::lost_sends::left_message;
 use crate::reading::MAX_EVENTS;
 use merged_receives::{MergedParts, merged_parts};
 use std::alloc::{AllocError, Global};
-use timed_events::{Clock, Event, EventAct, EventError};
+use timed_events::{Clock, Event, EventAct, EventError, Messages};
 
 /// The events of a log, of which some are made of several receives.
 #[derive(Drop)]
@@ -95,7 +95,7 @@ fn joined_event(
     let act = match &event.act {
         EventAct::Send { to } => EventAct::Send { to: *to },
         EventAct::Receive { .. } => EventAct::Receive {
-            messages: joined_messages(alloc, events, part, places)?,
+            messages: Messages::new(alloc, joined_messages(alloc, events, part, places)?)?,
         },
     };
     Ok(Event {

@@ -7,7 +7,7 @@ ghost use Rattle.event_log.specs.LostSends.{AreLeft, is_lost, is_received, renum
 
 use crate::reading::MAX_EVENTS;
 use std::alloc::{AllocError, Global};
-use timed_events::{Event, EventAct, Hop, hops_of};
+use timed_events::{Event, EventAct, Hop, Messages, hops_of};
 
 /// The events of a log but lost sends.
 #[derive(Drop)]
@@ -149,7 +149,7 @@ fn left_event(alloc: Global, event: &Event, places: &[u32]) -> Result<Event, All
     let act = match &event.act {
         EventAct::Send { to } => EventAct::Send { to: *to },
         EventAct::Receive { messages } => EventAct::Receive {
-            messages: left_messages(alloc, messages, places)?,
+            messages: Messages::new(alloc, left_messages(alloc, messages.as_slice(), places)?)?,
         },
     };
     Ok(Event {

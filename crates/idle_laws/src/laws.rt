@@ -7,8 +7,6 @@ ghost use Rattle.step_trace.specs.Traces.{Recorded};
 ghost use Rattle.timed_events.specs.Checks.{AreMeant};
 ghost use Rattle.idle_laws.specs.Fillings.{IsFull, IsPlain, IsSparse, Log};
 
-use std::alloc::Global;
-
 /// The communication bounds of a log with receives of nothing.
 ///
 /// With one in the last tick of each short silence a bound holds exactly if it does with one in each of their ticks
@@ -49,10 +47,8 @@ pub fn phi_laws()
 /// A log that has a trace with a receive of nothing in the last tick of each short silence has one with a receive of
 /// nothing in each of their ticks (`exists`). The log's events and processors are as `idle_trace` asks.
 ///
-/// A theorem over the definitions, as those of `delta_laws`. Calling it makes an empty list.
-pub fn filling_laws(alloc: Global)
+/// A theorem over the definitions, as those of `delta_laws`.
+pub fn filling_laws()
     ensures exists { (log : Log) (limit : ℕ) (sparse : Recorded) → log.n ≤ MAX_PROCESSORS → AreMeant log.events log.n
         → IsSparse log limit sparse → (full : Recorded) × IsFull log limit full }
-{
-    let _nothing: Vec<Option<u32>> = Vec::new(alloc);
-}
+{}

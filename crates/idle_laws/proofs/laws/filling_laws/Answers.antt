@@ -1,6 +1,7 @@
+use Rattle.std.proofs.Common.{[], refl}
 use Rattle.timed_events.specs.declared.events.EventAct.TheVariants.{Receive}
 use Rattle.idle_laws.proofs.FullTraces.{full}
 use Rattle.idle_laws.proofs.laws.filling_laws.Goals as goal
 
 pub returns : goal.returns
-returns c = record { exists = full (Receive c.new-nothing.result) c.new-nothing.ensures.items }
+returns c = record { exists = full (Receive []) refl }
