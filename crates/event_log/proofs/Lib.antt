@@ -31,3 +31,4 @@ pub mod PlacedErrors
 pub mod TickRows
 pub mod TickTables
 pub mod PackedEvents
+pub mod PlacedEvents

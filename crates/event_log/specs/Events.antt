@@ -1,5 +1,5 @@
 -- The events of a log, with numbers in place of names.
-use Rattle.std.specs.Prelude.{ℕ, ℤ, List, Option, map}
+use Rattle.std.specs.Prelude.{ℕ, ℤ, List, [], Option, map}
 use Rattle.timed_events.specs.declared.events.Event.{Event}
 use Rattle.timed_events.specs.declared.events.EventAct.{EventAct}
 use Rattle.timed_events.specs.declared.events.EventAct.TheVariants as act
@@ -12,6 +12,11 @@ use Rattle.event_log.specs.SentMessages.{Sent, place_for}
 pub data SeenAct : Type 0 where
   Sends : ℕ → SeenAct
   Receives : List (Option ℕ) → SeenAct
+
+-- the messages that an event receives
+abbrev pub received : SeenAct → List (Option ℕ)
+received (Sends to) = []
+received (Receives messages) = messages
 
 -- an event, with its lists plain
 pub record Seen : Type 0 where

@@ -1,11 +1,13 @@
--- Events packed: the names of all received messages stand one after the other in one list of bytes.
-use Rattle.std.specs.Prelude.{ℕ, ◌+◌, ◌≤◌, List, length, slice_range, ⊤}
+-- Events packed: all received messages stand one after the other in one list, first by their names, later by the places
+-- of their sends.
+use Rattle.std.specs.Prelude.{ℕ, ◌+◌, ◌≤◌, List, Option, length, slice_range, ⊤}
 use Rattle.event_log.specs.declared.packed_events.LentEvent.{LentEvent}
 use Rattle.event_log.specs.declared.packed_events.LentAct.{LentAct}
 use Rattle.event_log.specs.declared.packed_events.LentAct.TheVariants as lent
 use Rattle.event_log.specs.declared.packed_events.PackedEvent.{PackedEvent}
 use Rattle.event_log.specs.declared.packed_events.PackedAct.{PackedAct}
 use Rattle.event_log.specs.declared.packed_events.PackedAct.TheVariants as packed
+use Rattle.event_log.specs.Events.{Seen, SeenAct, Sends, Receives}
 use Rattle.event_log.specs.KeptEvents.{KeptAct, KeptEvent, Send, Receive}
 
 abbrev pub lent_act : LentAct → KeptAct
@@ -32,10 +34,18 @@ unpacked_act names (packed.Receive from to) = Receive (slice_range names from to
 abbrev pub unpacked : List ℕ → PackedEvent → KeptEvent
 unpacked names event = record { time = event.time; processor = event.processor; act = unpacked_act names event.act }
 
+abbrev pub placed_act : List (Option ℕ) → PackedAct → SeenAct
+placed_act messages (packed.Send to) = Sends to
+placed_act messages (packed.Receive from to) = Receives (slice_range messages from to)
+
+-- the event that was packed, with its messages out of these
+abbrev pub placed : List (Option ℕ) → PackedEvent → Seen
+placed messages event = record { time = event.time; processor = event.processor; act = placed_act messages event.act }
+
 unfoldable pub ActIsWithin : ℕ → PackedAct → Type 0
 ActIsWithin count (packed.Send to) = ⊤
 ActIsWithin count (packed.Receive from to) = (from ≤ to) × (to ≤ count)
 
--- the names of a packed event stand within so many bytes
+-- the messages of a packed event stand within so many bytes of names, or so many places
 abbrev pub IsWithin : ℕ → PackedEvent → Type 0
 IsWithin count event = ActIsWithin count event.act

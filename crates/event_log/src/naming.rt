@@ -9,9 +9,9 @@ ghost use Rattle.event_log.specs.LogRecords.{said};
 ghost use Rattle.event_log.specs.Names.{with_name};
 ghost use Rattle.event_log.specs.PackedEvents.{lent_act};
 
-use crate::events::events_of;
 use crate::names::{MAX_NODES, Name, NameSet};
 use crate::packed_events::{LentAct, LentEvent, PackedEvents};
+use crate::placed_events::PlacedEvents;
 use crate::records::{Told, Verb};
 use crate::refusals::LogError;
 use crate::results::both;
@@ -60,7 +60,7 @@ impl Naming {
         ensures nodes { IfOk result (λ r. r.0 ≡ self.nodes) }
         ensures events { IfOk result (λ r. map seen r.1.items ≡ map (resolved self.sent) self.events) }
     {
-        let events = events_of(alloc, &self.sent, &self.events);
+        let events = events_of(alloc, self.sent, self.events);
         both(Ok(self.nodes), events)
     }
 
@@ -94,6 +94,30 @@ impl Naming {
             Err(_) => Err(LogError::Memory),
         }
     }
+}
+
+/// The events with the places of sends in place of the names of messages. The names are freed before these events take
+/// memory.
+fn events_of(
+    alloc: Global,
+    sent: SentMessages,
+    events: PackedEvents,
+) -> Result<Vec<Event>, AllocError>
+    ensures { IfOk result (λ made. map seen made.items ≡ map (resolved sent) events) }
+{
+    let placed = placed_events(alloc, sent, events)?;
+    placed.into_events(alloc)
+}
+
+/// The events with the places of sends in place of the names of messages, which are freed.
+fn placed_events(
+    alloc: Global,
+    sent: SentMessages,
+    events: PackedEvents,
+) -> Result<PlacedEvents, AllocError>
+    ensures { IfOk result (λ placed. placed ≡ map (resolved sent) events) }
+{
+    events.into_placed(alloc, &sent)
 }
 
 /// The numbers of the nodes that an event names.

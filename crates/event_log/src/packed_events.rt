@@ -1,9 +1,12 @@
 //! The events of a log as they are kept until all sends are known, in little memory.
 
-ghost use Rattle.std.specs.Prelude.{◌≡◌, ◌++◌, ◌∷◌, [], IfOk, OnOk, length, option_map, slice_get};
+ghost use Rattle.std.specs.Prelude.{◌≡◌, ◌++◌, ◌∷◌, [], IfOk, OnOk, length, map, option_map, slice_get};
+ghost use Rattle.event_log.specs.Events.{resolved};
 ghost use Rattle.event_log.specs.KeptEvents.{names_of};
 ghost use Rattle.event_log.specs.PackedEvents.{ActIsWithin, IsWithin, lent_act, lent_event, packed_act, packed_event, unpacked, unpacked_act};
 
+use crate::placed_events::PlacedEvents;
+use crate::sent_messages::SentMessages;
 use std::alloc::{AllocError, Global};
 use std::marker::Model;
 use std::mem::size_of;
@@ -32,16 +35,16 @@ pub(crate) struct PackedEvents {
 }
 
 #[derive(Clone, Copy)]
-struct PackedEvent {
-    time: i128,
-    processor: u32,
-    act: PackedAct,
+pub(crate) struct PackedEvent {
+    pub(crate) time: i128,
+    pub(crate) processor: u32,
+    pub(crate) act: PackedAct,
 }
 
 #[derive(Clone, Copy)]
-enum PackedAct {
+pub(crate) enum PackedAct {
     Send { to: u32 },
-    /// Where the names of the messages begin, and where they end.
+    /// Where the messages or their names begin, and where they end.
     Receive { from: u32, to: u32 },
 }
 
@@ -96,10 +99,22 @@ impl PackedEvents {
         self.events.push_reserved(packed);
         Ok(())
     }
+
+    /// The same events with the places of the sends in place of the names of messages. Takes no second list of events.
+    pub(crate) fn into_placed(
+        self,
+        alloc: Global,
+        sent: &SentMessages,
+    ) -> Result<PlacedEvents, AllocError>
+        ensures { IfOk result (λ p. p ≡ map (resolved sent.now) self) }
+    {
+        let PackedEvents { events, names } = self;
+        PlacedEvents::of(alloc, sent, names.as_slice(), events)
+    }
 }
 
 /// The event that was packed, with its names out of these bytes.
-fn unpacked<'a>(names: &'a [u8], event: &PackedEvent) -> LentEvent<'a>
+pub(crate) fn unpacked<'a>(names: &'a [u8], event: &PackedEvent) -> LentEvent<'a>
     requires { IsWithin (length names.now) event.now }
     ensures { lent_event result ≡ unpacked names.now event.now }
 {
@@ -151,7 +166,7 @@ fn packed_act(start: usize, act: &LentAct<'_>) -> Result<PackedAct, AllocError>
 
 /// The number in four bytes. A greater one counts as out of memory, but none comes: a text is too short for such a
 /// place, and the nodes are too few.
-fn narrow(number: u64) -> Result<u32, AllocError>
+pub(crate) fn narrow(number: u64) -> Result<u32, AllocError>
     ensures { IfOk result (λ narrow. narrow ≡ number) }
 {
     match u32::try_from(number) {

@@ -1,0 +1,163 @@
+//! The events of a log once all its sends are known, in little memory.
+
+ghost use Rattle.std.specs.Prelude.{◌≡◌, ◌++◌, IfOk, OnOk, length, map};
+ghost use Rattle.std.specs.List.{All};
+ghost use Rattle.event_log.specs.Events.{received, resolved, seen};
+ghost use Rattle.event_log.specs.Names.{parts_of};
+ghost use Rattle.event_log.specs.PackedEvents.{ActIsWithin, IsWithin, placed, placed_act, unpacked};
+ghost use Rattle.event_log.specs.SentMessages.{place_for};
+
+use crate::packed_events::{LentAct, PackedAct, PackedEvent, narrow, unpacked};
+use crate::sent_messages::SentMessages;
+use std::alloc::{AllocError, Global};
+use std::marker::Model;
+use timed_events::{Event, EventAct, Messages};
+
+/// The events of a log once all its sends are known, each in 32 bytes, and the messages that they receive: each message
+/// by the place of the event that sent it.
+#[derive(Drop)]
+pub(crate) struct PlacedEvents {
+    events: Vec<PackedEvent>,
+    /// The messages of all receives, one after the other.
+    messages: Vec<Option<u32>>,
+}
+
+impl Model for PlacedEvents {
+    ghost use Rattle.std.specs.Prelude.{List, length, map};
+    ghost use Rattle.std.specs.List.{All};
+    ghost use Rattle.event_log.specs.Events.{Seen};
+    ghost use Rattle.event_log.specs.PackedEvents.{IsWithin, placed};
+
+    ghost Value = { List Seen };
+
+    ghost view = { λ p. map (placed p.messages.items) p.events.items };
+
+    ghost invariant = { λ p. All (IsWithin (length p.messages.items)) p.events.items };
+}
+
+impl PlacedEvents {
+    /// These events, with the places of the sends in place of the names of messages. Takes no second list of events.
+    pub(crate) fn of(
+        alloc: Global,
+        sent: &SentMessages,
+        names: &[u8],
+        mut events: Vec<PackedEvent>,
+    ) -> Result<PlacedEvents, AllocError>
+        requires { All (IsWithin (length names.now)) events.items }
+        ensures { IfOk result (λ p. p ≡ map (resolved sent.now) (map (unpacked names.now) events.items)) }
+    {
+        let messages = place_all(alloc, sent, names, &mut events)?;
+        Ok(PlacedEvents { events, messages })
+    }
+
+    /// The events, in their order.
+    pub(crate) fn into_events(self, alloc: Global) -> Result<Vec<Event>, AllocError>
+        ensures { IfOk result (λ events. map seen events.items ≡ self) }
+    {
+        events_of(alloc, self.messages.as_slice(), self.events.as_slice())
+    }
+}
+
+/// Puts the places of the sends in place of the names of messages. Gives the messages of all events.
+fn place_all(
+    alloc: Global,
+    sent: &SentMessages,
+    names: &[u8],
+    events: &mut [PackedEvent],
+) -> Result<Vec<Option<u32>>, AllocError>
+    requires { All (IsWithin (length names.now)) events.old }
+    ensures within { IfOk result (λ messages. All (IsWithin (length messages.items)) events.new) }
+    ensures placed { IfOk result (λ messages. map (placed messages.items) events.new ≡ map (resolved sent.now) (map (unpacked names.now) events.old)) }
+{
+    let mut messages = Vec::new(alloc);
+    for i in 0..events.len() {
+        events[i].act = placed_act(alloc, sent, names, &events[i], &mut messages)?;
+    }
+    Ok(messages)
+}
+
+/// What an event does, with the places of the sends in place of the names of messages. These places go after those of
+/// the events before.
+#[tactic(auto, unfolding(crate::specs::PackedEvents::ActIsWithin))]
+fn placed_act(
+    alloc: Global,
+    sent: &SentMessages,
+    names: &[u8],
+    event: &PackedEvent,
+    messages: &mut Vec<Option<u32>>,
+) -> Result<PackedAct, AllocError>
+    requires { IsWithin (length names.now) event.now }
+    ensures messages { OnOk result (messages.new.items ≡ messages.old.items ++ received (resolved sent.now (unpacked names.now event.now)).act) }
+    ensures within { IfOk result (λ act. ActIsWithin (length messages.new.items) act) }
+    ensures placed { IfOk result (λ act. placed_act messages.new.items act ≡ (resolved sent.now (unpacked names.now event.now)).act) }
+{
+    let event = unpacked(names, event);
+    match event.act {
+        LentAct::Send { to } => Ok(PackedAct::Send { to: narrow(to)? }),
+        LentAct::Receive { messages: names } => {
+            let from = narrow(messages.len() as u64)?;
+            push_places(alloc, sent, event.processor, names, messages)?;
+            let to = narrow(messages.len() as u64)?;
+            Ok(PackedAct::Receive { from, to })
+        }
+    }
+}
+
+/// Puts last the places of the sends of messages that a processor receives. Their names have one space between them.
+fn push_places(
+    alloc: Global,
+    sent: &SentMessages,
+    processor: u64,
+    names: &[u8],
+    places: &mut Vec<Option<u32>>,
+) -> Result<(), AllocError>
+    ensures { OnOk result (places.new.items ≡ places.old.items ++ map (place_for sent.now processor) (parts_of names.now)) }
+{
+    if names.len() == 0 {
+        return Ok(());
+    }
+    for name in names.split(|byte| *byte == b' ') {
+        let place = sent.place_for(alloc, processor, name)?;
+        places.push(place)?;
+    }
+    Ok(())
+}
+
+/// The events, with their messages out of these.
+fn events_of(
+    alloc: Global,
+    messages: &[Option<u32>],
+    kept: &[PackedEvent],
+) -> Result<Vec<Event>, AllocError>
+    requires { All (IsWithin (length messages.now)) kept.now }
+    ensures { IfOk result (λ events. map seen events.items ≡ map (placed messages.now) kept.now) }
+{
+    let mut events = Vec::with_capacity(alloc, kept.len())?;
+    for event in kept {
+        events.push(event_of(alloc, messages, event)?)?;
+    }
+    Ok(events)
+}
+
+/// The event, with its messages out of these.
+#[tactic(auto, unfolding(crate::specs::PackedEvents::ActIsWithin))]
+fn event_of(
+    alloc: Global,
+    messages: &[Option<u32>],
+    kept: &PackedEvent,
+) -> Result<Event, AllocError>
+    requires { IsWithin (length messages.now) kept.now }
+    ensures { IfOk result (λ event. seen event ≡ placed messages.now kept.now) }
+{
+    let act = match kept.act {
+        PackedAct::Send { to } => EventAct::Send { to: u64::from(to) },
+        PackedAct::Receive { from, to } => EventAct::Receive {
+            messages: Messages::copied(alloc, &messages[from as usize..to as usize])?,
+        },
+    };
+    Ok(Event {
+        time: kept.time,
+        processor: u64::from(kept.processor),
+        act,
+    })
+}
