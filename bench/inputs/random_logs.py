@@ -299,7 +299,9 @@ def no_log(chance, log):
 
 
 def too_large(chance, log):
-    log.text = chance.choice([b"\n", b",", b"x"]) * (TEXT_LIMIT + 1)
+    # (a window is read in parts of 1 MiB, so that a record which is above the limit by less may be read)
+    most = TEXT_LIMIT + (1 << 20 if "from" in log.options else 0)
+    log.text = chance.choice([b"\n", b",", b"x"]) * (most + 1)
 
 
 def no_column(chance, log):
