@@ -19,6 +19,7 @@ use command_options::{ImportForm, ImportOptions};
 use event_log::Options;
 use log_windows::{log_import, log_table, log_ticks};
 use std::alloc::{AllocError, Global};
+use std::borrow::CowSlice;
 use text_commands::{
     Answer, Replay, ToldDrawing, ToldPage, Upgrade, answer_to, import_options, judgement_on,
     judgement_status, ticks_text, verdict_on,
@@ -196,7 +197,7 @@ fn trace_text_of(alloc: Global, text: &[u8], options: &Options) -> Result<Vec<u8
     ensures trace { IfOk result (λ out. IsTextOfLog ImportForm.Trace options.now text.now out.items) }
     ensures refused { IfErr result (IsUnimported ImportForm.Trace options.now text.now) }
 {
-    let import = log_import(alloc, text, options)?;
+    let import = log_import(alloc, CowSlice::Borrowed(text), options)?;
     Upgrade.answer(alloc, import.trace)
 }
 

@@ -22,6 +22,7 @@ pub mod HopLines
 pub mod LostSends
 pub mod Merges
 pub mod Imports
+pub mod LogTraces
 pub mod MergedLogs
 pub mod Given
 pub mod Alignments

@@ -1,11 +1,13 @@
 //! Logs read as traces.
 
 ghost use Rattle.std.specs.Prelude.{◌≡◌, ◌*◌, ◌^◌, ◌<◌, ◌≤◌, ℕ, [], Err, Ok, false, IfErr, IfOk, None, OnErr, Some, length, unwrap_or};
-ghost use Rattle.timed_events.specs.Checks.{AreMeant, AreOfProcessors};
+ghost use Rattle.std.specs.Cow.{cow_slice_items};
+ghost use Rattle.timed_events.specs.Checks.{AreOfProcessors};
 ghost use Rattle.timed_events.specs.Lateness.{lateness_of};
 ghost use Rattle.timed_events.specs.Times.{least_time};
-ghost use Rattle.event_log.specs.Imports.{ArePlacedBy, IsBehindCycle, IsIdleErrorUnlessMemory, IsImportOf, IsLogRefusal, IsMadeBy, IsPlacedImport, IsPlacedOfLog, IsRead, IsReadRefusal, IsUnmadeFor, IsUnmadeUnlessMemory, above_zero, clock_in, end_in, idle_place, units_in, until_in, width_in};
+ghost use Rattle.event_log.specs.Imports.{IsBehindCycle, IsIdleErrorUnlessMemory, IsImportOf, IsLogRefusal, IsPlacedImport, IsPlacedOfLog, IsRead, IsReadRefusal, IsUnmadeUnlessMemory, above_zero, clock_in, end_in, idle_place, units_in, until_in, width_in};
 ghost use Rattle.event_log.specs.Given.{AreGiven};
+ghost use Rattle.event_log.specs.LogTraces.{HavePassed};
 ghost use Rattle.event_log.specs.Logs.{seen_log};
 ghost use Rattle.event_log.specs.MergedLogs.{parts_seen};
 ghost use Rattle.event_log.specs.SoundLogs.{IsSound};
@@ -16,6 +18,7 @@ use crate::event_refusals::error_of;
 use crate::idle_limits::limit_for;
 use crate::left_imports::left_import;
 use crate::log_places::LogPlaces;
+use crate::log_traces::{LogTrace, PassedEvents, passed_events, trace_of_passed};
 use crate::logs::{NamedEvents, events_of_log};
 use crate::names::NameSet;
 use crate::options::Options;
@@ -24,11 +27,9 @@ use crate::refusals::LogError;
 use crate::times::{LogEnd, TimeKind, TimeUnit, Width, nanoseconds_in};
 use clock_offsets::Offsets;
 use std::alloc::{AllocError, Global};
-use step_trace::{MAX_PROCESSORS, MAX_STEPS, MIN_PROCESSORS, Trace};
-use timed_events::{
-    Clock, Event, EventError, IdleError, Lateness, Moved, PlacedIdleTrace, PlacedTrace, idle_trace,
-    lateness_of, least_time, placed_trace,
-};
+use std::borrow::CowSlice;
+use step_trace::Trace;
+use timed_events::{Clock, Event, EventError, IdleError, Lateness, Moved, lateness_of, least_time};
 use trace_text::MAX_TEXT_BYTES;
 
 /// A log read as a trace.
@@ -61,16 +62,6 @@ pub struct IdleReceives {
     pub limit: u128,
 }
 
-/// The trace of a log, how far its events moved, and the receives of nothing that were added. With the places of the
-/// events and of these receives in the order of its steps.
-#[derive(Drop)]
-pub(crate) struct LogTrace {
-    pub(crate) trace: Trace,
-    pub(crate) moved: Moved,
-    pub(crate) idle: Option<IdleReceives>,
-    pub(crate) places: Vec<u32>,
-}
-
 /// Reads a log as a trace: each event is one step, in the tick of its time or, if events may be spread, as little later
 /// as need be.
 ///
@@ -81,10 +72,16 @@ pub(crate) struct LogTrace {
 /// Refuses in the order of `LogError`. If events may be spread, none is NotLater or SecondEvent. Cycle then comes after
 /// the other refusals of events, and TooManyTicks last if an event came too far. Memory comes only for a text that
 /// isn't too large.
-pub fn read_log(alloc: Global, text: &[u8], options: &Options) -> Result<Import, LogError>
-    ensures import { IfOk result (λ import. IsImportOf options.now text.now import) }
-    ensures refused { IfErr result (λ why. IsLogRefusal options.now text.now why) }
-    ensures more { result ≡ Err LogError.Memory → length text.now ≤ MAX_TEXT_BYTES }
+///
+/// A text that is given, not lent, is freed once no refusal can name something in it: before the trace is made.
+pub fn read_log(
+    alloc: Global,
+    text: CowSlice<'_, u8, Global>,
+    options: &Options,
+) -> Result<Import, LogError>
+    ensures import { IfOk result (λ import. IsImportOf options.now (cow_slice_items text.entry) import) }
+    ensures refused { IfErr result (λ why. IsLogRefusal options.now (cow_slice_items text.entry) why) }
+    ensures more { result ≡ Err LogError.Memory → length (cow_slice_items text.entry) ≤ MAX_TEXT_BYTES }
 {
     Ok(placed_import(alloc, text, options)?.import)
 }
@@ -115,22 +112,22 @@ pub(crate) struct PlacedImport {
 /// Refuses the same.
 pub(crate) fn placed_import(
     alloc: Global,
-    text: &[u8],
+    text: CowSlice<'_, u8, Global>,
     options: &Options,
 ) -> Result<PlacedImport, LogError>
-    ensures import { IfOk result (λ p. IsPlacedImport options.now text.now p.import p.events.items p.logged p.left_at (parts_seen p.parts) p.first p.clock p.places.items) }
+    ensures import { IfOk result (λ p. IsPlacedImport options.now (cow_slice_items text.entry) p.import p.events.items p.logged p.left_at (parts_seen p.parts) p.first p.clock p.places.items) }
     ensures long { IfOk result (λ p. length p.places.items ≡ length p.import.trace.steps) }
     ensures short { IfOk result (λ p. p.clock.width < 2 ^ 94) }
-    ensures refused { IfErr result (λ why. IsLogRefusal options.now text.now why) }
-    ensures more { result ≡ Err LogError.Memory → length text.now ≤ MAX_TEXT_BYTES }
+    ensures refused { IfErr result (λ why. IsLogRefusal options.now (cow_slice_items text.entry) why) }
+    ensures more { result ≡ Err LogError.Memory → length (cow_slice_items text.entry) ≤ MAX_TEXT_BYTES }
 {
     if text.len() > MAX_TEXT_BYTES {
         return Err(LogError::TooLarge);
     }
-    let log = events_by(alloc, text, options)?;
+    let log = events_by(alloc, &text, options)?;
     let clock = clock_for(options, log.kind)?;
     let limit = limit_for(options, log.kind, &clock)?;
-    let aligned = aligned_log(alloc, text, log, options.align)?;
+    let aligned = aligned_log(alloc, &text, log, options.align)?;
     let lateness = lateness_in(alloc, &aligned.log)?;
     let spread = options.spread;
     let merge = options.merge;
@@ -152,7 +149,7 @@ pub(crate) fn placed_import(
 /// Refuses the first reason against them. Memory may come at any step.
 fn whole_import(
     alloc: Global,
-    text: &[u8],
+    text: CowSlice<'_, u8, Global>,
     aligned: AlignedLog,
     lateness: Lateness,
     clock: Clock,
@@ -164,15 +161,39 @@ fn whole_import(
     ensures made { IfOk result (λ p. IsPlacedOfLog false false limit spread (length aligned.log.nodes) aligned.log.events.items clock p.import p.events.items p.logged p.left_at (parts_seen p.parts) p.first p.places.items) }
     ensures given { IfOk result (λ p. AreGiven aligned lateness clock p) }
     ensures long { IfOk result (λ p. length p.places.items ≡ length p.import.trace.steps) }
-    ensures refused { IfErr result (IsUnmadeUnlessMemory false false limit spread text.now aligned.log.nodes aligned.log.events.items clock) }
+    ensures refused { IfErr result (IsUnmadeUnlessMemory false false limit spread (cow_slice_items text.entry) aligned.log.nodes aligned.log.events.items clock) }
 {
     let mut aligned = aligned;
+    let passed = passed_log(alloc, &text, &aligned.log, &clock, spread, limit)?;
+    drop(text);
     let n = aligned.log.nodes.len() as u64;
     let logged = aligned.log.events.len();
     let first = least_time(aligned.log.events.as_slice());
-    match trace_of_log(alloc, n, &mut aligned.log.events, &clock, spread, limit) {
-        Ok(made) => Ok(import_of(aligned, made, lateness, logged, first, clock)),
-        Err(why) => Err(log_error(alloc, text, &aligned.log, why)),
+    let events = &mut aligned.log.events;
+    let made = trace_of_passed(alloc, n, events, &clock, spread, limit, passed)?;
+    Ok(import_of(aligned, made, lateness, logged, first, clock))
+}
+
+/// Tests whether the events of a log make a trace.
+///
+/// Refuses the first reason against them, or Memory.
+fn passed_log(
+    alloc: Global,
+    text: &[u8],
+    log: &NamedEvents,
+    clock: &Clock,
+    spread: bool,
+    limit: Option<u128>,
+) -> Result<PassedEvents, LogError>
+    requires sound { IsSound (seen_log log.now) }
+    requires width { 0 < clock.now.width }
+    ensures passed { IfOk result (HavePassed limit spread (length log.now.nodes) log.now.events.items clock.now) }
+    ensures refused { IfErr result (IsUnmadeUnlessMemory false false limit spread text.now log.now.nodes log.now.events.items clock.now) }
+{
+    let n = log.nodes.len() as u64;
+    match passed_events(alloc, n, log.events.as_slice(), clock, spread, limit) {
+        Ok(passed) => Ok(passed),
+        Err(why) => Err(log_error(alloc, text, log, why)),
     }
 }
 
@@ -360,70 +381,5 @@ fn lateness_in(alloc: Global, log: &NamedEvents) -> Result<Lateness, LogError>
     match lateness_of(alloc, log.events.as_slice()) {
         Ok(lateness) => Ok(lateness),
         Err(_) => Err(LogError::Memory),
-    }
-}
-
-/// The trace of the events of a log, with receives of nothing in silences of at most so many ticks, if there is a
-/// limit. These are behind the events then; after a refusal the events are unchanged.
-pub(crate) fn trace_of_log(
-    alloc: Global,
-    n: u64,
-    events: &mut Vec<Event>,
-    clock: &Clock,
-    spread: bool,
-    limit: Option<u128>,
-) -> Result<LogTrace, IdleError>
-    requires least { MIN_PROCESSORS ≤ n }
-    requires most { n ≤ MAX_PROCESSORS }
-    requires some { 0 < length events.old.items }
-    requires few { length events.old.items ≤ MAX_STEPS }
-    requires meant { AreMeant events.old.items n }
-    requires width { 0 < clock.now.width }
-    ensures trace { IfOk result (λ made. IsMadeBy limit spread n events.old.items clock.now made.trace made.moved made.idle) }
-    ensures places { IfOk result (λ made. ArePlacedBy limit spread n events.old.items clock.now events.new.items made.places.items) }
-    ensures long { IfOk result (λ made. length made.places.items ≡ length made.trace.steps) }
-    ensures unchanged { OnErr result (events.new.items ≡ events.old.items) }
-    ensures refused { IfErr result (λ why. IsUnmadeFor limit spread n events.old.items clock.now why) }
-{
-    let Some(limit) = limit else {
-        let placed = placed_trace(alloc, n, events.as_slice(), clock, spread)?;
-        return Ok(plain_trace(placed));
-    };
-    let placed = idle_trace(alloc, n, events, clock, spread, limit)?;
-    Ok(filled_trace(placed, limit))
-}
-
-/// A trace to which nothing was added.
-fn plain_trace(placed: PlacedTrace) -> LogTrace
-    ensures trace { result.trace ≡ placed.timed.trace }
-    ensures moved { result.moved ≡ placed.timed.moved }
-    ensures idle { result.idle ≡ None }
-    ensures places { result.places.items ≡ placed.places.items }
-{
-    let PlacedTrace { timed, places } = placed;
-    LogTrace {
-        trace: timed.trace,
-        moved: timed.moved,
-        idle: None,
-        places,
-    }
-}
-
-/// A trace with receives of nothing in silences of at most so many ticks.
-fn filled_trace(placed: PlacedIdleTrace, limit: u128) -> LogTrace
-    ensures trace { result.trace ≡ placed.timed.trace }
-    ensures moved { result.moved ≡ placed.timed.moved }
-    ensures idle { result.idle ≡ Some (record { count = placed.timed.added; limit = limit }) }
-    ensures places { result.places.items ≡ placed.places.items }
-{
-    let PlacedIdleTrace { timed, places } = placed;
-    LogTrace {
-        trace: timed.trace,
-        moved: timed.moved,
-        idle: Some(IdleReceives {
-            count: timed.added,
-            limit,
-        }),
-        places,
     }
 }

@@ -1,6 +1,7 @@
 //! Logs read as traces without lost sends, or with merged receives.
 
 ghost use Rattle.std.specs.Prelude.{◌≡◌, ◌<◌, ◌≤◌, ℕ, IfErr, IfOk, MatchBool, Some, ⊤, false, length, slice_index, true};
+ghost use Rattle.std.specs.Cow.{cow_slice_items};
 ghost use Rattle.timed_events.specs.Checks.{AreOfProcessors};
 ghost use Rattle.event_log.specs.Given.{AreGiven};
 ghost use Rattle.event_log.specs.Imports.{IsBehindCycle, IsErrorUnlessMemory, IsLeftCycleError, IsPlacedErrorUnlessMemory, IsPlacedOfLog, IsUnmadeUnlessMemory, moved_in, reason_in, removed_by};
@@ -12,13 +13,16 @@ ghost use Rattle.event_log.specs.SoundLogs.{IsSound};
 use crate::alignments::AlignedLog;
 use crate::event_refusals::error_of;
 use crate::hop_lines::hop_lines;
-use crate::imports::{Import, LogTrace, PlacedImport, trace_of_log};
+use crate::imports::{Import, PlacedImport};
 use crate::log_places::{LogPlaces, hops_in, moved_in, place_in, reason_in};
+use crate::log_traces::{LogTrace, passed_events, trace_of_passed};
 use crate::logs::NamedEvents;
 use crate::reading::MAX_EVENTS;
 use crate::refusals::LogError;
 use crate::taken_events::{TakenEvents, taken_events};
 use std::alloc::{AllocError, Global};
+use std::borrow::CowSlice;
+use std::mem;
 use timed_events::{Clock, EventError, IdleError, Lateness, cycle_of_causes, least_time};
 
 /// The import of the events of an aligned log without lost sends, if `drop`, and then with merged receives, if `merge`.
@@ -28,7 +32,7 @@ use timed_events::{Clock, EventError, IdleError, Lateness, cycle_of_causes, leas
 /// the events that are left. Memory may come at any step.
 pub(crate) fn left_import(
     alloc: Global,
-    text: &[u8],
+    text: CowSlice<'_, u8, Global>,
     aligned: AlignedLog,
     lateness: Lateness,
     clock: Clock,
@@ -43,7 +47,7 @@ pub(crate) fn left_import(
     ensures made { IfOk result (λ p. IsPlacedOfLog drop merge limit spread (length aligned.log.nodes) aligned.log.events.items clock p.import p.events.items p.logged p.left_at (parts_seen p.parts) p.first p.places.items) }
     ensures given { IfOk result (λ p. AreGiven aligned lateness clock p) }
     ensures long { IfOk result (λ p. length p.places.items ≡ length p.import.trace.steps) }
-    ensures refused { IfErr result (IsUnmadeUnlessMemory drop merge limit spread text.now aligned.log.nodes aligned.log.events.items clock) }
+    ensures refused { IfErr result (IsUnmadeUnlessMemory drop merge limit spread (cow_slice_items text.entry) aligned.log.nodes aligned.log.events.items clock) }
 {
     let mut left = taken_events(alloc, &aligned.log, &clock, drop, merge)?;
     let n = aligned.log.nodes.len() as u64;
@@ -57,10 +61,14 @@ pub(crate) fn left_import(
         logged,
     };
     let first = least_time(left.events.as_slice());
-    match trace_of_log(alloc, n, &mut left.events, &clock, spread, limit) {
-        Ok(made) => Ok(left_import_of(aligned, left, made, lateness, counts, first, clock)),
-        Err(why) => Err(left_error(alloc, text, &aligned.log, &left, why)),
-    }
+    let passed = match passed_events(alloc, n, left.events.as_slice(), &clock, spread, limit) {
+        Ok(passed) => passed,
+        Err(why) => return Err(left_error(alloc, &text, &aligned.log, &left, why)),
+    };
+    mem::drop(text);
+    let events = &mut left.events;
+    let made = trace_of_passed(alloc, n, events, &clock, spread, limit, passed)?;
+    Ok(left_import_of(aligned, left, made, lateness, counts, first, clock))
 }
 
 /// How many events are lost sends and how many receives are merged into others, if these are counted, and how many are left.

@@ -14,6 +14,7 @@ mod joined_receives;
 mod laws;
 mod left_imports;
 mod log_places;
+mod log_traces;
 mod logs;
 mod lost_sends;
 mod message_fields;

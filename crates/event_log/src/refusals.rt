@@ -3,6 +3,7 @@
 use crate::columns::Column;
 use crate::cycle_lines::CycleLines;
 use crate::names::Name;
+use std::alloc::AllocError;
 use thiserror::Error;
 use timed_events::Hint;
 
@@ -69,4 +70,15 @@ pub enum LogError {
     TooManySteps,
     /// Out of memory.
     Memory,
+}
+
+impl From<AllocError> for LogError {
+    ghost use Rattle.std.specs.Prelude.{◌≡◌};
+    ghost use Rattle.event_log.specs.declared.refusals.LogError.TheVariants as why;
+
+    ghost from_gives = { λ _ made. made ≡ why.Memory };
+
+    fn from(_: AllocError) -> Self {
+        LogError::Memory
+    }
 }

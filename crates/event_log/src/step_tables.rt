@@ -21,6 +21,7 @@ use crate::options::Options;
 use crate::refusals::LogError;
 use csv::{ByteRecord, Writer};
 use std::alloc::{AllocError, Global};
+use std::borrow::CowSlice;
 use step_trace::{MAX_STEPS, MAX_TICKS, Trace};
 use timed_events::{Event, EventAct, time_at};
 use trace_text::MAX_TEXT_BYTES;
@@ -49,7 +50,7 @@ pub fn read_table(alloc: Global, text: &[u8], options: &Options) -> Result<LogTa
     ensures refused { IfErr result (λ why. IsLogRefusal options.now text.now why) }
     ensures more { result ≡ Err LogError.Memory → length text.now ≤ MAX_TEXT_BYTES }
 {
-    let placed = placed_import(alloc, text, options)?;
+    let placed = placed_import(alloc, CowSlice::Borrowed(text), options)?;
     match table_of(alloc, text, &placed) {
         Ok(table) => Ok(LogTable {
             import: placed.import,

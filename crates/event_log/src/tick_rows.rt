@@ -12,7 +12,9 @@ use crate::step_tables::tick_of;
 use crate::times::TimeKind;
 use std::alloc::{AllocError, Global};
 use step_trace::{MAX_PROCESSORS, MAX_STEPS, MIN_PROCESSORS, Trace};
-use timed_events::{Clock, Event, EventError, PlacedTrace, least_time, placed_trace, ticks_of};
+use timed_events::{
+    Clock, Event, EventError, PlacedTrace, event_ticks, least_time, placed_trace, ticks_of,
+};
 
 /// How many lengths of a tick there are rows of at most.
 const WIDTHS: u64 = 57;
@@ -186,11 +188,13 @@ fn placing_by(
     ensures placing { IfOk result (IsPlacedBy n events.now clock.now) }
     ensures refused { IfErr result (IsTimedRefusal true events.now clock.now) }
 {
-    match placed_trace(alloc, n, events, clock, true) {
-        Ok(placed) => Ok(Some(placing_of(alloc, events, clock, &placed)?)),
-        Err(EventError::TooManyTicks) => Ok(None),
-        Err(why) => Err(why),
-    }
+    let ticked = match event_ticks(alloc, n, events, clock, true) {
+        Ok(ticked) => ticked,
+        Err(EventError::TooManyTicks) => return Ok(None),
+        Err(why) => return Err(why),
+    };
+    let placed = placed_trace(alloc, n, events, clock, true, ticked)?;
+    Ok(Some(placing_of(alloc, events, clock, &placed)?))
 }
 
 /// The numbers of a trace of events.

@@ -1,5 +1,5 @@
 -- Records taken one after the other, of which the first ones are refused.
-use Rattle.std.proofs.Common.{◌≡◌, ℕ, List, [], ◌∷◌, ◌++◌, Result, Ok, Err, Bool, true, false, ap}
+use Rattle.std.proofs.Common.{◌≡◌, ℕ, List, [], ◌∷◌, ◌++◌, Result, Ok, Err, Bool, true, false}
 use Rattle.std.specs.Prelude.{MatchBool, ⊤}
 use Rattle.trace_text.specs.Records.{after_records, ◌>>=◌}
 

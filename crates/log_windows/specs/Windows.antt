@@ -1,5 +1,5 @@
 -- The window of a log: what is kept of its records, read one after the other.
-use Rattle.std.specs.Prelude.{ℕ, ◌≡◌, ◌+◌, ◌-◌, ◌⊎◌, List, Option, Some, None, Result, Ok, Err, length, nat_le, if◌then◌else◌, MatchBool, ⊤}
+use Rattle.std.specs.Prelude.{ℕ, ◌+◌, List, Option, Some, None, Result, Ok, Err, nat_le, if◌then◌else◌}
 use Rattle.std.specs.Option.{ok_or}
 use Rattle.trace_text.specs.Records.{◌>>=◌, after_records, field_of, records_of_text}
 use Rattle.event_log.specs.declared.columns.Columns.{Columns}

@@ -8,6 +8,7 @@ use crate::numbers::{import_in, refusal_in, table_in};
 use crate::reading::LogWindow;
 use event_log::{Import, LogError, LogTable, Options, TickTable, read_log, read_table, read_ticks};
 use std::alloc::Global;
+use std::borrow::CowSlice;
 use trace_text::MAX_TEXT_BYTES;
 
 /// The import of a window: that of its text, as `read_log` gives it, with the records of the whole log.
@@ -22,7 +23,7 @@ pub fn window_import(
     ensures refused { IfErr result (IsWindowImportRefusal options.now window.now) }
     ensures more { result ≡ Err LogError.Memory → length window.now.text.items ≤ MAX_TEXT_BYTES }
 {
-    match read_log(alloc, &window.text, options) {
+    match read_log(alloc, CowSlice::Borrowed(&window.text), options) {
         Ok(import) => Ok(import_in(&window.places, import)),
         Err(why) => Err(refusal_in(&window.places, why)),
     }

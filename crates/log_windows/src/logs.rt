@@ -1,27 +1,34 @@
 //! A log read as a trace. A record of it may send a message to several nodes, with semicolons between their names.
 
 ghost use Rattle.std.specs.Prelude.{◌≡◌, ◌≤◌, Err, IfErr, IfOk, length};
+ghost use Rattle.std.specs.Cow.{cow_slice_items};
 ghost use Rattle.log_windows.specs.LogImports.{AreLogTicks, IsLogImport, IsLogImportRefusal, IsLogTable, IsLogTicksRefusal};
 
 use crate::imports::{window_import, window_table, window_ticks};
 use crate::lists::{may_list, spread_log};
 use event_log::{Import, LogError, LogTable, Options, TickTable, read_log, read_table, read_ticks};
 use std::alloc::Global;
+use std::borrow::CowSlice;
 use trace_text::MAX_TEXT_BYTES;
 
 /// The import of a log: as `read_log` gives it, once each send is to one node.
 ///
 /// Refuses the same, by the records of the log; and TooLarge, if its text is too large with a record for each send.
-/// Memory comes only for a text that isn't too large.
-pub fn log_import(alloc: Global, text: &[u8], options: &Options) -> Result<Import, LogError>
-    ensures import { IfOk result (IsLogImport options.now text.now) }
-    ensures refused { IfErr result (IsLogImportRefusal options.now text.now) }
-    ensures more { result ≡ Err LogError.Memory → length text.now ≤ MAX_TEXT_BYTES }
+/// Memory comes only for a text that isn't too large. A text that is given, not lent, is freed before the trace is made.
+pub fn log_import(
+    alloc: Global,
+    text: CowSlice<'_, u8, Global>,
+    options: &Options,
+) -> Result<Import, LogError>
+    ensures import { IfOk result (IsLogImport options.now (cow_slice_items text.entry)) }
+    ensures refused { IfErr result (IsLogImportRefusal options.now (cow_slice_items text.entry)) }
+    ensures more { result ≡ Err LogError.Memory → length (cow_slice_items text.entry) ≤ MAX_TEXT_BYTES }
 {
-    if !may_list(text) {
+    if !may_list(&text) {
         return read_log(alloc, text, options);
     }
-    let log = spread_log(alloc, text)?;
+    let log = spread_log(alloc, &text)?;
+    drop(text);
     window_import(alloc, &log, options)
 }
 

@@ -16,6 +16,7 @@ use command_options::ImportForm;
 use event_log::{Import, LogError, LogTable, OptionError, Options, TickTable, read_options};
 use log_windows::{log_import, log_table, log_ticks};
 use std::alloc::Global;
+use std::borrow::CowSlice;
 use std::io::{Read, Write};
 use trace_text::{Counting, write_text};
 
@@ -146,12 +147,12 @@ fn tick_texts(alloc: Global, text: Vec<u8>, options: &Options) -> Result<ImportT
     Ok(ImportTexts { out, notes })
 }
 
-/// A log read as a trace. The text, which takes much memory for a long log, is freed.
+/// A log read as a trace. The text, which takes much memory for a long log, is freed before the trace is made.
 fn import_of(alloc: Global, text: Vec<u8>, options: &Options) -> Result<Import, Fault>
     ensures import { IfOk result (λ import. IsLogImport options.now text.items import) }
     ensures refused { IfErr result (IsUnimported ImportForm.Trace options.now text.items) }
 {
-    Ok(log_import(alloc, &text, options)?)
+    Ok(log_import(alloc, CowSlice::Owned(text), options)?)
 }
 
 /// A log read as a trace, with the table of its steps. The text is freed.

@@ -1,6 +1,6 @@
 -- Events with receives of nothing behind them make a trace.
 use Rattle.std.proofs.Common.{ℕ, ◌≡◌, ◌+◌, ◌-◌, ◌<◌, ◌≤◌, ◌⊎◌, inl, inr, Bool, true, false, cond, ◌||◌, List, [], ◌∷◌, ◌++◌, length, take, get_or, Some, None, zero, suc, refl, sym, ap, ap₂, ◌∙◌, subst, arith}
-use Rattle.std.specs.Prelude.{Result, Ok, Err, IfOk, slice_get, slice_index, slice_index_or, nat_lt}
+use Rattle.std.specs.Prelude.{slice_get, slice_index, slice_index_or, nat_lt}
 use Rattle.std.specs.List.{All, list_any}
 use Rattle.std.specs.Option.{option_map_or}
 use Rattle.std.proofs.lemmas.Bool.{cases_lt, lt-ltb}
@@ -259,7 +259,3 @@ module _ (n : ℕ) (events new : List Event) (ticks all : List ℕ) (last : ℕ)
 
   pub few-slice : (xs : List Event) → xs ≡ new → length events + length idles ≤ MAX_STEPS → length xs ≤ MAX_STEPS
   few-slice xs f few = let a = ap length f in let b = long-grown in omega arith
-
-pub all-free-if : {X Y : Type 0} (n : ℕ) (events : List Event) (ticks : List ℕ) (last limit : ℕ) (result : Result X Y) (items : X → List IdleTick) → AreFit events ticks last → IfOk result (λ v. AreIdle n events ticks last limit (items v)) → IfOk result (λ v. All (IsFree n events ticks last) (items v))
-all-free-if n events ticks last limit (Ok v) items f h = all-free n events ticks last limit (items v) f h
-all-free-if n events ticks last limit (Err e) items f h = tt

@@ -36,4 +36,3 @@ pub mod IdleEnds
 pub mod TickedEvents
 pub mod IdleEvents
 pub mod OneIdle
-pub mod IdlePlaces

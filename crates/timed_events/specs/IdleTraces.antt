@@ -1,10 +1,11 @@
 -- The trace of events with receives of nothing in short silences (own).
-use Rattle.std.specs.Prelude.{ℕ, ◌≡◌, ◌+◌, ◌<◌, ◌++◌, List, length, Bool}
+use Rattle.std.specs.Prelude.{ℕ, ◌≡◌, ◌+◌, ◌<◌, ◌≤◌, ◌++◌, List, length, Bool}
 use Rattle.step_trace.specs.declared.traces.TheConstants.{MAX_STEPS}
 use Rattle.step_trace.specs.Traces.{Recorded}
 use Rattle.timed_events.specs.declared.events.Event.{Event}
 use Rattle.timed_events.specs.declared.events.Clock.{Clock}
 use Rattle.timed_events.specs.declared.idle_ticks.IdleTick.{IdleTick}
+use Rattle.timed_events.specs.declared.idle_traces.Filling.{Filling}
 use Rattle.timed_events.specs.declared.idle_traces.IdleTrace.{IdleTrace}
 use Rattle.timed_events.specs.declared.idle_traces.IdleError.{IdleError}
 use Rattle.timed_events.specs.declared.idle_traces.IdleError.TheVariants.{Events, TooManySteps}
@@ -13,6 +14,7 @@ use Rattle.timed_events.specs.Times.{time_ticks}
 use Rattle.timed_events.specs.TimedTraces.{IsTraceOf}
 use Rattle.timed_events.specs.Spreads.{AreTicks, HavePassed, IsTimedRefusal, last_of, moved_of}
 use Rattle.timed_events.specs.IdleTicks.{AreIdle, AreReceives, ticks_of}
+use Rattle.timed_events.specs.TickedEvents.{AreTicked}
 
 -- the new list has the events and, behind them, a receive of nothing for each of the idle ticks
 pub record IsGrown (events : List Event) (idles : List IdleTick) (new : List Event) : Type 0 where
@@ -63,3 +65,10 @@ pub record AreTooMany (spread : Bool) (n : ℕ) (events : List Event) (clock : C
 abbrev pub IsIdleRefusal : Bool → ℕ → List Event → Clock → ℕ → IdleError → Type 0
 IsIdleRefusal spread n events clock limit (Events why) = IsTimedRefusal spread events clock why
 IsIdleRefusal spread n events clock limit TooManySteps = AreTooMany spread n events clock limit
+
+-- No event is refused; these are the ticks of the events and of the receives of nothing, of which there are no more than
+-- a trace may have steps.
+pub record IsFilling (spread : Bool) (n : ℕ) (events : List Event) (clock : Clock) (limit : ℕ) (filling : Filling) : Type 0 where
+  pub ticked : AreTicked spread events clock filling.ticked
+  pub idle : AreIdle n events filling.ticked.ticks.items filling.ticked.last limit filling.idles.items
+  pub few : length events + length filling.idles.items ≤ MAX_STEPS

@@ -5,8 +5,8 @@ ghost use Rattle.std.specs.List.{All};
 ghost use Rattle.timed_events.specs.declared.events.EventError.TheVariants as refused;
 ghost use Rattle.timed_events.specs.declared.idle_traces.IdleError.TheVariants as idle;
 ghost use Rattle.timed_events.specs.Checks.{AreMeant};
-ghost use Rattle.timed_events.specs.IdleTicks.{AreIdle, AreRising, IsFree, IsIdleReceive, ticks_of};
-ghost use Rattle.timed_events.specs.IdleTraces.{AreFilledPlaces, IsFilled, IsGrown, IsIdleRefusal, IsIdleTimed};
+ghost use Rattle.timed_events.specs.IdleTicks.{AreRising, IsFree, IsIdleReceive, ticks_of};
+ghost use Rattle.timed_events.specs.IdleTraces.{AreFilledPlaces, IsFilling, IsFilled, IsGrown, IsIdleRefusal, IsIdleTimed};
 ghost use Rattle.timed_events.specs.Orders.{IsOrder};
 ghost use Rattle.timed_events.specs.TickedEvents.{AreFit};
 ghost use Rattle.timed_events.specs.Times.{times_refusal};
@@ -14,9 +14,8 @@ ghost use Rattle.timed_events.specs.Times.{times_refusal};
 use crate::events::{Clock, Event, EventAct, EventError};
 use crate::idle_ticks::{IdleTick, idle_ticks};
 use crate::messages::Messages;
-use crate::orders::order_of;
 use crate::spread_traces::Moved;
-use crate::ticked_events::{TickedEvents, ticked_events};
+use crate::ticked_events::{EventTicks, event_ticks};
 use crate::timed_traces::{OrderedTrace, ordered_by_ticks};
 use std::alloc::{AllocError, Global};
 use step_trace::{MAX_PROCESSORS, MAX_STEPS, MIN_PROCESSORS, Trace};
@@ -69,13 +68,57 @@ impl From<AllocError> for IdleError {
     }
 }
 
-/// The trace of the events as `trace_of_events` makes it, and of a receive of nothing in the last tick of each short
-/// silence. That is at most `limit` ticks without an event of a processor: from tick 1 or its event before to its next
-/// event or the last tick. The receives are behind the events in the list: a place from the number of events on is that
-/// of a receive that was added.
+/// The ticks of events that make a trace with receives of nothing, and those of these receives.
+#[derive(Drop)]
+pub struct Filling {
+    pub ticked: EventTicks,
+    pub idles: Vec<IdleTick>,
+}
+
+/// Tests whether events make a trace with a receive of nothing in the last tick of each short silence, and gives the
+/// ticks of all. A short silence is at most `limit` ticks without an event of a processor: from tick 1 or its event
+/// before to its next event or the last tick.
 ///
-/// Asks for the same as `trace_of_events`, and refuses in the same order, by `Events`; TooManySteps comes last but for
-/// Memory. After a refusal the list of events is unchanged.
+/// Asks for the same as `event_ticks`, and refuses in the same order, by `Events`; TooManySteps comes last but for
+/// Memory.
+pub fn filling_of(
+    alloc: Global,
+    n: u64,
+    events: &[Event],
+    clock: &Clock,
+    spread: bool,
+    limit: u128,
+) -> Result<Filling, IdleError>
+    requires most { n ≤ MAX_PROCESSORS }
+    requires some { 0 < length events.now }
+    requires few { length events.now ≤ MAX_STEPS }
+    requires meant { AreMeant events.now n }
+    requires width { 0 < clock.now.width }
+    ensures filling { IfOk result (IsFilling spread n events.now clock.now limit) }
+    ensures refused { IfErr result (λ why. IsIdleRefusal spread n events.now clock.now limit why) }
+    ensures more { result ≡ Err (idle.Events refused.Memory) → times_refusal events.now clock.now ≡ None }
+{
+    let ticked = event_ticks(alloc, n, events, clock, spread)?;
+    let idles = idle_ticks(
+        alloc,
+        n,
+        events,
+        &ticked.ticks,
+        &ticked.order,
+        ticked.last,
+        limit,
+    )?;
+    if MAX_STEPS - events.len() < idles.len() {
+        return Err(IdleError::TooManySteps);
+    }
+    Ok(Filling { ticked, idles })
+}
+
+/// The trace of events in their ticks as `placed_trace` makes it, with receives of nothing in the idle ticks. The receives
+/// are then behind the events in the list: a place from the number of events on is that of a receive that was added.
+///
+/// Asks for 2 to 64 processors, and for events with what `filling_of` gives for them; `spread`, `clock` and `limit` are
+/// read by the clauses alone. Fails only if out of memory: then the list of events is unchanged.
 pub fn idle_trace(
     alloc: Global,
     n: u64,
@@ -83,25 +126,24 @@ pub fn idle_trace(
     clock: &Clock,
     spread: bool,
     limit: u128,
-) -> Result<PlacedIdleTrace, IdleError>
+    filling: Filling,
+) -> Result<PlacedIdleTrace, AllocError>
     requires least { MIN_PROCESSORS ≤ n }
     requires most { n ≤ MAX_PROCESSORS }
     requires some { 0 < length events.old.items }
-    requires few { length events.old.items ≤ MAX_STEPS }
     requires meant { AreMeant events.old.items n }
-    requires width { 0 < clock.now.width }
+    requires filling { IsFilling spread n events.old.items clock.now limit filling }
     ensures trace { IfOk result (λ placed. IsIdleTimed spread n events.old.items clock.now limit placed.timed events.new.items) }
     ensures places { IfOk result (λ placed. AreFilledPlaces spread n events.old.items clock.now limit events.new.items placed.places.items) }
     ensures unchanged { OnErr result (events.new.items ≡ events.old.items) }
-    ensures refused { IfErr result (λ why. IsIdleRefusal spread n events.old.items clock.now limit why) }
-    ensures more { result ≡ Err (idle.Events refused.Memory) → times_refusal events.old.items clock.now ≡ None }
 {
-    let ticked = ticked_events(alloc, n, events.as_slice(), clock, spread)?;
-    let TickedEvents { ticks, last, moved } = ticked;
-    let idles = idles_of(alloc, n, events.as_slice(), &ticks, last, limit)?;
-    if MAX_STEPS - events.len() < idles.len() {
-        return Err(IdleError::TooManySteps);
-    }
+    let Filling { ticked, idles } = filling;
+    let EventTicks {
+        ticks,
+        last,
+        moved,
+        ..
+    } = ticked;
     let added = idles.len() as u64;
     let ordered = filled_trace(alloc, n, events, ticks, last, &idles)?;
     let OrderedTrace { trace, order } = ordered;
@@ -114,26 +156,6 @@ pub fn idle_trace(
         timed,
         places: order,
     })
-}
-
-/// The last ticks of the short silences.
-fn idles_of(
-    alloc: Global,
-    n: u64,
-    events: &[Event],
-    ticks: &[u32],
-    last: u64,
-    limit: u128,
-) -> Result<Vec<IdleTick>, AllocError>
-    requires most { n ≤ MAX_PROCESSORS }
-    requires few { length events.now ≤ MAX_STEPS }
-    requires meant { AreMeant events.now n }
-    requires fit { AreFit events.now ticks.now last }
-    ensures idle { IfOk result (λ v. AreIdle n events.now ticks.now last limit v.items) }
-    ensures free { IfOk result (λ v. All (IsFree n events.now ticks.now last) v.items) }
-{
-    let order = order_of(alloc, events, ticks)?;
-    idle_ticks(alloc, n, events, ticks, &order, last, limit)
 }
 
 /// The trace of the events in their ticks, and of a receive of nothing in each of the idle ticks. The receives are then

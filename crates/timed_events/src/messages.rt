@@ -28,7 +28,7 @@ impl Model for Messages {
 }
 
 impl Messages {
-    ghost use Rattle.std.specs.Prelude.{◌≡◌, [], IfOk};
+    ghost use Rattle.std.specs.Prelude.{◌≡◌, ◌<◌, [], IfOk, OnErr, length};
 
     /// No messages.
     pub fn none() -> Self
@@ -41,7 +41,8 @@ impl Messages {
 
     /// These messages, in this order. They take memory only if there is more than one.
     pub fn new(alloc: Global, items: Vec<Option<u32>>) -> Result<Self, AllocError>
-        ensures { IfOk result (λ messages. messages ≡ items.items) }
+        ensures messages { IfOk result (λ messages. messages ≡ items.items) }
+        ensures more { OnErr result (1 < length items.items) }
     {
         let held = match items.len() {
             0 => Held::Nothing,
@@ -51,10 +52,14 @@ impl Messages {
         Ok(Messages { held })
     }
 
-    /// Copies of these messages, in this order.
+    /// Copies of these messages, in this order. They take memory only if there is more than one.
     pub fn copied(alloc: Global, items: &[Option<u32>]) -> Result<Self, AllocError>
-        ensures { IfOk result (λ messages. messages ≡ items.now) }
+        ensures messages { IfOk result (λ messages. messages ≡ items.now) }
+        ensures more { OnErr result (1 < length items.now) }
     {
+        if items.is_empty() {
+            return Ok(Messages::none());
+        }
         if items.len() == 1 {
             return Ok(Messages {
                 held: Held::One([items[0]]),

@@ -1,14 +1,14 @@
 //! The trace of events that may go to later ticks than those of their times.
 
-ghost use Rattle.std.specs.Prelude.{◌≡◌, ◌<◌, ◌≤◌, ◌+◌, fold, if◌then◌else◌, length, max, nat_lt, true, Err, IfErr, IfOk, None, Some};
+ghost use Rattle.std.specs.Prelude.{◌≡◌, ◌<◌, ◌≤◌, ◌+◌, fold, if◌then◌else◌, length, max, nat_lt, IfOk, None, Some};
 ghost use Rattle.timed_events.specs.Checks.{AreMeant};
-ghost use Rattle.timed_events.specs.Spreads.{moved_of, AreStepPlaces, IsTimed, IsTimedRefusal};
-ghost use Rattle.timed_events.specs.Times.{times_refusal};
+ghost use Rattle.timed_events.specs.Spreads.{moved_of, AreStepPlaces, IsTimed};
+ghost use Rattle.timed_events.specs.TickedEvents.{AreTicked};
 
-use crate::events::{Clock, Event, EventError};
-use crate::ticked_events::spread_events;
-use crate::timed_traces::{OrderedTrace, ordered_by_ticks, ordered_in_time};
-use std::alloc::Global;
+use crate::events::{Clock, Event};
+use crate::ticked_events::EventTicks;
+use crate::timed_traces::trace_in_order;
+use std::alloc::{AllocError, Global};
 use step_trace::{MAX_PROCESSORS, MAX_STEPS, MIN_PROCESSORS, Trace};
 
 /// How far events moved from the ticks of their times.
@@ -36,107 +36,39 @@ pub struct PlacedTrace {
     pub places: Vec<u32>,
 }
 
-/// The trace of the events: of `n` processors of which none may be faulty, all with initial value 0. Each event is in
-/// the tick of its time. If they may be `spread`, it is in the first tick from there on after those of its causes: its
-/// processor's earlier events, and the Sends of the messages that it received. The steps are in the order of their
-/// ticks, and in a tick of their processors; a message's id is the number of its Send.
+/// The trace of events in their ticks: of `n` processors of which none may be faulty, all with initial value 0. The
+/// steps are in the order of their ticks, and in a tick of their processors; a message's id is the number of its Send.
 ///
-/// Asks for 2 to 64 processors, and for at least one event and at most `MAX_STEPS`, each of one of the processors and
-/// to one of them. Ticks have to have a length. Refuses in the order of `EventError`. If events may be spread, no event
-/// is refused for its tick, and TooManyTicks comes last if an event came too far. Memory comes only if the times aren't
-/// refused.
-pub fn trace_of_events(
-    alloc: Global,
-    n: u64,
-    events: &[Event],
-    clock: &Clock,
-    spread: bool,
-) -> Result<TimedTrace, EventError>
-    requires least { MIN_PROCESSORS ≤ n }
-    requires most { n ≤ MAX_PROCESSORS }
-    requires some { 0 < length events.now }
-    requires few { length events.now ≤ MAX_STEPS }
-    requires meant { AreMeant events.now n }
-    requires width { 0 < clock.now.width }
-    ensures trace { IfOk result (λ timed. IsTimed spread n events.now clock.now timed) }
-    ensures refused { IfErr result (λ why. IsTimedRefusal spread events.now clock.now why) }
-    ensures more { result ≡ Err EventError.Memory → times_refusal events.now clock.now ≡ None }
-{
-    Ok(placed_trace(alloc, n, events, clock, spread)?.timed)
-}
-
-/// The same trace as `trace_of_events`, with the places of the events in the order of its steps.
-///
-/// Asks for and refuses the same.
+/// Asks for 2 to 64 processors, and for events with what `event_ticks` gives for them; `spread` and `clock` are read
+/// by the clauses alone. Fails only if out of memory.
 pub fn placed_trace(
     alloc: Global,
     n: u64,
     events: &[Event],
     clock: &Clock,
     spread: bool,
-) -> Result<PlacedTrace, EventError>
+    ticked: EventTicks,
+) -> Result<PlacedTrace, AllocError>
     requires least { MIN_PROCESSORS ≤ n }
     requires most { n ≤ MAX_PROCESSORS }
     requires some { 0 < length events.now }
     requires few { length events.now ≤ MAX_STEPS }
     requires meant { AreMeant events.now n }
-    requires width { 0 < clock.now.width }
+    requires ticked { AreTicked spread events.now clock.now ticked }
     ensures trace { IfOk result (λ placed. IsTimed spread n events.now clock.now placed.timed) }
     ensures places { IfOk result (λ placed. AreStepPlaces spread events.now clock.now placed.places.items) }
-    ensures refused { IfErr result (λ why. IsTimedRefusal spread events.now clock.now why) }
-    ensures more { result ≡ Err EventError.Memory → times_refusal events.now clock.now ≡ None }
 {
-    if spread {
-        return spread_trace(alloc, n, events, clock);
-    }
-    let ordered = ordered_in_time(alloc, n, events, clock)?;
-    Ok(unmoved(ordered))
-}
-
-/// A trace of events of which none moved.
-fn unmoved(ordered: OrderedTrace) -> PlacedTrace
-    ensures trace { result.timed ≡ record { trace = ordered.trace; moved = record { events = 0; ticks = 0; farthest = None } } }
-    ensures places { result.places.items ≡ ordered.order.items }
-{
-    let OrderedTrace { trace, order } = ordered;
-    let moved = Moved {
-        events: 0,
-        ticks: 0,
-        farthest: None,
-    };
-    PlacedTrace {
-        timed: TimedTrace { trace, moved },
-        places: order,
-    }
-}
-
-/// The trace of the events if they may be spread.
-fn spread_trace(
-    alloc: Global,
-    n: u64,
-    events: &[Event],
-    clock: &Clock,
-) -> Result<PlacedTrace, EventError>
-    requires least { MIN_PROCESSORS ≤ n }
-    requires most { n ≤ MAX_PROCESSORS }
-    requires some { 0 < length events.now }
-    requires few { length events.now ≤ MAX_STEPS }
-    requires meant { AreMeant events.now n }
-    requires width { 0 < clock.now.width }
-    ensures trace { IfOk result (λ placed. IsTimed true n events.now clock.now placed.timed) }
-    ensures places { IfOk result (λ placed. AreStepPlaces true events.now clock.now placed.places.items) }
-    ensures refused { IfErr result (λ why. IsTimedRefusal true events.now clock.now why) }
-    ensures more { result ≡ Err EventError.Memory → times_refusal events.now clock.now ≡ None }
-{
-    let ticked = spread_events(alloc, n, events, clock)?;
-    let ordered = ordered_by_ticks(alloc, n, events, &ticked.ticks, ticked.last)?;
-    let timed = TimedTrace {
-        trace: ordered.trace,
-        moved: ticked.moved,
-    };
+    let EventTicks {
+        ticks,
+        last,
+        moved,
+        order,
+    } = ticked;
+    let trace = trace_in_order(alloc, n, events, &ticks, &order, last)?;
+    let timed = TimedTrace { trace, moved };
     Ok(PlacedTrace {
         timed,
-        places: ordered.order,
+        places: order,
     })
 }
 

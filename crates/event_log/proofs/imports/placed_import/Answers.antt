@@ -1,31 +1,38 @@
-use Rattle.std.proofs.Common.{◌<◌, ◌^◌, inl, inr, refl, sym, subst, true, false}
+use Rattle.std.proofs.Common.{ℕ, ◌≡◌, ◌<◌, ◌^◌, List, Ok, inl, inr, refl, sym, subst, true, false, arith}
+use Rattle.std.specs.Cow.{cow_slice_items}
 use Rattle.timed_events.specs.declared.events.Clock.{Clock}
 use Rattle.std.proofs.lemmas.Result.{err_from_is_err_and}
-use Rattle.event_log.specs.Logs.{seen_log}
+use Rattle.event_log.specs.declared.options.Options.{Options}
+use Rattle.event_log.specs.Imports.{IsAlignRefusal, IsRead}
+use Rattle.event_log.specs.Logs.{SeenLog, seen_log}
 use Rattle.event_log.specs.MergedLogs.{parts_seen}
 use Rattle.event_log.proofs.LogRefusals.{large-text, unaligned-refusal, unfit-refusal}
 use Rattle.event_log.proofs.Outcomes.{err-weaker, ok-both}
 use Rattle.event_log.proofs.PlacedImports.{placed-import, unmade-refusal}
 use Rattle.event_log.proofs.imports.placed_import.Goals as goal
 
-pub returns-then-text-gt-MAX_TEXT_BYTES-clause-refused : goal.returns-then-text-gt-MAX_TEXT_BYTES-clause-refused
-returns-then-text-gt-MAX_TEXT_BYTES-clause-refused c = inl (large-text c.args.options.now c.args.text.now c.if-text-gt-MAX_TEXT_BYTES.true)
+-- the events that a lent text gives are those that it gives
+lent-read : (o : Options) (lent text : List ℕ) (log : SeenLog) → lent ≡ text → IsRead o lent (Ok log) → IsRead o text (Ok log)
+lent-read o lent text log same read = subst (λ t. IsRead o t (Ok log)) same read
+
+pub returns-then-len-gt-MAX_TEXT_BYTES-clause-refused : goal.returns-then-len-gt-MAX_TEXT_BYTES-clause-refused
+returns-then-len-gt-MAX_TEXT_BYTES-clause-refused c = inl (large-text c.args.options.now (cow_slice_items c.args.text) (let same = c.len.ensures in let large = c.if-len-gt-MAX_TEXT_BYTES.true in omega (arith, same, large)))
 
 pub returns-in_err-clock-clause-refused : goal.returns-in_err-clock-clause-refused
 returns-in_err-clock-clause-refused c =
     let p = err_from_is_err_and c.from_residual-in_err-clock.result c.from_residual-in_err-clock.ensures.1 in
-    rw (p.1, p.2) (unfit-refusal c.args.options.now c.args.text.now c.in_err-clock.field-0.0 (record {
+    rw (p.1, p.2) (unfit-refusal c.args.options.now (cow_slice_items c.args.text) c.in_err-clock.field-0.0 (record {
       log = seen_log c.in_ok-log.log;
-      read = c.in_ok-log.ensures.read;
+      read = (lent-read c.args.options.now _ _ _ c.deref.ensures.value c.in_ok-log.ensures.read);
       unfit = inl (sym c.in_err-clock.ensures.clock);
     }))
 
 pub returns-in_err-limit-clause-refused : goal.returns-in_err-limit-clause-refused
 returns-in_err-limit-clause-refused c =
     let p = err_from_is_err_and c.from_residual-in_err-limit.result c.from_residual-in_err-limit.ensures.1 in
-    rw (p.1, p.2) (unfit-refusal c.args.options.now c.args.text.now c.in_err-limit.field-0.0 (record {
+    rw (p.1, p.2) (unfit-refusal c.args.options.now (cow_slice_items c.args.text) c.in_err-limit.field-0.0 (record {
       log = seen_log c.in_ok-log.log;
-      read = c.in_ok-log.ensures.read;
+      read = (lent-read c.args.options.now _ _ _ c.deref.ensures.value c.in_ok-log.ensures.read);
       unfit = inr (c.in_ok-clock.clock, sym c.in_ok-clock.ensures.clock, sym c.in_err-limit.ensures);
     }))
 
@@ -33,12 +40,12 @@ pub returns-in_err-aligned-clause-refused : goal.returns-in_err-aligned-clause-r
 returns-in_err-aligned-clause-refused c =
     let p = err_from_is_err_and c.from_residual-in_err-aligned.result c.from_residual-in_err-aligned.ensures.1 in
     let log = c.in_ok-log.log in
-    rw (p.1, p.2) (unaligned-refusal c.args.options.now c.args.text.now log.nodes log.events.items c.in_err-aligned.field-0.0 c.in_err-aligned.ensures.refused.1
+    rw (p.1, p.2) (unaligned-refusal c.args.options.now (cow_slice_items c.args.text) log.nodes log.events.items c.in_err-aligned.field-0.0 (subst (λ text. IsAlignRefusal text log.nodes log.events.items c.in_err-aligned.field-0.0) c.deref-2.ensures.value c.in_err-aligned.ensures.refused.1)
     (λ same. record {
       log = seen_log log;
       events = log.events.items;
       clock = c.in_ok-clock.clock;
-      told = record { read = c.in_ok-log.ensures.read; same = refl; fits = sym c.in_ok-clock.ensures.clock };
+      told = record { read = (lent-read c.args.options.now _ _ _ c.deref.ensures.value c.in_ok-log.ensures.read); same = refl; fits = sym c.in_ok-clock.ensures.clock };
       asked = c.in_err-aligned.ensures.refused.0;
       unaligned = same;
     }))
@@ -47,7 +54,7 @@ pub returns-then-options-clause-import : goal.returns-then-options-clause-import
 returns-then-options-clause-import c =
     let log = c.in_ok-log.log in
     ok-both c.left_import.result _ _ _ (λ p made given.
-    placed-import c.args.options.now c.args.text.now (seen_log log) log.events.items c.in_ok-clock.clock (record { read = c.in_ok-log.ensures.read; same = refl; fits = sym c.in_ok-clock.ensures.clock }) c.in_ok-aligned.aligned
+    placed-import c.args.options.now (cow_slice_items c.args.text) (seen_log log) log.events.items c.in_ok-clock.clock (record { read = (lent-read c.args.options.now _ _ _ c.deref.ensures.value c.in_ok-log.ensures.read); same = refl; fits = sym c.in_ok-clock.ensures.clock }) c.in_ok-aligned.aligned
     c.in_ok-aligned.ensures.aligned c.in_ok-aligned.ensures.nodes c.in_ok-limit.limit (sym c.in_ok-limit.ensures) true c.args.options.now.merge c.if-options.true refl c.in_ok-lateness.lateness c.in_ok-lateness.ensures.lateness
     p.import p.events.items p.logged p.left_at (parts_seen p.parts) p.first p.clock p.places.items made given.nodes given.offsets given.lateness_is given.clock_is) c.left_import.ensures.made c.left_import.ensures.given
 
@@ -59,17 +66,17 @@ pub returns-then-options-clause-refused : goal.returns-then-options-clause-refus
 returns-then-options-clause-refused c =
     let log = c.in_ok-log.log in
     err-weaker c.left_import.result _ _
-    (unmade-refusal c.args.options.now c.args.text.now (seen_log log) log.events.items c.in_ok-clock.clock (record { read = c.in_ok-log.ensures.read; same = refl; fits = sym c.in_ok-clock.ensures.clock }) c.in_ok-aligned.aligned
+    (unmade-refusal c.args.options.now (cow_slice_items c.args.text) (seen_log log) log.events.items c.in_ok-clock.clock (record { read = (lent-read c.args.options.now _ _ _ c.deref.ensures.value c.in_ok-log.ensures.read); same = refl; fits = sym c.in_ok-clock.ensures.clock }) c.in_ok-aligned.aligned
     c.in_ok-aligned.ensures.aligned c.in_ok-aligned.ensures.nodes c.in_ok-limit.limit (sym c.in_ok-limit.ensures) true c.args.options.now.merge c.if-options.true refl) c.left_import.ensures.refused
 
 pub returns-then-options-clause-more : goal.returns-then-options-clause-more
-returns-then-options-clause-more c = λ e. c.if-text-gt-MAX_TEXT_BYTES.false
+returns-then-options-clause-more c = λ e. (let same = c.len.ensures in let few = c.if-len-gt-MAX_TEXT_BYTES.false in omega (arith, same, few))
 
 pub returns-then-merge-clause-import : goal.returns-then-merge-clause-import
 returns-then-merge-clause-import c =
     let log = c.in_ok-log.log in
     ok-both c.left_import-then-merge.result _ _ _ (λ p made given.
-    placed-import c.args.options.now c.args.text.now (seen_log log) log.events.items c.in_ok-clock.clock (record { read = c.in_ok-log.ensures.read; same = refl; fits = sym c.in_ok-clock.ensures.clock }) c.in_ok-aligned.aligned
+    placed-import c.args.options.now (cow_slice_items c.args.text) (seen_log log) log.events.items c.in_ok-clock.clock (record { read = (lent-read c.args.options.now _ _ _ c.deref.ensures.value c.in_ok-log.ensures.read); same = refl; fits = sym c.in_ok-clock.ensures.clock }) c.in_ok-aligned.aligned
     c.in_ok-aligned.ensures.aligned c.in_ok-aligned.ensures.nodes c.in_ok-limit.limit (sym c.in_ok-limit.ensures) false true c.if-options.false c.if-merge.true c.in_ok-lateness.lateness c.in_ok-lateness.ensures.lateness
     p.import p.events.items p.logged p.left_at (parts_seen p.parts) p.first p.clock p.places.items made given.nodes given.offsets given.lateness_is given.clock_is) c.left_import-then-merge.ensures.made c.left_import-then-merge.ensures.given
 
@@ -81,17 +88,17 @@ pub returns-then-merge-clause-refused : goal.returns-then-merge-clause-refused
 returns-then-merge-clause-refused c =
     let log = c.in_ok-log.log in
     err-weaker c.left_import-then-merge.result _ _
-    (unmade-refusal c.args.options.now c.args.text.now (seen_log log) log.events.items c.in_ok-clock.clock (record { read = c.in_ok-log.ensures.read; same = refl; fits = sym c.in_ok-clock.ensures.clock }) c.in_ok-aligned.aligned
+    (unmade-refusal c.args.options.now (cow_slice_items c.args.text) (seen_log log) log.events.items c.in_ok-clock.clock (record { read = (lent-read c.args.options.now _ _ _ c.deref.ensures.value c.in_ok-log.ensures.read); same = refl; fits = sym c.in_ok-clock.ensures.clock }) c.in_ok-aligned.aligned
     c.in_ok-aligned.ensures.aligned c.in_ok-aligned.ensures.nodes c.in_ok-limit.limit (sym c.in_ok-limit.ensures) false true c.if-options.false c.if-merge.true) c.left_import-then-merge.ensures.refused
 
 pub returns-then-merge-clause-more : goal.returns-then-merge-clause-more
-returns-then-merge-clause-more c = λ e. c.if-text-gt-MAX_TEXT_BYTES.false
+returns-then-merge-clause-more c = λ e. (let same = c.len.ensures in let few = c.if-len-gt-MAX_TEXT_BYTES.false in omega (arith, same, few))
 
 pub returns-clause-import : goal.returns-clause-import
 returns-clause-import c =
     let log = c.in_ok-log.log in
     ok-both c.whole_import.result _ _ _ (λ p made given.
-    placed-import c.args.options.now c.args.text.now (seen_log log) log.events.items c.in_ok-clock.clock (record { read = c.in_ok-log.ensures.read; same = refl; fits = sym c.in_ok-clock.ensures.clock }) c.in_ok-aligned.aligned
+    placed-import c.args.options.now (cow_slice_items c.args.text) (seen_log log) log.events.items c.in_ok-clock.clock (record { read = (lent-read c.args.options.now _ _ _ c.deref.ensures.value c.in_ok-log.ensures.read); same = refl; fits = sym c.in_ok-clock.ensures.clock }) c.in_ok-aligned.aligned
     c.in_ok-aligned.ensures.aligned c.in_ok-aligned.ensures.nodes c.in_ok-limit.limit (sym c.in_ok-limit.ensures) false false c.if-options.false c.if-merge.false c.in_ok-lateness.lateness c.in_ok-lateness.ensures.lateness
     p.import p.events.items p.logged p.left_at (parts_seen p.parts) p.first p.clock p.places.items made given.nodes given.offsets given.lateness_is given.clock_is) c.whole_import.ensures.made c.whole_import.ensures.given
 
@@ -103,8 +110,8 @@ pub returns-clause-refused : goal.returns-clause-refused
 returns-clause-refused c =
     let log = c.in_ok-log.log in
     err-weaker c.whole_import.result _ _
-    (unmade-refusal c.args.options.now c.args.text.now (seen_log log) log.events.items c.in_ok-clock.clock (record { read = c.in_ok-log.ensures.read; same = refl; fits = sym c.in_ok-clock.ensures.clock }) c.in_ok-aligned.aligned
+    (unmade-refusal c.args.options.now (cow_slice_items c.args.text) (seen_log log) log.events.items c.in_ok-clock.clock (record { read = (lent-read c.args.options.now _ _ _ c.deref.ensures.value c.in_ok-log.ensures.read); same = refl; fits = sym c.in_ok-clock.ensures.clock }) c.in_ok-aligned.aligned
     c.in_ok-aligned.ensures.aligned c.in_ok-aligned.ensures.nodes c.in_ok-limit.limit (sym c.in_ok-limit.ensures) false false c.if-options.false c.if-merge.false) c.whole_import.ensures.refused
 
 pub returns-clause-more : goal.returns-clause-more
-returns-clause-more c = λ e. c.if-text-gt-MAX_TEXT_BYTES.false
+returns-clause-more c = λ e. (let same = c.len.ensures in let few = c.if-len-gt-MAX_TEXT_BYTES.false in omega (arith, same, few))

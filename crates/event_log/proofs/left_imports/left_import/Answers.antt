@@ -1,13 +1,13 @@
 use Rattle.std.proofs.Common.{ℕ, ◌<◌, ◌≤◌, ◌∙◌, Some, refl, sym, ap, ap₂, subst, length, arith, rules}
 use mir.Val.{SFits}
 use mir.Syntax.{w128}
+use Rattle.std.specs.Cow.{cow_slice_items}
 use Rattle.std.proofs.lemmas.Int.{to_z-of_z}
 use Rattle.std.proofs.lemmas.Result.{err_from_is_err_and}
-use Rattle.timed_events.specs.Checks.{AreMeant, AreOfProcessors}
+use Rattle.timed_events.specs.Checks.{AreMeant}
 use Rattle.timed_events.specs.Times.{least_time}
-use Rattle.event_log.specs.declared.imports.Import.{Import}
-use Rattle.event_log.specs.declared.reading.TheConstants.{MAX_EVENTS}
-use Rattle.event_log.specs.Imports.{ArePlacedBy, IsBehindCycle, IsMadeBy, IsPlacedErrorUnlessMemory, IsUnmadeFor, removed_by}
+use Rattle.step_trace.specs.declared.traces.TheConstants.{MAX_STEPS}
+use Rattle.event_log.specs.Imports.{ArePlacedBy, IsMadeBy, IsPlacedErrorUnlessMemory, IsUnmadeFor, removed_by}
 use Rattle.event_log.specs.MergedLogs.{parts_seen}
 use Rattle.event_log.proofs.PlacedImports.{left-unmade, untaken-unmade}
 use Rattle.event_log.proofs.TakenEvents.{taken-few, taken-long, taken-meant, taken-processors}
@@ -18,24 +18,25 @@ pub returns-in_err-left-clause-refused : goal.returns-in_err-left-clause-refused
 returns-in_err-left-clause-refused c =
     let p = err_from_is_err_and c.from_residual.result c.from_residual.ensures.1 in
     let log = c.args.aligned.log in
-    rw (p.1, p.2) (untaken-unmade c.args.drop c.args.merge c.args.limit c.args.spread c.args.text.now log.nodes log.events.items c.args.clock c.in_err-left.field-0.0 c.in_err-left.ensures.refused)
+    rw (p.1, p.2) (untaken-unmade c.args.drop c.args.merge c.args.limit c.args.spread (cow_slice_items c.args.text) log.nodes log.events.items c.args.clock c.in_err-left.field-0.0 c.in_err-left.ensures.refused)
 
 pub returns-in-Err-clause-refused : goal.returns-in-Err-clause-refused
 returns-in-Err-clause-refused c =
     let log = c.args.aligned.log in
     let left = c.in_ok-left.left in
     let why = c.in-Err.why in
-    left-unmade c.args.drop c.args.merge c.args.limit c.args.spread c.args.text.now log.nodes log.events.items left.events.items left.places.items (parts_seen left.parts) c.args.clock why c.left_error.result c.in_ok-left.ensures.taken
-    (subst (λ n. IsUnmadeFor c.args.limit c.args.spread n left.events.items c.args.clock why) c.len-n.ensures c.in-Err.ensures.refused)
-    (subst (λ events. IsPlacedErrorUnlessMemory c.args.text.now log.nodes log.events.items events left.places.items (parts_seen left.parts) why c.left_error.result) c.in-Err.ensures.unchanged c.left_error.ensures)
+    let unmade = subst (λ events. IsUnmadeFor c.args.limit c.args.spread c.len-n.result events c.args.clock why) c.as_slice-2.ensures.value c.in-Err.ensures.refused in
+    left-unmade c.args.drop c.args.merge c.args.limit c.args.spread (cow_slice_items c.args.text) log.nodes log.events.items left.events.items left.places.items (parts_seen left.parts) c.args.clock why c.left_error.result c.in_ok-left.ensures.taken
+    (subst (λ n. IsUnmadeFor c.args.limit c.args.spread n left.events.items c.args.clock why) c.len-n.ensures unmade)
+    (subst (λ text. IsPlacedErrorUnlessMemory text log.nodes log.events.items left.events.items left.places.items (parts_seen left.parts) why c.left_error.result) c.deref.ensures.value c.left_error.ensures)
 
-pub returns-in-Ok-clause-made : goal.returns-in-Ok-clause-made
-returns-in-Ok-clause-made c =
+pub returns-clause-made : goal.returns-clause-made
+returns-clause-made c =
     let left = c.in_ok-left.left in
     let limit = c.args.limit in
     let spread = c.args.spread in
     let clock = c.args.clock in
-    let made = c.in-Ok.made in
+    let made = c.in_ok-made.made in
     let fits : SFits w128 c.least_time-first.result = search rules in
     rw (c.left_import_of.ensures.import, c.left_import_of.ensures.events, c.left_import_of.ensures.logged, c.left_import_of.ensures.at, c.left_import_of.ensures.parts, c.left_import_of.ensures.first, c.left_import_of.ensures.places) (record {
       is = record {
@@ -44,7 +45,7 @@ returns-in-Ok-clause-made c =
         parts = parts_seen left.parts;
         are_left = c.in_ok-left.ensures.taken;
         moved = made.moved;
-        made = subst (λ n. IsMadeBy limit spread n left.events.items clock made.trace made.moved made.idle) c.len-n.ensures c.in-Ok.ensures.trace;
+        made = subst (λ n. IsMadeBy limit spread n left.events.items clock made.trace made.moved made.idle) c.len-n.ensures c.in_ok-made.ensures.trace;
         moved_is = refl;
         lost = c.removed-lost.ensures ∙ ap₂ (λ (before after : ℕ). removed_by c.args.drop before after) (let ok = c.args.aligned.log.events.ok in let len = c.len-all.ensures in omega (arith, ok, len)) c.in_ok-left.ensures.kept;
         merged = c.removed-merged.ensures ∙ ap₂ (λ (before after : ℕ). removed_by c.args.merge before after) c.in_ok-left.ensures.kept (let ok = left.events.ok in let len = c.len-logged.ensures in omega (arith, ok, len));
@@ -53,19 +54,8 @@ returns-in-Ok-clause-made c =
       at = refl;
       parts_are = refl;
       begins = to_z-of_z w128 c.least_time-first.result fits ∙ c.least_time-first.ensures ∙ ap least_time c.as_slice.ensures.value;
-      placed = subst (λ n. ArePlacedBy limit spread n left.events.items clock c.trace_of_log.new.events.items made.places.items) c.len-n.ensures c.in-Ok.ensures.places;
+      placed = subst (λ n. ArePlacedBy limit spread n left.events.items clock c.trace_of_passed.new.events.items made.places.items) c.len-n.ensures c.in_ok-made.ensures.places;
     })
-
-pub returns-in-Ok-clause-given : goal.returns-in-Ok-clause-given
-returns-in-Ok-clause-given c = record {
-  nodes = ap (λ (i : Import). i.nodes) c.left_import_of.ensures.import;
-  offsets = ap (λ (i : Import). i.offsets) c.left_import_of.ensures.import;
-  lateness_is = ap (λ (i : Import). i.lateness) c.left_import_of.ensures.import;
-  clock_is = c.left_import_of.ensures.clock;
-}
-
-pub returns-in-Ok-clause-long : goal.returns-in-Ok-clause-long
-returns-in-Ok-clause-long c = ap (λ xs. length xs) c.left_import_of.ensures.places ∙ c.in-Ok.ensures.long ∙ sym (ap (λ import. length import.trace.steps) c.left_import_of.ensures.import)
 
 pub least_time-first-requires : goal.least_time-first-requires
 least_time-first-requires c =
@@ -73,40 +63,54 @@ least_time-first-requires c =
     let long = taken-long c.args.drop c.args.merge c.args.aligned.log.events.items left.events.items c.args.clock left.places.items (parts_seen left.parts) c.in_ok-left.ensures.taken in
     subst (λ events. 0 < length events) (sym c.as_slice.ensures.value) (subst (λ n. 0 < n) (sym long) c.in_ok-left.ensures.some)
 
-pub trace_of_log-requires-clause-least : goal.trace_of_log-requires-clause-least
-trace_of_log-requires-clause-least c = let two = c.requires.sound.two in let n = c.len-n.ensures in omega arith
-
-pub trace_of_log-requires-clause-most : goal.trace_of_log-requires-clause-most
-trace_of_log-requires-clause-most c = let few = c.requires.sound.few_nodes in let n = c.len-n.ensures in omega arith
-
-pub trace_of_log-requires-clause-some : goal.trace_of_log-requires-clause-some
-trace_of_log-requires-clause-some c =
+pub trace_of_passed-requires-clause-some : goal.trace_of_passed-requires-clause-some
+trace_of_passed-requires-clause-some c =
     let left = c.in_ok-left.left in
     subst (λ n. 0 < n) (sym (taken-long c.args.drop c.args.merge c.args.aligned.log.events.items left.events.items c.args.clock left.places.items (parts_seen left.parts) c.in_ok-left.ensures.taken)) c.in_ok-left.ensures.some
 
-pub trace_of_log-requires-clause-few : goal.trace_of_log-requires-clause-few
-trace_of_log-requires-clause-few c =
+pub trace_of_passed-requires-clause-few : goal.trace_of_passed-requires-clause-few
+trace_of_passed-requires-clause-few c =
     let left = c.in_ok-left.left in
     taken-few c.args.aligned.log c.requires.sound c.args.drop c.args.merge c.args.clock left.events.items (Some left.places.items) (parts_seen left.parts) c.in_ok-left.ensures.taken
 
-pub trace_of_log-requires-clause-meant : goal.trace_of_log-requires-clause-meant
-trace_of_log-requires-clause-meant c =
+pub trace_of_passed-requires-clause-meant : goal.trace_of_passed-requires-clause-meant
+trace_of_passed-requires-clause-meant c =
     let left = c.in_ok-left.left in
     subst (λ n. AreMeant left.events.items n) (sym c.len-n.ensures)
     (taken-meant c.args.aligned.log c.requires.sound c.args.drop c.args.merge c.args.clock left.events.items (Some left.places.items) (parts_seen left.parts) c.in_ok-left.ensures.taken)
 
+pub passed_events-requires-clause-some : goal.passed_events-requires-clause-some
+passed_events-requires-clause-some c =
+    let left = c.in_ok-left.left in
+    let long = taken-long c.args.drop c.args.merge c.args.aligned.log.events.items left.events.items c.args.clock left.places.items (parts_seen left.parts) c.in_ok-left.ensures.taken in
+    subst (λ events. 0 < length events) (sym c.as_slice-2.ensures.value) (subst (λ n. 0 < n) (sym long) c.in_ok-left.ensures.some)
+
+pub passed_events-requires-clause-few : goal.passed_events-requires-clause-few
+passed_events-requires-clause-few c =
+    let left = c.in_ok-left.left in
+    subst (λ events. length events ≤ MAX_STEPS) (sym c.as_slice-2.ensures.value)
+    (taken-few c.args.aligned.log c.requires.sound c.args.drop c.args.merge c.args.clock left.events.items (Some left.places.items) (parts_seen left.parts) c.in_ok-left.ensures.taken)
+
+pub passed_events-requires-clause-meant : goal.passed_events-requires-clause-meant
+passed_events-requires-clause-meant c =
+    let left = c.in_ok-left.left in
+    subst (λ events. AreMeant events c.len-n.result) (sym c.as_slice-2.ensures.value)
+    (subst (λ n. AreMeant left.events.items n) (sym c.len-n.ensures)
+    (taken-meant c.args.aligned.log c.requires.sound c.args.drop c.args.merge c.args.clock left.events.items (Some left.places.items) (parts_seen left.parts) c.in_ok-left.ensures.taken))
+
 pub left_error-requires-clause-few : goal.left_error-requires-clause-few
 left_error-requires-clause-few c =
     let left = c.in_ok-left.left in
-    subst (λ events. length events ≤ MAX_EVENTS) (sym c.in-Err.ensures.unchanged)
-    (taken-few c.args.aligned.log c.requires.sound c.args.drop c.args.merge c.args.clock left.events.items (Some left.places.items) (parts_seen left.parts) c.in_ok-left.ensures.taken)
+    taken-few c.args.aligned.log c.requires.sound c.args.drop c.args.merge c.args.clock left.events.items (Some left.places.items) (parts_seen left.parts) c.in_ok-left.ensures.taken
 
 pub left_error-requires-clause-processors : goal.left_error-requires-clause-processors
 left_error-requires-clause-processors c =
     let left = c.in_ok-left.left in
-    subst AreOfProcessors (sym c.in-Err.ensures.unchanged)
-    (taken-processors c.args.aligned.log c.requires.sound c.args.drop c.args.merge c.args.clock left.events.items (Some left.places.items) (parts_seen left.parts) c.in_ok-left.ensures.taken)
+    taken-processors c.args.aligned.log c.requires.sound c.args.drop c.args.merge c.args.clock left.events.items (Some left.places.items) (parts_seen left.parts) c.in_ok-left.ensures.taken
 
 pub left_error-requires-clause-behind : goal.left_error-requires-clause-behind
 left_error-requires-clause-behind c =
-    λ i e. subst (λ events. IsBehindCycle events i) (sym c.in-Err.ensures.unchanged) (unmade-behind c.args.limit c.args.spread c.len-n.result c.in_ok-left.left.events.items c.args.clock c.in-Err.why c.in-Err.ensures.refused i e)
+    let left = c.in_ok-left.left in
+    let why = c.in-Err.why in
+    let unmade = subst (λ events. IsUnmadeFor c.args.limit c.args.spread c.len-n.result events c.args.clock why) c.as_slice-2.ensures.value c.in-Err.ensures.refused in
+    unmade-behind c.args.limit c.args.spread c.len-n.result left.events.items c.args.clock why unmade

@@ -1,4 +1,4 @@
-use Rattle.std.proofs.Common.{◌≡◌, ◌++◌, ◌∙◌, [], rules, refl, sym, arith, append-nil, take}
+use Rattle.std.proofs.Common.{[], rules, refl, sym, append-nil}
 use Rattle.std.proofs.KnownBytes.{Consumes-nil}
 use Rattle.log_windows.proofs.PartsTaken.{grew-more}
 use Rattle.log_windows.proofs.devices.fill.Goals as goal

@@ -1,4 +1,4 @@
-use Rattle.std.proofs.Common.{◌≤◌, arith, length}
+use Rattle.std.proofs.Common.{arith}
 use Rattle.std.proofs.lemmas.Result.{err_from_is_err_and}
 use Rattle.log_windows.proofs.PartsTaken.{end-refused, ended, opened}
 use Rattle.log_windows.proofs.devices.take_all.Goals as goal

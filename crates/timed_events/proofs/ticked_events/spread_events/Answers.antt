@@ -1,5 +1,7 @@
-use Rattle.std.proofs.Common.{◌∙◌, fold, max, refl, ap, arith}
+use Rattle.std.proofs.Common.{◌≡◌, ◌∙◌, None, fold, max, refl, sym, ap, subst, arith, rules}
 use Rattle.std.proofs.lemmas.Result.{err_from_is_err_and}
+use Rattle.timed_events.specs.Checks.{events_refusal}
+use Rattle.timed_events.specs.Orders.{IsOrder}
 use Rattle.timed_events.proofs.MessageFaults.{received-by, passes-spread}
 use Rattle.timed_events.proofs.SpreadRefusals.{fault-refused, cycle-refused}
 use Rattle.timed_events.proofs.SpreadTraces.{own-ticks, meant-processors, spread-bounds}
@@ -20,20 +22,31 @@ returns-in_err-check_messages-clause-refused c =
     rw (p.1, p.2) (
     fault-refused c.args.events.now c.args.clock.now _ c.in_ok-span.ensures.refused c.in_err-check_messages.ensures)
 
-pub returns-in_err-order-clause-refused : goal.returns-in_err-order-clause-refused
-returns-in_err-order-clause-refused c =
-    let p = err_from_is_err_and c.from_residual-in_err-order.result c.from_residual-in_err-order.ensures.1 in
+pub returns-in_err-causal-clause-refused : goal.returns-in_err-causal-clause-refused
+returns-in_err-causal-clause-refused c =
+    let p = err_from_is_err_and c.from_residual-in_err-causal.result c.from_residual-in_err-causal.ensures.1 in
     rw (p.1, p.2) (
-    cycle-refused c.args.events.now c.args.clock.now _ c.in_ok-span.ensures.refused c.in_ok-check_messages.ensures c.in_err-order.ensures.refused)
+    cycle-refused c.args.events.now c.args.clock.now _ c.in_ok-span.ensures.refused c.in_ok-check_messages.ensures c.in_err-causal.ensures.refused)
 
-pub returns-clause-fit : goal.returns-clause-fit
-returns-clause-fit c =
+pub order_of-requires-clause-passed : goal.order_of-requires-clause-passed
+order_of-requires-clause-passed c = subst (λ xs. events_refusal c.args.events.now xs ≡ None) (sym c.deref-7.ensures.value)
+    (passes-spread c.args.events.now c.deref-2.result.now c.in_ok-ticks.ticks.items c.in_ok-check_messages.ensures (meant-processors c.args.n c.args.events.now c.requires.most c.requires.meant) c.in_ok-ticks.ensures)
+
+pub returns-clause-ticked : goal.returns-clause-ticked
+returns-clause-ticked c =
     let own = own-ticks c.args.events.now c.args.clock.now c.deref-2.result.now c.requires.width c.in_ok-span.ensures.refused (c.deref-2.ensures.value ∙ c.in_ok-own.ensures) in
     let bounds = spread-bounds c.args.events.now c.deref-2.result.now c.in_ok-ticks.ticks.items c.in_ok-ticks.ticks.items c.in_ok-span.span.last c.last_of-last.result own.1 c.in_ok-ticks.ensures refl (c.last_of-last.ensures ∙ ap (λ xs. fold max c.in_ok-span.span.last xs) c.deref-4.ensures.value) in
     record {
-      long = c.in_ok-ticks.ensures.long;
-      passed = passes-spread c.args.events.now c.deref-2.result.now c.in_ok-ticks.ticks.items c.in_ok-check_messages.ensures (meant-processors c.args.n c.args.events.now c.requires.most c.requires.meant) c.in_ok-ticks.ensures;
-      first = bounds.0;
-      within = bounds.1;
-      most = omega arith;
+      passed = search rules;
+      are = search rules;
+      last = search rules;
+      moved = search rules;
+      fit = record {
+        long = c.in_ok-ticks.ensures.long;
+        passed = passes-spread c.args.events.now c.deref-2.result.now c.in_ok-ticks.ticks.items c.in_ok-check_messages.ensures (meant-processors c.args.n c.args.events.now c.requires.most c.requires.meant) c.in_ok-ticks.ensures;
+        first = bounds.0;
+        within = bounds.1;
+        most = omega arith;
+      };
+      ordered = subst (λ xs. IsOrder c.args.events.now xs c.in_ok-order.order.items) c.deref-7.ensures.value c.in_ok-order.ensures;
     }
