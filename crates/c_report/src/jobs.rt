@@ -198,7 +198,7 @@ fn trace_text_of(alloc: Global, text: &[u8], options: &Options) -> Result<Vec<u8
     ensures refused { IfErr result (IsUnimported ImportForm.Trace options.now text.now) }
 {
     let import = log_import(alloc, CowSlice::Borrowed(text), options)?;
-    Upgrade.answer(alloc, import.trace)
+    Upgrade.answer(alloc, &import.trace)
 }
 
 /// The table of the steps of a log, which is read so.

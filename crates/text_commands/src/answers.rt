@@ -19,11 +19,10 @@ pub trait Answer {
     // what it declines a trace for
     ghost Declines: { Self → Recorded → Fault → Type 0 };
 
-    /// The answer to a trace, which is freed as soon as possible. Memory may come instead of what it declines the trace
-    /// for.
-    fn answer(&self, alloc: Global, trace: Trace) -> Result<Vec<u8>, Fault>
-        ensures gives { IfOk result (λ out. Gives self.now trace out.items) }
-        ensures declines { IfErr result (IsDeclined (Declines self.now trace)) };
+    /// The answer to a trace. Memory may come instead of what it declines the trace for.
+    fn answer(&self, alloc: Global, trace: &Trace) -> Result<Vec<u8>, Fault>
+        ensures gives { IfOk result (λ out. Gives self.now trace.now out.items) }
+        ensures declines { IfErr result (IsDeclined (Declines self.now trace.now)) };
 }
 
 /// The answer of a command to a trace text in memory.
@@ -35,5 +34,5 @@ pub fn answer_to<A: Answer>(alloc: Global, command: &A, text: &[u8]) -> Result<V
     ensures refused { IfErr result (IsUnanswered (A.Declines command.now) text.now) }
 {
     let trace = trace_of(alloc, text)?;
-    command.answer(alloc, trace)
+    command.answer(alloc, &trace)
 }

@@ -10,7 +10,7 @@ ghost use Rattle.text_verdicts.specs.Cuts.{IsReportedTo};
 ghost use Rattle.text_verdicts.specs.Texts.{HasCorrect, OfTrace};
 ghost use Rattle.text_verdicts.specs.VerdictLines.{told_verdict};
 
-use crate::report_parts::reported_to;
+use crate::report_parts::cut_to;
 use crate::texts::read_whole;
 use crate::traces::{set_of, trace_of};
 use crate::verdict_lines::tell_verdict;
@@ -21,12 +21,14 @@ use front::ReportError;
 use shared_reading::read_trace_by_parts;
 use std::alloc::Global;
 use std::io::{Read, Write};
+use std::mem;
 use step_trace::Trace;
 use text_verdicts::certificate_of_text;
 use trace_text::Counting;
 
 /// Reads a trace text and then a certificate to their ends, and checks the rows of the certificate by the trace. Writes
-/// the line of the verdict; nothing is written before the verdict is complete.
+/// the line of the verdict; nothing is written before the verdict is complete. The memory of the trace is left to the end
+/// of the program.
 ///
 /// Refuses, in this order:
 /// - Read, or Trace for a trace text that is too large;
@@ -65,6 +67,7 @@ pub fn run_check<R: Read, S: Read, W: Write>(
     let too_large = Fault::Certificate(ReportError::TooLarge);
     let rows = read_whole(alloc, certificate, too_large)?;
     let verdict = verdict_by(alloc, claim, &reported, &rows)?;
+    mem::forget(reported);
     tell_verdict(alloc, verdict, writer)?;
     Ok(verdict)
 }
@@ -96,7 +99,10 @@ fn cut_for(alloc: Global, claim: &Claim, trace: Trace) -> Result<Trace, Fault>
     ensures refused { IfErr result (IsDeclined (IsUncut claim.now trace)) }
 {
     let _set = set_of(claim.correct, &trace)?;
-    reported_to(alloc, trace, claim.until)
+    match cut_to(alloc, &trace, claim.until)? {
+        Some(cut) => Ok(cut),
+        None => Ok(trace),
+    }
 }
 
 /// The verdict on a certificate's text by the trace of which it is claimed.

@@ -6,7 +6,7 @@ ghost use Rattle.text_commands.specs.EachBounds.{AreRowsFrom};
 ghost use Rattle.text_commands.specs.ReportParts.{IsAtFault};
 
 use crate::answers::Answer;
-use crate::report_parts::{has_tick, outside, reported_to};
+use crate::report_parts::{cut_to, has_tick, outside, reported};
 use crate::traces::set_of;
 use command_faults::{Fault, ReportOption};
 use command_options::Each;
@@ -27,10 +27,11 @@ impl Answer for Each {
 
     ghost Declines = { λ e. IsNoEach e };
 
-    fn answer(&self, alloc: Global, trace: Trace) -> Result<Vec<u8>, Fault> {
-        let set = set_of(self.correct, &trace)?;
-        let reported = reported_to(alloc, trace, self.until)?;
-        let rows = rows_from(alloc, &reported, set, self.at)?;
+    fn answer(&self, alloc: Global, trace: &Trace) -> Result<Vec<u8>, Fault> {
+        let set = set_of(self.correct, trace)?;
+        let cut = cut_to(alloc, trace, self.until)?;
+        let reported = reported(&cut, trace);
+        let rows = rows_from(alloc, reported, set, self.at)?;
         Ok(bounds_text_of(alloc, &rows)?)
     }
 }

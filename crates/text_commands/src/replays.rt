@@ -26,19 +26,18 @@ impl Answer for Replay {
 
     ghost Declines = { λ _. IsOffRun };
 
-    fn answer(&self, alloc: Global, trace: Trace) -> Result<Vec<u8>, Fault> {
+    fn answer(&self, alloc: Global, trace: &Trace) -> Result<Vec<u8>, Fault> {
         let world = world_of(alloc, trace)?;
         Ok(replay_text_of(alloc, &world)?)
     }
 }
 
-/// The World that made the steps of a trace, whatever their ticks. It frees the trace, of whose steps the World has its
-/// own.
-fn world_of(alloc: Global, trace: Trace) -> Result<World, Fault>
-    ensures config { IfOk result (λ world. world.trace.config ≡ trace.config) }
-    ensures steps { IfOk result (λ world. world.trace.steps ≡ trace.steps) }
+/// The World that made the steps of a trace, whatever their ticks.
+fn world_of(alloc: Global, trace: &Trace) -> Result<World, Fault>
+    ensures config { IfOk result (λ world. world.trace.config ≡ trace.now.config) }
+    ensures steps { IfOk result (λ world. world.trace.steps ≡ trace.now.steps) }
     ensures run { IfOk result (λ world. IsRun world.trace.config world.trace.steps) }
-    ensures refused { IfErr result (IsDeclined (IsOffRun trace)) }
+    ensures refused { IfErr result (IsDeclined (IsOffRun trace.now)) }
 {
-    Ok(replay(alloc, &trace)?)
+    Ok(replay(alloc, trace)?)
 }

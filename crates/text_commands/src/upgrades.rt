@@ -21,8 +21,8 @@ impl Answer for Upgrade {
 
     ghost Declines = { λ _. IsNothingElse };
 
-    fn answer(&self, alloc: Global, trace: Trace) -> Result<Vec<u8>, Fault> {
-        text_2_of(alloc, &trace)
+    fn answer(&self, alloc: Global, trace: &Trace) -> Result<Vec<u8>, Fault> {
+        text_2_of(alloc, trace)
     }
 }
 
