@@ -197,8 +197,8 @@ fn trace_text_of(alloc: Global, text: &[u8], options: &Options) -> Result<Vec<u8
     ensures trace { IfOk result (λ out. IsTextOfLog ImportForm.Trace options.now text.now out.items) }
     ensures refused { IfErr result (IsUnimported ImportForm.Trace options.now text.now) }
 {
-    let import = log_import(alloc, CowSlice::Borrowed(text), options)?;
-    Upgrade.answer(alloc, &import.trace)
+    let mut import = log_import(alloc, CowSlice::Borrowed(text), options)?;
+    Upgrade.answer(alloc, &mut import.trace)
 }
 
 /// The table of the steps of a log, which is read so.

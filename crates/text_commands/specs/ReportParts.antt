@@ -16,11 +16,6 @@ use Rattle.command_faults.specs.declared.faults.TickOutside.{TickOutside}
 use Rattle.command_options.specs.declared.ReportPart.{ReportPart}
 use Rattle.text_commands.specs.Answers.{IsOutside}
 
--- the trace that is reported: what was cut of a trace, or else all of it
-abbrev pub reported : Option Recorded → Recorded → Recorded
-reported None t = t
-reported (Some cut) t = cut
-
 -- The tick that is asked for is none of the trace; that tick is reported, and the last one of the trace.
 pub record IsNoTickOf (asked : Option ℕ) (t : Recorded) (o : TickOutside) : Type 0 where
   pub asked_is : asked ≡ Some o.tick

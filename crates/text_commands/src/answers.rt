@@ -19,10 +19,11 @@ pub trait Answer {
     // what it declines a trace for
     ghost Declines: { Self → Recorded → Fault → Type 0 };
 
-    /// The answer to a trace. Memory may come instead of what it declines the trace for.
-    fn answer(&self, alloc: Global, trace: &Trace) -> Result<Vec<u8>, Fault>
-        ensures gives { IfOk result (λ out. Gives self.now trace.now out.items) }
-        ensures declines { IfErr result (IsDeclined (Declines self.now trace.now)) };
+    /// The answer to a trace, which may be cut meanwhile, so that its rest needs no memory. Memory may come instead of what
+    /// it declines the trace for.
+    fn answer(&self, alloc: Global, trace: &mut Trace) -> Result<Vec<u8>, Fault>
+        ensures gives { IfOk result (λ out. Gives self.now trace.old out.items) }
+        ensures declines { IfErr result (IsDeclined (Declines self.now trace.old)) };
 }
 
 /// The answer of a command to a trace text in memory.
@@ -33,6 +34,6 @@ pub fn answer_to<A: Answer>(alloc: Global, command: &A, text: &[u8]) -> Result<V
     ensures answer { IfOk result (λ out. IsAnswerTo (A.Gives command.now) text.now out.items) }
     ensures refused { IfErr result (IsUnanswered (A.Declines command.now) text.now) }
 {
-    let trace = trace_of(alloc, text)?;
-    command.answer(alloc, &trace)
+    let mut trace = trace_of(alloc, text)?;
+    command.answer(alloc, &mut trace)
 }

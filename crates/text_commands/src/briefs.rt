@@ -4,7 +4,7 @@ ghost use Rattle.std.specs.Prelude.{◌≡◌, IfOk};
 ghost use Rattle.text_commands.specs.Briefs.{brief_after, names_other, same_miss, same_silence};
 
 use crate::answers::Answer;
-use crate::report_parts::{cut_to, report_of, reported};
+use crate::report_parts::{cut_to, report_of};
 use crate::traces::set_of;
 use command_faults::Fault;
 use command_options::Brief;
@@ -24,11 +24,10 @@ impl Answer for Brief {
 
     ghost Declines = { λ b. IsNoBrief b };
 
-    fn answer(&self, alloc: Global, trace: &Trace) -> Result<Vec<u8>, Fault> {
+    fn answer(&self, alloc: Global, trace: &mut Trace) -> Result<Vec<u8>, Fault> {
         let set = set_of(self.correct, trace)?;
-        let cut = cut_to(alloc, trace, self.until)?;
-        let reported = reported(&cut, trace);
-        let report = report_of(alloc, reported, set)?;
+        cut_to(alloc, trace, self.until)?;
+        let report = report_of(alloc, trace, set)?;
         let rows = brief_rows(alloc, report.rows())?;
         Ok(report_text_of(alloc, &rows)?)
     }

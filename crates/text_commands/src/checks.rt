@@ -99,10 +99,9 @@ fn cut_for(alloc: Global, claim: &Claim, trace: Trace) -> Result<Trace, Fault>
     ensures refused { IfErr result (IsDeclined (IsUncut claim.now trace)) }
 {
     let _set = set_of(claim.correct, &trace)?;
-    match cut_to(alloc, &trace, claim.until)? {
-        Some(cut) => Ok(cut),
-        None => Ok(trace),
-    }
+    let mut reported = trace;
+    cut_to(alloc, &mut reported, claim.until)?;
+    Ok(reported)
 }
 
 /// The verdict on a certificate's text by the trace of which it is claimed.

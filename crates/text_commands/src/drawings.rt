@@ -43,7 +43,7 @@ impl Answer for ToldDrawing {
 
     ghost Declines = { λ d. IsUndrawnTrace d };
 
-    fn answer(&self, alloc: Global, trace: &Trace) -> Result<Vec<u8>, Fault> {
+    fn answer(&self, alloc: Global, trace: &mut Trace) -> Result<Vec<u8>, Fault> {
         let set = set_of(self.drawing.correct, trace)?;
         let table = table_for(alloc, &self.table, trace)?;
         drawn(alloc, trace, set, &self.drawing, &table)

@@ -6,7 +6,7 @@ ghost use Rattle.text_commands.specs.EachBounds.{AreRowsFrom};
 ghost use Rattle.text_commands.specs.ReportParts.{IsAtFault};
 
 use crate::answers::Answer;
-use crate::report_parts::{cut_to, has_tick, outside, reported};
+use crate::report_parts::{cut_to, has_tick, outside};
 use crate::traces::set_of;
 use command_faults::{Fault, ReportOption};
 use command_options::Each;
@@ -27,11 +27,10 @@ impl Answer for Each {
 
     ghost Declines = { λ e. IsNoEach e };
 
-    fn answer(&self, alloc: Global, trace: &Trace) -> Result<Vec<u8>, Fault> {
+    fn answer(&self, alloc: Global, trace: &mut Trace) -> Result<Vec<u8>, Fault> {
         let set = set_of(self.correct, trace)?;
-        let cut = cut_to(alloc, trace, self.until)?;
-        let reported = reported(&cut, trace);
-        let rows = rows_from(alloc, reported, set, self.at)?;
+        cut_to(alloc, trace, self.until)?;
+        let rows = rows_from(alloc, trace, set, self.at)?;
         Ok(bounds_text_of(alloc, &rows)?)
     }
 }

@@ -39,7 +39,7 @@ impl Answer for ToldPage {
 
     ghost Declines = { λ p. IsNoPage p };
 
-    fn answer(&self, alloc: Global, trace: &Trace) -> Result<Vec<u8>, Fault> {
+    fn answer(&self, alloc: Global, trace: &mut Trace) -> Result<Vec<u8>, Fault> {
         let set = set_of(self.page.correct, trace)?;
         let table = table_for(alloc, &self.table, trace)?;
         told(alloc, trace, set, &self.page, &table)

@@ -26,7 +26,7 @@ impl Answer for Replay {
 
     ghost Declines = { λ _. IsOffRun };
 
-    fn answer(&self, alloc: Global, trace: &Trace) -> Result<Vec<u8>, Fault> {
+    fn answer(&self, alloc: Global, trace: &mut Trace) -> Result<Vec<u8>, Fault> {
         let world = world_of(alloc, trace)?;
         Ok(replay_text_of(alloc, &world)?)
     }

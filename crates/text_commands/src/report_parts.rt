@@ -5,7 +5,7 @@ ghost use Rattle.std.specs.Prelude.{◌≡◌, ◌↔◌, Some, IfOk, IfErr, IfS
 ghost use Rattle.step_trace.specs.Fronts.{IsReport};
 ghost use Rattle.step_trace.specs.Processors.{IsWithin};
 ghost use Rattle.step_trace.specs.Ticks.{IsTimed};
-ghost use Rattle.text_commands.specs.ReportParts.{IsAtFault, IsRowAt, IsTextFor, IsUntilFault, reported};
+ghost use Rattle.text_commands.specs.ReportParts.{IsAtFault, IsRowAt, IsTextFor, IsUntilFault};
 ghost use Rattle.text_verdicts.specs.Cuts.{IsReportedTo, IsTickOf};
 
 use crate::answers::Answer;
@@ -30,42 +30,29 @@ impl Answer for ReportPart {
 
     ghost Declines = { λ p. IsUntoldPart p };
 
-    fn answer(&self, alloc: Global, trace: &Trace) -> Result<Vec<u8>, Fault> {
+    fn answer(&self, alloc: Global, trace: &mut Trace) -> Result<Vec<u8>, Fault> {
         let set = set_of(self.correct, trace)?;
-        let cut = cut_to(alloc, trace, self.until)?;
-        text_for(alloc, reported(&cut, trace), set, self.at)
+        cut_to(alloc, trace, self.until)?;
+        text_for(alloc, trace, set, self.at)
     }
 }
 
-/// The trace up to a tick, if it is reported up to one.
+/// Leaves of a trace what is reported of it: all, or the part up to a tick. The memory of the rest is freed.
 ///
 /// Refuses, in this order: Report, if the trace hasn't the tick; Memory.
-pub(crate) fn cut_to(
-    alloc: Global,
-    trace: &Trace,
-    until: Option<u64>,
-) -> Result<Option<Trace>, Fault>
-    ensures reported { IfOk result (λ cut. IsReportedTo until trace.now (reported cut trace.now)) }
-    ensures count { IfOk result (λ cut. (reported cut trace.now).config.n ≡ trace.now.config.n) }
-    ensures refused { IfErr result (IsUntilFault until trace.now) }
+pub(crate) fn cut_to(alloc: Global, trace: &mut Trace, until: Option<u64>) -> Result<(), Fault>
+    ensures reported { OnOk result (IsReportedTo until trace.old trace.new) }
+    ensures count { OnOk result (trace.new.config.n ≡ trace.old.config.n) }
+    ensures refused { IfErr result (IsUntilFault until trace.old) }
 {
     let Some(tick) = until else {
-        return Ok(None);
+        return Ok(());
     };
     if !has_tick(trace, tick) {
         return Err(outside(ReportOption::Until, trace, tick));
     }
-    Ok(Some(trace.until(alloc, tick)?))
-}
-
-/// The trace that is reported: what was cut of a trace, or else all of it.
-pub(crate) fn reported<'a>(cut: &'a Option<Trace>, trace: &'a Trace) -> &'a Trace
-    ensures { result.now ≡ reported cut.now trace.now }
-{
-    match cut {
-        Some(cut) => cut,
-        None => trace,
-    }
+    *trace = trace.until(alloc, tick)?;
+    Ok(())
 }
 
 /// The text of the rows that are asked for: of all of the report of a trace, or of the row that applies to a tick.

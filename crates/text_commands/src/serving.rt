@@ -38,7 +38,8 @@ fn answer_of<A: Answer>(alloc: Global, command: &A, trace: Trace) -> Result<Vec<
     ensures gives { IfOk result (λ out. A.Gives command.now trace out.items) }
     ensures declines { IfErr result (IsDeclined (A.Declines command.now trace)) }
 {
-    let answer = command.answer(alloc, &trace);
+    let mut trace = trace;
+    let answer = command.answer(alloc, &mut trace);
     mem::forget(trace);
     answer
 }

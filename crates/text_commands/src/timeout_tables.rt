@@ -7,7 +7,7 @@ ghost use Rattle.text_commands.specs.ReportParts.{IsAtFault};
 ghost use Rattle.text_commands.specs.TimeoutTables.{AreFollowersOf, HasLink, IsLinkFault, IsTableOf};
 
 use crate::answers::Answer;
-use crate::report_parts::{cut_to, reported, test_at};
+use crate::report_parts::{cut_to, test_at};
 use command_faults::{Fault, MemberOutside, SetOption, correct_set};
 use command_options::TimeoutTable;
 use front_timeouts::{receivers_of, timeouts_text_of};
@@ -28,10 +28,10 @@ impl Answer for TimeoutTable {
 
     ghost Declines = { λ o. IsNoTable o };
 
-    fn answer(&self, alloc: Global, trace: &Trace) -> Result<Vec<u8>, Fault> {
+    fn answer(&self, alloc: Global, trace: &mut Trace) -> Result<Vec<u8>, Fault> {
         test_link(self, trace.config().n())?;
-        let cut = cut_to(alloc, trace, self.until)?;
-        table_of(alloc, self, reported(&cut, trace))
+        cut_to(alloc, trace, self.until)?;
+        table_of(alloc, self, trace)
     }
 }
 

@@ -21,7 +21,7 @@ impl Answer for Upgrade {
 
     ghost Declines = { λ _. IsNothingElse };
 
-    fn answer(&self, alloc: Global, trace: &Trace) -> Result<Vec<u8>, Fault> {
+    fn answer(&self, alloc: Global, trace: &mut Trace) -> Result<Vec<u8>, Fault> {
         text_2_of(alloc, trace)
     }
 }
