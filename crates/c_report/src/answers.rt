@@ -1,5 +1,5 @@
-//! What a caller is answered: the exit statuses of the program, and one more number for what no process meets. And which
-//! processors a caller names as correct.
+//! What a caller is answered: the exit statuses of the program, and one more number for what no process meets. And
+//! which processors a caller names as correct.
 
 ghost use Rattle.std.specs.Prelude.{◌≡◌};
 ghost use Rattle.c_report.specs.CorrectMasks.{correct_of};

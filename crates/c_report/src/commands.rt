@@ -1,4 +1,5 @@
-//! Every command from text to text, for a caller that brings the words of a command line, the texts of its files, and room.
+//! Every command from text to text, for a caller that brings the words of a command line, the texts of its files, and
+//! room.
 
 ghost use Rattle.std.specs.Prelude.{◌≡◌, ◌≢◌, ◌<◌, ◌⊎◌, IfOk, IfErr, length};
 ghost use Rattle.c_report.specs.Commands.{HasPrinted, IsAnswered, IsAnswerFor, IsAnswerTooLong, IsRefusedLine, IsTold, IsUnprinted};

@@ -6,7 +6,8 @@ ghost use Rattle.chunk_join.specs.Digests.{reaches_edge, gap_long};
 
 use step_trace::Gap;
 
-/// Leaves the silences that reach tick `from` or tick `to`, and of the others those that are longer than all later ones.
+/// Leaves the silences that reach tick `from` or tick `to`, and of the others those that are longer than all later
+/// ones.
 pub(crate) fn thin_silences(silent: &mut Vec<Gap>, from: u64, to: u64)
     ensures { silent.new.items ≡ thinned (reaches_edge from to) gap_long silent.old.items }
 {

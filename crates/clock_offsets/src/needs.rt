@@ -11,7 +11,8 @@ use crate::refusals::OffsetError;
 use std::alloc::Global;
 use timed_events::{Event, Hop};
 
-/// The greatest need that any of these messages has, for each two clocks: row after row, what the second needs of the first.
+/// The greatest need that any of these messages has, for each two clocks: row after row, what the second needs of the
+/// first.
 ///
 /// Refuses TooFar for a need that is beyond the numbers that are held, and Memory.
 pub(crate) fn needs_among(

@@ -158,10 +158,11 @@ pub struct Drawing {
     pub from: Option<u64>,
     /// The last tick to draw: 99 ticks later, or the last of the trace, if only a first one is given.
     pub to: Option<u64>,
-    /// The names of the processors, with commas between them: if there are none, those of the table of the trace's steps, or
-    /// else their numbers.
+    /// The names of the processors, with commas between them: if there are none, those of the table of the trace's
+    /// steps, or else their numbers.
     pub names: Option<String>,
-    /// The processors whose lanes are drawn, by their names or numbers, with commas between them: all if there are none.
+    /// The processors whose lanes are drawn, by their names or numbers, with commas between them: all if there are
+    /// none.
     pub lanes: Option<String>,
     /// The unit of the times in the table of the trace's steps, if it is given.
     pub unit: Option<TimeUnit>,

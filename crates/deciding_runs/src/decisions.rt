@@ -61,8 +61,8 @@ fn note_step(
     Ok(())
 }
 
-/// What the step of this number decides, if anything. `rounds` has the round of each processor, before this step and then
-/// after it.
+/// What the step of this number decides, if anything. `rounds` has the round of each processor, before this step and
+/// then after it.
 fn decided_with(world: &World, step: &Step, no: u64, rounds: &mut [u64]) -> Option<Decision>
     requires step { step_at world.now.trace.steps no ≡ Some step.now }
     requires processor { IsProc world.now.trace.config step.now.proc }

@@ -13,8 +13,8 @@ pub enum BadFormula {
     /// An operand had to come, and this one is neither a number that fits 64 bits nor `delta`, `phi`, `n` or `t`, nor a
     /// parenthesis.
     Operand(u64),
-    /// A divisor had to come, and this operand is no number from 1 on, or all divisors up to it, multiplied, are 2^32 or
-    /// more.
+    /// A divisor had to come, and this operand is no number from 1 on, or all divisors up to it, multiplied, are 2^32
+    /// or more.
     Divisor(u64),
     /// A sign had to come after this operand, and none or another one does.
     Sign(u64),

@@ -14,8 +14,8 @@ use clock_offsets::{ClockCycle, ClockHop};
 use std::alloc::{AllocError, Global};
 use timed_events::Event;
 
-/// The lines of a cycle of clocks: one for each of the first `MAX_SHOWN` messages, how many more there are, and how long
-/// they take together. None if there is no cycle.
+/// The lines of a cycle of clocks: one for each of the first `MAX_SHOWN` messages, how many more there are, and how
+/// long they take together. None if there is no cycle.
 pub(crate) fn clock_lines(
     alloc: Global,
     text: &[u8],

@@ -50,8 +50,8 @@ fn shown_lines(
     Ok(lines)
 }
 
-/// The line of a hop: who receives which message in which record, and who sends it in which record, `after` the event at
-/// that place.
+/// The line of a hop: who receives which message in which record, and who sends it in which record, `after` the event
+/// at that place.
 fn hop_line(
     alloc: Global,
     text: &[u8],

@@ -197,8 +197,8 @@ fn passed_log(
     }
 }
 
-/// The import of an aligned log, of its trace and its late messages, by a clock. So many events are in the log, the first of
-/// them at a time.
+/// The import of an aligned log, of its trace and its late messages, by a clock. So many events are in the log, the
+/// first of them at a time.
 fn import_of(
     aligned: AlignedLog,
     made: LogTrace,

@@ -9,8 +9,8 @@ ghost use Rattle.event_log.specs.Logs.{SeenLog};
 ghost use Rattle.event_log.specs.SentLaws.{AreFound};
 
 /// The laws of imports. A text, read by options, gives one list of events, or is refused for one reason before there
-/// are any. So a text and options have one import. If no name goes to a node twice, a node takes by a name the message that
-/// was sent to it, or, if none was, the first of that name.
+/// are any. So a text and options have one import. If no name goes to a node twice, a node takes by a name the message
+/// that was sent to it, or, if none was, the first of that name.
 ///
 /// These are theorems over the definitions. The contract quantifies over all texts and options. Calling it does
 /// nothing.

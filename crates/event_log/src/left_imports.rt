@@ -28,8 +28,8 @@ use timed_events::{Clock, EventError, IdleError, Lateness, cycle_of_causes, leas
 /// The import of the events of an aligned log without lost sends, if `drop`, and then with merged receives, if `merge`.
 /// Asks for one of the two.
 ///
-/// Refuses NoEvents if none is left; UntilUnfit and TooManyTicks before receives are merged; then the first reason against
-/// the events that are left. Memory may come at any step.
+/// Refuses NoEvents if none is left; UntilUnfit and TooManyTicks before receives are merged; then the first reason
+/// against the events that are left. Memory may come at any step.
 pub(crate) fn left_import(
     alloc: Global,
     text: CowSlice<'_, u8, Global>,
@@ -71,7 +71,8 @@ pub(crate) fn left_import(
     Ok(left_import_of(aligned, left, made, lateness, counts, first, clock))
 }
 
-/// How many events are lost sends and how many receives are merged into others, if these are counted, and how many are left.
+/// How many events are lost sends and how many receives are merged into others, if these are counted, and how many are
+/// left.
 #[derive(Clone, Copy)]
 struct Counts {
     lost: Option<u64>,
@@ -89,8 +90,8 @@ fn removed(asked: bool, before: usize, after: usize) -> Option<u64>
     None
 }
 
-/// The import of an aligned log, of the events that are left of it, of their trace and its late messages, by a clock. The
-/// first of them is at a time.
+/// The import of an aligned log, of the events that are left of it, of their trace and its late messages, by a clock.
+/// The first of them is at a time.
 fn left_import_of(
     aligned: AlignedLog,
     left: TakenEvents,

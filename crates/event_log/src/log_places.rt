@@ -89,7 +89,8 @@ pub(crate) fn part_at(parts: &[Vec<u32>], place: usize) -> &[u32]
     parts[place].as_slice()
 }
 
-/// The place in the log of the event that received message `message` of the event at a place, and which of its messages it is.
+/// The place in the log of the event that received message `message` of the event at a place, and which of its messages
+/// it is.
 fn source_in(
     events: &[Event],
     places: &[u32],

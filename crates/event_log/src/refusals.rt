@@ -60,7 +60,8 @@ pub enum LogError {
     NotLater(u64, Name, Option<Hint>),
     /// An earlier record is of the same node in the same tick; with what would help.
     SecondEvent(u64, Name, u64, Option<Hint>),
-    /// The event is in a cycle of messages or behind one, and none before it is; with the lines of the hops of such a cycle.
+    /// The event is in a cycle of messages or behind one, and none before it is; with the lines of the hops of such a
+    /// cycle.
     Cycle(u64, CycleLines),
     /// If clocks are to be aligned: no offsets bring the messages into order; with the lines of a cycle of clocks.
     NoOffsets(CycleLines),

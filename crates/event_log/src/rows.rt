@@ -1,5 +1,5 @@
-//! The records of a log, taken in one after the other: `TakeRows` says what is made of a record, and `take_rows` gives it
-//! all records of a text.
+//! The records of a log, taken in one after the other: `TakeRows` says what is made of a record, and `take_rows` gives
+//! it all records of a text.
 
 ghost use Rattle.std.specs.Prelude.{ℕ, List, Result};
 ghost use Rattle.csv.specs.Records.{fields_of};
@@ -11,8 +11,9 @@ use crate::refusals::LogError;
 use csv::{ByteRecord, ErrorKind, ReaderBuilder};
 use std::alloc::Global;
 
-/// What takes in the records of a text: here the reader of a log's events. In `log_windows` it is what keeps the records of
-/// a window, what spreads lists of nodes, what keeps the names that are sent, and what renumbers a table of steps.
+/// What takes in the records of a text: here the reader of a log's events. In `log_windows` it is what keeps the
+/// records of a window, what spreads lists of nodes, what keeps the names that are sent, and what renumbers a table of
+/// steps.
 pub trait TakeRows {
     // what one more record makes of it, or why the record is refused
     ghost next: { Self → List (List ℕ) → Result Self LogError };

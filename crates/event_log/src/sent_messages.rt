@@ -8,8 +8,8 @@ use crate::names::NameSet;
 use std::alloc::{AllocError, Global};
 use std::marker::Model;
 
-/// The messages that were sent. Most names are sent to one node, and looked up by themselves alone. What has a name that
-/// was sent before is a copy, and looked up by its node too.
+/// The messages that were sent. Most names are sent to one node, and looked up by themselves alone. What has a name
+/// that was sent before is a copy, and looked up by its node too.
 #[derive(Drop)]
 pub(crate) struct SentMessages {
     /// The names, in the order of their first sends.
@@ -76,7 +76,8 @@ impl SentMessages {
         Ok(())
     }
 
-    /// The place of the event that sent this name to this node. If none did, that of the first event that sent the name.
+    /// The place of the event that sent this name to this node. If none did, that of the first event that sent the
+    /// name.
     pub(crate) fn place_for(
         &self,
         alloc: Global,

@@ -33,7 +33,8 @@ pub(crate) struct TakenEvents {
     pub(crate) kept: usize,
 }
 
-/// The events of a log without lost sends, if `drop`, and then with merged receives, if `merge`. Asks for one of the two.
+/// The events of a log without lost sends, if `drop`, and then with merged receives, if `merge`. Asks for one of the
+/// two.
 ///
 /// Refuses NoEvents if none is left; UntilUnfit and TooManyTicks before receives are merged; and Memory.
 pub(crate) fn taken_events(

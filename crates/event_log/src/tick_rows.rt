@@ -44,7 +44,8 @@ pub struct TickRow {
 }
 
 impl TickRow {
-    /// How many nanoseconds the length has in a log with times of this kind; nothing if these are whole numbers of no unit.
+    /// How many nanoseconds the length has in a log with times of this kind; nothing if these are whole numbers of no
+    /// unit.
     pub fn nanoseconds(&self, kind: TimeKind) -> Option<u128>
         ensures { result ≡ tick_nanoseconds kind self.now.width }
     {
@@ -58,7 +59,7 @@ impl TickRow {
 /// A row for each length of a tick: for 1, 2 and 5 times the powers of ten, from 1 to the first that is longer than the
 /// log, or to 5,000,000,000,000,000,000. Events may be spread.
 ///
-/// Asks for the same as `trace_of_events`. Refuses what it refuses for one of these lengths, but for TooManyTicks.
+/// Refuses what `event_ticks` refuses for one of these lengths, but for TooManyTicks.
 pub(crate) fn tick_rows(
     alloc: Global,
     n: u64,

@@ -10,8 +10,8 @@ ghost use Rattle.idle_laws.specs.Fillings.{IsFull, IsPlain, IsSparse, Log};
 /// The communication bounds of a log with receives of nothing.
 ///
 /// With one in the last tick of each short silence a bound holds exactly if it does with one in each of their ticks
-/// (`holds`). So the least bounds are the same (`least`). A bound that holds with receives of nothing holds without them
-/// (`plain`).
+/// (`holds`). So the least bounds are the same (`least`). A bound that holds with receives of nothing holds without
+/// them (`plain`).
 ///
 /// Theorems over the definitions: they quantify over all logs, limits, sets, ticks and bounds. Calling it does nothing.
 pub fn delta_laws()
@@ -25,10 +25,10 @@ pub fn delta_laws()
 
 /// The processor bounds of a log with receives of nothing.
 ///
-/// With one in the last tick of each short silence a bound of at least the limit holds exactly if it does with one in each
-/// of their ticks (`holds`). So a least bound above the limit is the same (`above`). Any is at least the one with receives
-/// in each tick, and at most the greater of that one and the limit (`between`). A bound that holds without receives of
-/// nothing holds with them (`plain`).
+/// With one in the last tick of each short silence a bound of at least the limit holds exactly if it does with one in
+/// each of their ticks (`holds`). So a least bound above the limit is the same (`above`). Any is at least the one with
+/// receives in each tick, and at most the greater of that one and the limit (`between`). A bound that holds without
+/// receives of nothing holds with them (`plain`).
 ///
 /// Theorems over the definitions, as those of `delta_laws`.
 pub fn phi_laws()

@@ -36,8 +36,8 @@ impl Model for Reading {
 
 /// The decisions that a text has, in its order, of a run with so many processors and with this last tick.
 ///
-/// Refuses in the order of `DecisionsError`; the first record that is refused decides. Memory may come instead of any refusal
-/// but TooLarge.
+/// Refuses in the order of `DecisionsError`; the first record that is refused decides. Memory may come instead of any
+/// refusal but TooLarge.
 pub fn decisions_of_text(
     alloc: Global,
     text: &[u8],

@@ -71,8 +71,9 @@ fn least_factor_in_whole(
 /// started in this tick. It is the greatest of those of all prefixes of the run. None if no factor is enough.
 ///
 /// First finds what some prefixes need, from the start of the run to its end. Then it looks at the prefixes at which
-/// `first_late_in_time` would look for the formula times the factor so far, and likewise at the last ticks of most: only
-/// if a deadline is due there, the prefix may need a greater factor. Memory may come only if there is such a prefix.
+/// `first_late_in_time` would look for the formula times the factor so far, and likewise at the last ticks of most:
+/// only if a deadline is due there, the prefix may need a greater factor. Memory may come only if there is such a
+/// prefix.
 pub fn least_factor_in_time(
     alloc: Global,
     trace: &Trace,

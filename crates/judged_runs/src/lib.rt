@@ -1,6 +1,6 @@
-//! Judges the decisions of a run: agreement, validity, and the claim that each correct processor decides in time. Has the
-//! search by prefixes of the run, the readers of decisions' texts and of lists of runs, the line of a verdict, and the summary
-//! of many; `specs/` has the definitions.
+//! Judges the decisions of a run: agreement, validity, and the claim that each correct processor decides in time. Has
+//! the search by prefixes of the run, the readers of decisions' texts and of lists of runs, the line of a verdict, and
+//! the summary of many; `specs/` has the definitions.
 #![tactic(auto)]
 
 mod deadline_rows;

@@ -130,8 +130,8 @@ fn look_at(
     look_at_all(alloc, analyst, decisions, start, formula, ahead.tick)
 }
 
-/// Where the search goes on by a glance at the last ticks of the next prefix: no deadline is due before. If they may say
-/// too little, it is at that prefix.
+/// Where the search goes on by a glance at the last ticks of the next prefix: no deadline is due before. If they may
+/// say too little, it is at that prefix.
 pub(crate) fn glance_at(
     alloc: Global,
     analyst: &mut PrefixAnalyst<'_>,

@@ -2,8 +2,8 @@
 
 use thiserror::Error;
 
-/// Why a text of decisions is refused, in the order in which the reasons are tested. A number is that of the record after
-/// the header, from 1. The first record that is refused decides.
+/// Why a text of decisions is refused, in the order in which the reasons are tested. A number is that of the record
+/// after the header, from 1. The first record that is refused decides.
 #[derive(Debug, Drop, Error)]
 pub enum DecisionsError {
     /// The text has more than 67,108,864 bytes.
@@ -24,8 +24,8 @@ pub enum DecisionsError {
     Memory,
 }
 
-/// Why a list of runs is refused, in the order in which the reasons are tested. A number is that of the record after the
-/// header, from 1. The first record that is refused decides.
+/// Why a list of runs is refused, in the order in which the reasons are tested. A number is that of the record after
+/// the header, from 1. The first record that is refused decides.
 #[derive(Debug, Drop, Error)]
 pub enum RunListError {
     /// The text has more than 67,108,864 bytes.

@@ -54,8 +54,8 @@ impl Model for Reading {
 
 /// The runs that a text lists, in its order.
 ///
-/// Refuses in the order of `RunListError`; the first record that is refused decides. Memory may come instead of any refusal
-/// but TooLarge.
+/// Refuses in the order of `RunListError`; the first record that is refused decides. Memory may come instead of any
+/// refusal but TooLarge.
 pub fn runs_of_text(alloc: Global, text: &[u8]) -> Result<Vec<ListedRun>, RunListError>
     ensures runs { Gives (λ v. v.items) result (runs_of_text text.now) }
     ensures within { result ≡ Err RunListError.Memory → length text.now ≤ MAX_TEXT_BYTES }

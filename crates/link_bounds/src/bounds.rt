@@ -3,8 +3,8 @@
 ghost use Rattle.std.specs.Prelude.{◌≡◌, ◌≤◌, None};
 ghost use Rattle.step_trace.specs.declared.traces.TheConstants.{MAX_TICKS};
 
-/// The least positive bound that all evidence of one kind leaves possible, in ticks, and the evidence against each smaller
-/// one: none at 1.
+/// The least positive bound that all evidence of one kind leaves possible, in ticks, and the evidence against each
+/// smaller one: none at 1.
 #[derive(Clone, Copy, Debug, PartialEq, Eq)]
 pub struct LeastBound<E> {
     pub least: u64,

@@ -17,8 +17,8 @@ use suffix_staircase::step_of;
 /// What is known of the gaps of each processor after a step.
 #[derive(Debug, Drop)]
 pub(crate) struct Paces {
-    // For each processor the tick of its next step: one after the last if there is none. The entry of number 0, which is
-    // no processor, is 0.
+    // For each processor the tick of its next step: one after the last if there is none. The entry of number 0, which
+    // is no processor, is 0.
     next_steps: Vec<u64>,
     // For each processor the bound that its gaps from its next step on leave possible.
     bounds: Vec<LeastBound<Gap>>,

@@ -63,8 +63,8 @@ pub(crate) fn take_rows_from<R: Read, T: TakeRows>(
     take_all(alloc, reader, &mut piece, &mut rest, taker)
 }
 
-/// The same, by reads of so many bytes as the piece has. The bytes that were read are kept after a line feed, so that no
-/// byte order mark that begins a part is passed over.
+/// The same, by reads of so many bytes as the piece has. The bytes that were read are kept after a line feed, so that
+/// no byte order mark that begins a part is passed over.
 fn take_all<R: Read, T: TakeRows>(
     alloc: Global,
     reader: &mut Counting<R>,

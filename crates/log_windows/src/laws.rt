@@ -20,8 +20,8 @@ ghost use Rattle.log_windows.specs.Windows.{window_of};
 /// times are in it, with their places in the log. A log in which each send is to one node has the rows of all events.
 /// Of the messages that a receive names, exactly those stay that are sent to its node.
 ///
-/// These are theorems over the definitions, which go on record by record. The contract quantifies over all texts. Calling
-/// it does nothing.
+/// These are theorems over the definitions, which go on record by record. The contract quantifies over all texts.
+/// Calling it does nothing.
 pub fn window_laws()
     ensures window { (unit : Option TimeUnit) (from : LogEnd) (until : Option LogEnd) (text : List ℕ) (w : LogWindow)
         → IsWindow unit from until text w → IsWindowAtOnce unit from until (records_of_text text) w }

@@ -1,5 +1,6 @@
-//! Logs whose records may send a message to several nodes, and windows of logs: the events of a log of any length from a
-//! time on, to another if there is one, read as a log of their own. `specs/` has the definitions that the contracts cite.
+//! Logs whose records may send a message to several nodes, and windows of logs: the events of a log of any length from
+//! a time on, to another if there is one, read as a log of their own. `specs/` has the definitions that the contracts
+//! cite.
 #![tactic(auto)]
 
 mod bounds;

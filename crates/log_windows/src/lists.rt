@@ -31,11 +31,12 @@ pub(crate) fn may_list(text: &[u8]) -> bool
     text.contains(&b';')
 }
 
-/// The log in which each send is to one node: a record that lists several, with semicolons between them, becomes one for
-/// each, in that order. All events are in this window.
+/// The log in which each send is to one node: a record that lists several, with semicolons between them, becomes one
+/// for each, in that order. All events are in this window.
 ///
 /// Refuses TooLarge; what its header is refused for; an event beyond `MAX_LOGGED`; and TooLarge for the text that this
-/// makes. The first record that is refused decides. Memory may come at any step, but only for a text that isn't too large.
+/// makes. The first record that is refused decides. Memory may come at any step, but only for a text that isn't too
+/// large.
 pub(crate) fn spread_log(alloc: Global, text: &[u8]) -> Result<LogWindow, LogError>
     ensures log { IfOk result (IsSpreadOf text.now) }
     ensures refused { IfErr result (λ why. MatchBool (is_memory why) ⊤ (IsUnspread text.now why)) }

@@ -14,7 +14,8 @@ use trace_text::MAX_TEXT_BYTES;
 /// The import of a log: as `read_log` gives it, once each send is to one node.
 ///
 /// Refuses the same, by the records of the log; and TooLarge, if its text is too large with a record for each send.
-/// Memory comes only for a text that isn't too large. A text that is given, not lent, is freed before the trace is made.
+/// Memory comes only for a text that isn't too large. A text that is given, not lent, is freed before the trace is
+/// made.
 pub fn log_import(
     alloc: Global,
     text: CowSlice<'_, u8, Global>,

@@ -28,13 +28,13 @@ pub struct LogWindow {
     pub unsent: u64,
 }
 
-/// Reads the window of a log that a device has left: its events from a time on, to another if there is one. If a unit is
-/// given, times are whole numbers of it. The log may be of any length; what is outside the window takes no memory.
+/// Reads the window of a log that a device has left: its events from a time on, to another if there is one. If a unit
+/// is given, times are whole numbers of it. The log may be of any length; what is outside the window takes no memory.
 ///
 /// Refuses Read at the first fault. Else the first record that is refused decides: for what its header lacks; for an
-/// event beyond `MAX_LOGGED`; for a time that can't be read; for a start or an end that doesn't fit the times, or a start
-/// after the end; for a window whose text is too large. TooLarge also decides if more than `MAX_TEXT_BYTES` were read of
-/// a record, and not its end. Memory may come at any step.
+/// event beyond `MAX_LOGGED`; for a time that can't be read; for a start or an end that doesn't fit the times, or a
+/// start after the end; for a window whose text is too large. TooLarge also decides if more than `MAX_TEXT_BYTES` were
+/// read of a record, and not its end. Memory may come at any step.
 pub fn read_window<R: Read>(
     alloc: Global,
     reader: &mut Counting<R>,

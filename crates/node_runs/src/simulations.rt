@@ -16,8 +16,8 @@ use std::io::Write;
 use step_buffers::{StepError, World};
 use trace_text::{Counting, write_trace};
 
-/// Simulates the run that is asked for, writes the text of its trace, and then notes who decided what, and in which tick.
-/// Nothing is written before the run is whole; that the notes can't be written stops nothing.
+/// Simulates the run that is asked for, writes the text of its trace, and then notes who decided what, and in which
+/// tick. Nothing is written before the run is whole; that the notes can't be written stops nothing.
 ///
 /// Refuses Memory; NotARun(0) if a step is refused; and Write with the number of bytes that went out before.
 pub fn run_simulation<W: Write, N: Write>(

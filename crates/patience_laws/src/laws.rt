@@ -27,8 +27,8 @@ use deciding_runs::heard_out_laws;
 /// A run by the pace goes on with what `Pace::take` and `Pace::next_move` of `deciding_runs` answer (own).
 ///
 /// A theorem: it stands in the contract, and calling it does nothing. No steps are a run by the pace (`begins`). With a
-/// step more it stays one, if the step is another processor's or what the pace answers (`moved`), and the pace goes on as
-/// that answer says (`pace`).
+/// step more it stays one, if the step is another processor's or what the pace answers (`moved`), and the pace goes on
+/// as that answer says (`pace`).
 pub fn paced_laws()
     ensures begins { (c : Setup) (patience p : ℕ) → StepsByPace c patience [] p }
     ensures moved { (c : Setup) (patience : ℕ) (steps : List TraceStep) (step : TraceStep) (p : ℕ) → IsWellFormed c steps
@@ -70,13 +70,13 @@ pub fn silence_laws()
 
 /// How soon a round is over, by the processor bound f.
 ///
-/// A theorem, as `paced_laws` is. A processor with at most `most` messages to send in its round has sent them
-/// `most` times f ticks after it came to the round. From then on each of its Receives may end the round; if each does
-/// from tick z on, the round is over by tick z + f (`ends`). They do if it has heard of a round more than a phase ahead
-/// (`behind`), and if the set has N - t members, it has heard of all of them that it may hear in the round, and suspects
-/// all others (`hears`). By the communication bound d, what one member sends to another from tick g on is taken by each
-/// Receive d ticks later (`taken`). In so many times f ticks a processor makes as many steps (`steps`); so who is left behind
-/// passes a phase in (2 N + 6) f ticks (`catches_up`).
+/// A theorem, as `paced_laws` is. A processor with at most `most` messages to send in its round has sent them `most`
+/// times f ticks after it came to the round. From then on each of its Receives may end the round; if each does from
+/// tick z on, the round is over by tick z + f (`ends`). They do if it has heard of a round more than a phase ahead
+/// (`behind`), and if the set has N - t members, it has heard of all of them that it may hear in the round, and
+/// suspects all others (`hears`). By the communication bound d, what one member sends to another from tick g on is
+/// taken by each Receive d ticks later (`taken`). In so many times f ticks a processor makes as many steps (`steps`);
+/// so who is left behind passes a phase in (2 N + 6) f ticks (`catches_up`).
 pub fn round_laws()
     ensures ends { (trace : Recorded) (patience set g f p round x most z : ℕ) → IsRun trace.config trace.steps
         → IsTimed trace → StepsByPace trace.config patience trace.steps p → IsTrue (has_proc set p)
@@ -113,11 +113,11 @@ pub fn round_laws()
 /// By which tick the least round of the members is over, by the bounds d and f (own).
 ///
 /// A theorem, as `paced_laws` is. At least N - t members step by the pace, are in a round or in later ones from tick x
-/// on, and suspect all others; and what they send in these rounds comes under the bounds. Then the round is over for all
-/// of them d + 2 f ticks later if it is a listing round, d + (N + 4) f later if it is a locking round, d + 2 f later
-/// if it is an acknowledging round in which all owe an acknowledgement to an owner with a proposal, and d + (N + 1) f later
-/// if it is a lock-release round. So a phase is over 4 d + (2 N + 9) f ticks later (`phase`). How long a round takes does
-/// not depend on the patience.
+/// on, and suspect all others; and what they send in these rounds comes under the bounds. Then the round is over for
+/// all of them d + 2 f ticks later if it is a listing round, d + (N + 4) f later if it is a locking round, d + 2 f
+/// later if it is an acknowledging round in which all owe an acknowledgement to an owner with a proposal, and d + (N +
+/// 1) f later if it is a lock-release round. So a phase is over 4 d + (2 N + 9) f ticks later (`phase`). How long a
+/// round takes does not depend on the patience.
 pub fn least_laws()
     ensures listing { (patience set : ℕ) (trace : Recorded) (g d f round x : ℕ) → KeepsBounds patience set trace g d f
         → AreInTouch patience set trace g round x → AreInRoundFrom set trace round x → 1 ≤ round → part_of round ≡ 1
@@ -140,10 +140,10 @@ pub fn least_laws()
 
 /// No member is stuck, and after a phase the others count no more (own).
 ///
-/// A theorem, as `paced_laws` is. Whatever it hears, a member passes each round in (N + P + 1) f ticks with a patience of P
-/// (`passes`). From tick g on no member takes anything of another processor. Then the members are in touch once each has
-/// passed a phase that nobody had come to before g (`in_touch`). A processor comes to no more than one round in a tick
-/// (`comes`).
+/// A theorem, as `paced_laws` is. Whatever it hears, a member passes each round in (N + P + 1) f ticks with a patience
+/// of P (`passes`). From tick g on no member takes anything of another processor. Then the members are in touch once
+/// each has passed a phase that nobody had come to before g (`in_touch`). A processor comes to no more than one round
+/// in a tick (`comes`).
 pub fn progress_laws()
     ensures passes { (trace : Recorded) (patience set g f p round x count : ℕ) → IsRun trace.config trace.steps
         → IsTimed trace → StepsByPace trace.config patience trace.steps p → IsTrue (has_proc set p)
@@ -159,13 +159,13 @@ pub fn progress_laws()
 
 /// Members that come to a round together, and have the patience for it, decide (own).
 ///
-/// A theorem, as `paced_laws` is. At least N - t members step by the pace with a patience of at least 5 d + (3 N + 10) f
-/// Receives, come to the first round of a phase within d + (N + 1) f ticks of one another, suspect no member and
-/// suspect all others; and what they say from then on comes under the bounds and is taken in order. Then no patience ends
-/// a round of theirs, and none is left behind: each round is ended when all members were heard that may be heard in it
-/// (`heard_out`). A phase takes 4 d + (2 N + 9) f ticks (`phases`). So by a tick x, which is N + 1 phases and f ticks
-/// after the last member came to the round, each has passed the deciding round (`passed`), and has decided if the trace
-/// goes on so long (`decided`). Members come together so once all have heard out one lock-release round (`meet`).
+/// A theorem, as `paced_laws` is. At least N - t members step by the pace with a patience of at least 5 d + (3 N + 10)
+/// f Receives, come to the first round of a phase within d + (N + 1) f ticks of one another, suspect no member and
+/// suspect all others; and what they say from then on comes under the bounds and is taken in order. Then no patience
+/// ends a round of theirs, and none is left behind: each round is ended when all members were heard that may be heard
+/// in it (`heard_out`). A phase takes 4 d + (2 N + 9) f ticks (`phases`). So by a tick x, which is N + 1 phases and f
+/// ticks after the last member came to the round, each has passed the deciding round (`passed`), and has decided if the
+/// trace goes on so long (`decided`). Members come together so once all have heard out one lock-release round (`meet`).
 pub fn meeting_laws()
     ensures meet { (patience set : ℕ) (trace : Recorded) (g d f round y : ℕ) → KeepsBounds patience set trace g d f
         → MeetOnce patience set trace g round y → ComeTogether patience set trace g d f round y }
@@ -194,15 +194,15 @@ pub fn meeting_laws()
 
 /// Members that need one another meet, and decide (own).
 ///
-/// A theorem, as `paced_laws` is. At least N - t members step by the pace with a patience P of at least
-/// 5 d + (4 N + 14) f Receives, which 8 d + (4 N + 18) f is. From tick g on the bounds hold, and the members are alone, in
-/// rounds from `least` on; before g nobody was in a round above `most`. They take one another's messages in order, and each
-/// takes its own at once. And they need one another: they are exactly N - t, or none suspects a member from g on. Whatever
-/// they had heard and sent, they meet before a tick (`meet`): with u = (N + P + 1) f and w = (most + 9 - least) u, it is
-/// g + (most + 5 w + 21 - least) u. So all decide N + 1 phases later (`decide`). The gap closes, for all members pass five
-/// rounds in P ticks (`five`), and the foremost doesn't end a lock-release round sooner if a member isn't in it. Any
-/// members that are within a phase of one another when the first comes to such a round, and suspect none in it, meet in it,
-/// before P ticks are over (`near`).
+/// A theorem, as `paced_laws` is. At least N - t members step by the pace with a patience P of at least 5 d + (4 N +
+/// 14) f Receives, which 8 d + (4 N + 18) f is. From tick g on the bounds hold, and the members are alone, in rounds
+/// from `least` on; before g nobody was in a round above `most`. They take one another's messages in order, and each
+/// takes its own at once. And they need one another: they are exactly N - t, or none suspects a member from g on.
+/// Whatever they had heard and sent, they meet before a tick (`meet`): with u = (N + P + 1) f and w = (most + 9 -
+/// least) u, it is g + (most + 5 w + 21 - least) u. So all decide N + 1 phases later (`decide`). The gap closes, for
+/// all members pass five rounds in P ticks (`five`), and the foremost doesn't end a lock-release round sooner if a
+/// member isn't in it. Any members that are within a phase of one another when the first comes to such a round, and
+/// suspect none in it, meet in it, before P ticks are over (`near`).
 pub fn gathering_laws()
     ensures five { (patience set : ℕ) (trace : Recorded) (g d f round x wait : ℕ) → KeepsBounds patience set trace g d f
         → TakeInOrder set trace → HearThemselves set trace → AreInTouch patience set trace g round x

@@ -9,7 +9,8 @@ use crate::round_times::round_from;
 use crate::scales::{Span, WIDE};
 use run_words::{Clock, power_within, round_step};
 
-/// Writes the axis of some ticks, with at most so many numbers or a few more: points of time if ticks have a known length.
+/// Writes the axis of some ticks, with at most so many numbers or a few more: points of time if ticks have a known
+/// length.
 pub(crate) fn put_axis(pen: &mut Pen<'_>, clock: Option<Clock>, span: Span, numbers: u64) {
     pen.text("<div class=\"ax\" aria-hidden=\"true\">");
     match clock {

@@ -18,7 +18,8 @@ pub(crate) const CARDS: usize = 40;
 /// With more nodes than this only the first card has a picture of all lanes.
 const FEW_NODES: u64 = 16;
 
-/// Writes the cards of the first evidence. Those that count only after the calm row come into one part, which is closed.
+/// Writes the cards of the first evidence. Those that count only after the calm row come into one part, which is
+/// closed.
 pub(crate) fn put_cards(alloc: Global, pen: &mut Pen<'_>, run: &Run<'_>) {
     let group = first_late(run);
     for place in 0..run.evidence.len().min(CARDS) {
@@ -83,7 +84,8 @@ fn put_scene(alloc: Global, pen: &mut Pen<'_>, run: &Run<'_>, scene: &Scene<'_>)
     put_within(pen, &picture, ROOM_FOR_PICTURES);
 }
 
-/// Whether the card of this place has the picture of all lanes too: the first one, and the next ones if the nodes are few.
+/// Whether the card of this place has the picture of all lanes too: the first one, and the next ones if the nodes are
+/// few.
 fn may_have_all_lanes(run: &Run, place: usize) -> bool {
     place == 0 || place < LARGE && run.count() <= FEW_NODES
 }

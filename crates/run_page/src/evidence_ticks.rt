@@ -13,8 +13,8 @@ use run_story::{Delay, Evidence, Stall, evidence_of};
 use std::alloc::{AllocError, Global};
 use step_trace::{Row, Trace};
 
-/// A Receive that takes a late message is near to its miss if it comes fewer ticks after it than the miss is long, or than
-/// this.
+/// A Receive that takes a late message is near to its miss if it comes fewer ticks after it than the miss is long, or
+/// than this.
 const NEAR: u64 = 20;
 
 /// What part of its own length is added to a stretch at both ends, and how many ticks at least.
@@ -22,8 +22,8 @@ const MARGINS: u64 = 7;
 
 const LEAST_MARGIN: u64 = 4;
 
-/// The ticks in which a picture shows the first evidence of a report of the trace, but at most the first `MAX_WINDOW` of them;
-/// none if there is no evidence. They are ticks of the trace.
+/// The ticks in which a picture shows the first evidence of a report of the trace, but at most the first `MAX_WINDOW`
+/// of them; none if there is no evidence. They are ticks of the trace.
 ///
 /// Time grows with the trace and the rows, apart from the sorting of the evidence. Fails only if out of memory.
 pub fn evidence_window(

@@ -1,4 +1,5 @@
-//! The page about a run, as HTML: its headline, what is to be seen at a glance, who is late, and the evidence for each bound.
+//! The page about a run, as HTML: its headline, what is to be seen at a glance, who is late, and the evidence for each
+//! bound.
 #![tactic(auto)]
 
 mod axes;

@@ -121,8 +121,8 @@ fn count_taken(pane: &Pane, ids: &[u64], class: u64) -> u64 {
     count
 }
 
-/// How near a message is to the evidence: 1 if it goes the same way, 2 if one of its nodes is of the evidence, else 3. None if
-/// it is the evidence's own, or hasn't both lanes.
+/// How near a message is to the evidence: 1 if it goes the same way, 2 if one of its nodes is of the evidence, else 3.
+/// None if it is the evidence's own, or hasn't both lanes.
 fn class_of(pane: &Pane, sent: u64) -> Option<u64> {
     let (run, evidence) = (pane.run, pane.scene.evidence);
     let (from, to) = (run.proc(sent), run.receiver(sent));

@@ -44,8 +44,8 @@ pub(crate) enum Piece {
     In(u64),
     /// The same with a time that is rounded up, for a look at the whole run.
     From(u64),
-    /// When a step was made: in which tick, and by its number which step. If neither the length of a tick nor the record of
-    /// the step is known, the tick alone.
+    /// When a step was made: in which tick, and by its number which step. If neither the length of a tick nor the
+    /// record of the step is known, the tick alone.
     Made { tick: u64, no: u64 },
     /// The same, but always with the step.
     Stepped { tick: u64, no: u64 },

@@ -4,12 +4,12 @@ ghost use Rattle.std.specs.Prelude.{◌≤◌};
 
 use run_words::{Clock, power_within};
 
-/// How many ticks a run has at most by the shorter tick that the page names. A trace may have `step_trace::MAX_TICKS`; the rest
-/// is room for events that move.
+/// How many ticks a run has at most by the shorter tick that the page names. A trace may have `step_trace::MAX_TICKS`;
+/// the rest is room for events that move.
 const MOST_TICKS: u64 = 990_000;
 
-/// Where a run has so many ticks, the least round length of a tick that is short enough for it, in nanoseconds, if it is
-/// shorter than that of the clock: then the run has `MOST_TICKS` at most.
+/// Where a run has so many ticks, the least round length of a tick that is short enough for it, in nanoseconds, if it
+/// is shorter than that of the clock: then the run has `MOST_TICKS` at most.
 pub(crate) fn finer(clock: Clock, ticks: u64) -> Option<u64> {
     let width = round_from(clock.time_of(ticks).div_ceil(MOST_TICKS));
     if width < clock.width {
@@ -19,7 +19,8 @@ pub(crate) fn finer(clock: Clock, ticks: u64) -> Option<u64> {
     }
 }
 
-/// The least of 1, 2 and 5 times the powers of ten that isn't below a number; from the longest time that is told on it may be.
+/// The least of 1, 2 and 5 times the powers of ten that isn't below a number; from the longest time that is told on it
+/// may be.
 pub(crate) fn round_from(number: u64) -> u64
     ensures { 1 ≤ result }
 {

@@ -122,7 +122,8 @@ fn put_cell(pen: &mut Pen<'_>, x: u64, y: u64, depth: u64) {
     ]);
 }
 
-/// How dark a cell is, in hundredths: by the logarithm of its bound over that of the greatest, and over a decade at least.
+/// How dark a cell is, in hundredths: by the logarithm of its bound over that of the greatest, and over a decade at
+/// least.
 fn depth(bound: u64, most: u64) -> u64 {
     (8 + log_of(bound) * 91 / log_of(most.max(10)).max(1)).min(99)
 }

@@ -37,7 +37,8 @@ fn plus(count: u64, counts: bool) -> u64
     if counts { count + 1 } else { count }
 }
 
-/// Whether evidence is made by the spread alone: of each part of it the clock shows less than half of what the ticks say.
+/// Whether evidence is made by the spread alone: of each part of it the clock shows less than half of what the ticks
+/// say.
 fn is_spread(trace: &Trace, said: &[StepRow], width: u64, evidence: &Evidence) -> bool
     ensures { IsTrue result ↔ IsSpread trace.now said.now width evidence.now.stall evidence.now.delay }
 {
@@ -78,8 +79,8 @@ fn is_less_than_half(width: u64, ticks: u64, time: u64) -> bool
     2 * u128::from(time) < u128::from(ticks) * u128::from(width)
 }
 
-/// How long a silence takes by the clock: from the step right before it to the one right after it. None if there is no such
-/// step, or a time of one isn't known.
+/// How long a silence takes by the clock: from the step right before it to the one right after it. None if there is no
+/// such step, or a time of one isn't known.
 fn silence_time(trace: &Trace, said: &[StepRow], stall: Stall) -> Option<u64>
     ensures { (time : ℕ) → Lasts trace.now said.now stall time ↔ (result ≡ Some time) }
 {

@@ -93,8 +93,8 @@ impl Heights {
         BOTTOM.saturating_sub(self.scale.rise(bound, FALL))
     }
 
-    /// The line of this number from 0 on, if there is one: at a round time if ticks have a known length, and else at a round
-    /// number of ticks.
+    /// The line of this number from 0 on, if there is one: at a round time if ticks have a known length, and else at a
+    /// round number of ticks.
     fn line(self, number: u64) -> Option<Line> {
         if let Some(clock) = self.clock {
             return self.time_line(clock, number);
@@ -298,7 +298,8 @@ fn put_hint(pen: &mut Pen<'_>, row: Row, x: u64) {
     ]);
 }
 
-/// Writes the names of both lines, where they begin: the upper one above its line, and the other below if they are near.
+/// Writes the names of both lines, where they begin: the upper one above its line, and the other below if they are
+/// near.
 pub(crate) fn put_tops(pen: &mut Pen<'_>, run: &Run<'_>, heights: Heights) {
     let first = run.row(0);
     let (upper, lower) = if first.delta > first.phi {

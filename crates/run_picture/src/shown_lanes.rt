@@ -6,7 +6,8 @@ ghost use Rattle.run_picture.specs.ShownLanes.{lane_number};
 
 use step_trace::{MAX_MEMBER, ProcSet};
 
-/// Which lane from the top is that of a processor, if these processors have lanes: as many of them have no greater number.
+/// Which lane from the top is that of a processor, if these processors have lanes: as many of them have no greater
+/// number.
 pub(crate) fn lane_number(lanes: ProcSet, processor: u64) -> u64
     ensures value { result ≡ lane_number lanes processor }
     ensures limit { result ≤ MAX_MEMBER }

@@ -90,8 +90,8 @@ impl Bound {
     }
 }
 
-/// Draws the staircase of a picture, with times if a clock tells them. Its shade of the ticks that are drawn reaches so far
-/// below it.
+/// Draws the staircase of a picture, with times if a clock tells them. Its shade of the ticks that are drawn reaches so
+/// far below it.
 pub(crate) fn put_staircase(
     alloc: Global,
     out: &mut Vec<u8>,

@@ -24,10 +24,10 @@ pub const MAX_LINES: usize = 10_000;
 /// How many misses are written, and how many gaps: the first, of the greatest bounds.
 pub const MAX_WITNESSES: usize = 1_000;
 
-/// The SVG of a picture of this trace, in UTF-8: the staircase and a strip of the steps of each lane, both over all ticks; and
-/// in its lanes the steps of its ticks with their messages and the witnesses. If its ticks are all, there are no strips. The
-/// lanes of the set are in ink. Nodes, messages and steps are called as in the log, as far as that is known; if the length of
-/// a tick is, the axes have times, too.
+/// The SVG of a picture of this trace, in UTF-8: the staircase and a strip of the steps of each lane, both over all
+/// ticks; and in its lanes the steps of its ticks with their messages and the witnesses. If its ticks are all, there
+/// are no strips. The lanes of the set are in ink. Nodes, messages and steps are called as in the log, as far as that
+/// is known; if the length of a tick is, the axes have times, too.
 ///
 /// Fails only if out of memory.
 pub fn svg_text(
@@ -96,7 +96,8 @@ pub(crate) fn put<D: Display + Drop>(
 /// How wide a name is that fits next to the lanes.
 const ROOM: u64 = 740;
 
-/// How far the widest names reach beyond the usual left edge: those of as many characters as are shown, all of them wide.
+/// How far the widest names reach beyond the usual left edge: those of as many characters as are shown, all of them
+/// wide.
 const MOST_OVERHANG: u64 = 1_060;
 
 /// How far the widest name next to a lane reaches beyond the usual left edge.

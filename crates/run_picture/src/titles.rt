@@ -135,7 +135,8 @@ fn push_received(
     push_made(out, said, clock, taken, tick)
 }
 
-/// Appends that this step misses a message which another processor sent it, so that no bound from tick `gst` on is less.
+/// Appends that this step misses a message which another processor sent it, so that no bound from tick `gst` on is
+/// less.
 pub(crate) fn push_miss_title(
     out: &mut Vec<u8>,
     words: Words<'_>,

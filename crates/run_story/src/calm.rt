@@ -37,7 +37,8 @@ fn calmest(rows: &[Row], last: u64) -> Option<usize>
     Some(calm)
 }
 
-/// Whether the rest of a run, from the tick of a row to the last one, has room for less than three times the greater bound.
+/// Whether the rest of a run, from the tick of a row to the last one, has room for less than three times the greater
+/// bound.
 pub fn is_poor(row: &Row, last: u64) -> bool
     ensures { result ≡ is_poor last row.now }
 {

@@ -155,7 +155,8 @@ fn goes_on(
         && (!flag_at(taken, first.sent) || (one_receiver || one_sender))
 }
 
-/// Whether none of both messages is ever taken, or both are and the later one is sent no later than the first one is missed.
+/// Whether none of both messages is ever taken, or both are and the later one is sent no later than the first one is
+/// missed.
 fn are_alike(trace: &Trace, taken: &[bool], first: Miss, next: Miss) -> bool
     requires { (s : ℕ) → flag_at taken.now s ≡ is_taken trace.now.steps s }
     ensures { result ≡ are_alike trace.now first next }

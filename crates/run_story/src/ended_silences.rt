@@ -15,9 +15,9 @@ const SHORTLY: u64 = 2;
 /// It is much longer than a miss if it is so many times as long.
 const MUCH: u64 = 4;
 
-/// The first place, in a list of evidence, of a silence that may have made a message late: one of its sender or its receiver,
-/// four times as long as the miss or longer. It ended before the Receive that misses the message, and not earlier before
-/// the Send than by twice the length of the miss.
+/// The first place, in a list of evidence, of a silence that may have made a message late: one of its sender or its
+/// receiver, four times as long as the miss or longer. It ended before the Receive that misses the message, and not
+/// earlier before the Send than by twice the length of the miss.
 ///
 /// Time grows with the list.
 pub fn ended_silence(trace: &Trace, list: &[Evidence], delay: Delay) -> Option<usize>

@@ -13,7 +13,8 @@ use crate::stalls::{Stall, stalls_of};
 use std::alloc::{AllocError, Global};
 use step_trace::{MAX_TICKS, Row, Trace};
 
-/// A stall, or a delay, or both: then the stall explains the delay. Its rows are those from place `first` to place `last`.
+/// A stall, or a delay, or both: then the stall explains the delay. Its rows are those from place `first` to place
+/// `last`.
 #[derive(Clone, Copy, Debug, PartialEq, Eq)]
 pub struct Evidence {
     pub stall: Option<Stall>,

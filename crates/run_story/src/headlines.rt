@@ -24,7 +24,8 @@ pub enum Headline {
     NoMember,
     /// The trace has no step.
     NoStep,
-    /// The calm row isn't poor, or it is given. `sent` says whether a member sends a message to a member in its tick or later.
+    /// The calm row isn't poor, or it is given. `sent` says whether a member sends a message to a member in its tick or
+    /// later.
     Calm { sent: bool },
     /// The run has fewer than `SHORT_RUN` ticks. The bounds are those of the first row.
     Short { delta: u64, phi: u64 },

@@ -24,13 +24,14 @@ const FEW: u64 = 4;
 /// The few receivers of most lost messages, and how many of these are theirs.
 #[derive(Debug, Drop)]
 pub struct LostReceivers {
-    /// In rising order; nobody if fewer than ten messages are lost, or these receivers are more than a quarter of the members.
+    /// In rising order; nobody if fewer than ten messages are lost, or these receivers are more than a quarter of the
+    /// members.
     pub who: Vec<u64>,
     pub lost: u64,
 }
 
-/// The fewest receivers that 80 per cent of the lost messages between members of a set are for: those with the most, and of
-/// several with as many the first.
+/// The fewest receivers that 80 per cent of the lost messages between members of a set are for: those with the most,
+/// and of several with as many the first.
 ///
 /// Time grows with the steps and the ids that they take. Fails only if out of memory.
 pub fn lost_receivers(

@@ -89,8 +89,8 @@ const MOST_LOGGED: u64 = 1_048_576;
 
 const MOST_EXPONENT: u64 = 20;
 
-/// The logarithm of a number to base 2, in thousandths, straight between powers of two; 0 for 0. Numbers above `MOST_LOGGED`
-/// count as that.
+/// The logarithm of a number to base 2, in thousandths, straight between powers of two; 0 for 0. Numbers above
+/// `MOST_LOGGED` count as that.
 pub fn log_of(number: u64) -> u64
     ensures value { result ≡ log_of number }
     ensures limit { result ≤ 21_000 }

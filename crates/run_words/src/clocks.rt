@@ -64,11 +64,11 @@ pub struct Clock {
 }
 
 impl Clock {
-    /// The clock of a run of so many ticks of so many nanoseconds each. None if a tick has no length, or the run would take
-    /// more than `LONGEST`.
+    /// The clock of a run of so many ticks of so many nanoseconds each. None if a tick has no length, or the run would
+    /// take more than `LONGEST`.
     ///
-    /// A point of time is told to a tenth of a tick, but to a ten thousandth of the run at most; and to a 500th of the run
-    /// where the whole is looked at.
+    /// A point of time is told to a tenth of a tick, but to a ten thousandth of the run at most; and to a 500th of the
+    /// run where the whole is looked at.
     pub fn of(width: u64, ticks: u64) -> Option<Self>
         ensures { result ≡ clock_of width ticks }
     {
@@ -103,7 +103,8 @@ impl Clock {
         push_point(out, self.unit, fine, (time + fine / 2) / fine)
     }
 
-    /// Appends a point of time of so many nanoseconds, in parts of so many, a power of ten; what is left of a part is cut off.
+    /// Appends a point of time of so many nanoseconds, in parts of so many, a power of ten; what is left of a part is
+    /// cut off.
     pub fn push_time(self, out: &mut Vec<u8>, time: u64, part: u64) -> Result<(), AllocError>
         ensures { OnOk result (out.new.items ≡ out.old.items ++ time_point self time part) }
     {
@@ -145,8 +146,8 @@ fn clock_for(width: u64, length: u64) -> Clock
     }
 }
 
-/// To how many nanoseconds points of time are rounded: a tenth of a tick, but a ten thousandth of the run at least, and at
-/// most a unit.
+/// To how many nanoseconds points of time are rounded: a tenth of a tick, but a ten thousandth of the run at least, and
+/// at most a unit.
 fn fine_of(width: u64, length: u64, unit: Unit) -> u64
     ensures value { result ≡ fine_of width length unit }
     ensures limit { result ≤ nanoseconds_in unit }
@@ -208,7 +209,8 @@ fn push_amount(out: &mut Vec<u8>, time: u64) -> Result<(), AllocError>
     push_unit(out, unit)
 }
 
-/// Appends how often a time has a unit of so many nanoseconds, in three digits, or all if there are more before the point.
+/// Appends how often a time has a unit of so many nanoseconds, in three digits, or all if there are more before the
+/// point.
 fn push_three(out: &mut Vec<u8>, time: u64, unit: u64) -> Result<(), AllocError>
     requires long { time ≤ LONGEST }
     requires some { 1 ≤ unit }

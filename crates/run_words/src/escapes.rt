@@ -6,8 +6,8 @@ ghost use Rattle.run_words.specs.Escapes.{ends_unheld, escape_of, escaped, held_
 use crate::names::byte_at;
 use std::alloc::AllocError;
 
-/// Appends a text as XML and HTML have it, in text and between quotes. U+FFFE and U+FFFF, which XML doesn't hold, become
-/// U+FFFD.
+/// Appends a text as XML and HTML have it, in text and between quotes. U+FFFE and U+FFFF, which XML doesn't hold,
+/// become U+FFFD.
 pub fn push_escaped(out: &mut Vec<u8>, text: &[u8]) -> Result<(), AllocError>
     ensures { OnOk result (out.new.items ≡ out.old.items ++ escaped text.now) }
 {

@@ -19,8 +19,8 @@ pub enum LanesError {
     Memory,
 }
 
-/// The processors that a text lists, with one comma between each two: each by one of these names, or else by its number,
-/// from 1 to `count`; in any order, repeats allowed.
+/// The processors that a text lists, with one comma between each two: each by one of these names, or else by its
+/// number, from 1 to `count`; in any order, repeats allowed.
 ///
 /// Refuses the first part that denotes none of them. Memory may come before.
 pub fn lanes_of(

@@ -17,13 +17,13 @@ pub struct LogWords<'a> {
     pub names: &'a [&'a str],
     /// What a table says about the steps; nothing without one.
     pub said: &'a [StepRow],
-    /// How many nanoseconds the unit of the table's times has. If it isn't given, they are nanoseconds if the first tick
-    /// begins at `STAMPS` or later, and else no time is told.
+    /// How many nanoseconds the unit of the table's times has. If it isn't given, they are nanoseconds if the first
+    /// tick begins at `STAMPS` or later, and else no time is told.
     pub unit: Option<u64>,
 }
 
-/// The clock of a trace, by what a table says about its steps, whose times have units of so many nanoseconds. None if the
-/// table doesn't give the length of a tick, or the unit isn't known.
+/// The clock of a trace, by what a table says about its steps, whose times have units of so many nanoseconds. None if
+/// the table doesn't give the length of a tick, or the unit isn't known.
 pub fn clock_of(trace: &Trace, said: &[StepRow], unit: Option<u64>) -> Option<Clock>
     ensures known { IfSome result (IsClockOf trace.now said.now unit) }
     ensures unknown { result ≡ None → IsUnclocked trace.now said.now unit }

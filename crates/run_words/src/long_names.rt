@@ -12,8 +12,8 @@ const FIRST_CHARACTERS: usize = 30;
 
 const LAST_CHARACTERS: usize = 15;
 
-/// Appends a name as XML and HTML have it. If it has more characters than `most`, only the first and the last ones, with an
-/// ellipsis between them.
+/// Appends a name as XML and HTML have it. If it has more characters than `most`, only the first and the last ones,
+/// with an ellipsis between them.
 pub(crate) fn push_long(out: &mut Vec<u8>, name: &[u8], most: usize) -> Result<(), AllocError>
     ensures { OnOk result (out.new.items ≡ out.old.items ++ long_text most name.now) }
 {

@@ -176,8 +176,8 @@ fn start_all<T: Threads, R: Read>(
     }
 }
 
-/// The number of bytes of the next piece, with so many workers, once so many bytes were read. The first pieces are short,
-/// so that the first steps are soon there to be taken.
+/// The number of bytes of the next piece, with so many workers, once so many bytes were read. The first pieces are
+/// short, so that the first steps are soon there to be taken.
 fn piece_bytes(workers: u64, total: usize) -> usize
     ensures { 0 < result }
 {

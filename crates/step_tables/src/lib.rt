@@ -1,5 +1,5 @@
-//! The table of the steps of a trace, as `import --table` writes it: read, and tested against the trace. `specs/` has the
-//! definitions that the contracts cite.
+//! The table of the steps of a trace, as `import --table` writes it: read, and tested against the trace. `specs/` has
+//! the definitions that the contracts cite.
 #![tactic(auto)]
 
 mod moves;

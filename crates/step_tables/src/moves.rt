@@ -13,8 +13,8 @@ pub struct Moves {
     pub farthest: u64,
 }
 
-/// How far the events of a table were moved, by the time from each to the beginning of its tick, in ticks of this length,
-/// rounded up.
+/// How far the events of a table were moved, by the time from each to the beginning of its tick, in ticks of this
+/// length, rounded up.
 ///
 /// Time grows with the rows.
 pub fn count_moves(rows: &[StepRow], width: u64) -> Moves

@@ -34,8 +34,8 @@ impl<'a> Model for Reading<'a> {
 
 /// What the table in a text says about a trace.
 ///
-/// Refuses in the order of `TableError`; the first record that is refused decides. Memory may come instead of any refusal
-/// but TooLarge.
+/// Refuses in the order of `TableError`; the first record that is refused decides. Memory may come instead of any
+/// refusal but TooLarge.
 pub fn table_of_text(alloc: Global, trace: &Trace, text: &[u8]) -> Result<StepTable, TableError>
     ensures table { Gives (λ t. t) result (told_of_text trace.now text.now) }
     ensures within { result ≡ Err TableError.Memory → length text.now ≤ MAX_TEXT_BYTES }

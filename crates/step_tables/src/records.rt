@@ -92,7 +92,8 @@ fn is_source(field: &[u8]) -> bool
     field.len() == 0 || number(field).is_some()
 }
 
-/// Takes in what a processor is called. If it has a name, it has to be this one; if not, no other processor may have it.
+/// Takes in what a processor is called. If it has a name, it has to be this one; if not, no other processor may have
+/// it.
 fn name_node(
     alloc: Global,
     nodes: &mut Vec<String>,

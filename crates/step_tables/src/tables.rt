@@ -107,8 +107,8 @@ pub fn source_at(rows: &[StepRow], no: u64) -> Option<u64>
     }
 }
 
-/// When a step was made by the clock, in what the times of the table are counted in, by what a table says about the steps;
-/// None if the table doesn't say it, or there is no such step.
+/// When a step was made by the clock, in what the times of the table are counted in, by what a table says about the
+/// steps; None if the table doesn't say it, or there is no such step.
 pub fn time_at(rows: &[StepRow], no: u64) -> Option<u64>
     ensures { result ≡ time_at rows.now no }
 {

@@ -15,9 +15,9 @@ pub struct TickTimes {
     pub width: u64,
 }
 
-/// When the ticks of a trace begin, if that is what a table says about its steps. None if the first step and the last one
-/// are in the same tick, which leaves the length of a tick open; and if some step is said to begin at no time, or at
-/// another one.
+/// When the ticks of a trace begin, if that is what a table says about its steps. None if the first step and the last
+/// one are in the same tick, which leaves the length of a tick open; and if some step is said to begin at no time, or
+/// at another one.
 ///
 /// Time grows with the steps.
 pub fn tick_times(trace: &Trace, rows: &[StepRow]) -> Option<TickTimes>

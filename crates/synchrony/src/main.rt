@@ -190,8 +190,8 @@ fn answer_to_input<A: Answer>(
     output.ended(served.map_err(|fault| trace.named(fault)))
 }
 
-/// Prints the picture of the trace in a file, by the table in another, if there is one. Both files are opened before one
-/// is read; the table is read first.
+/// Prints the picture of the trace in a file, by the table in another, if there is one. Both files are opened before
+/// one is read; the table is read first.
 fn draw(rt: &HostRuntime, job: DrawJob) -> Result<u8, Fault> {
     let DrawJob {
         file,
@@ -294,8 +294,8 @@ fn check(rt: &HostRuntime, job: CheckJob) -> Result<u8, Fault> {
     }
 }
 
-/// Prints the verdict on the decisions in a file, or on those of the replay, for the trace in another, and gives its exit
-/// status. Both files are opened before one is read; the decisions are read first.
+/// Prints the verdict on the decisions in a file, or on those of the replay, for the trace in another, and gives its
+/// exit status. Both files are opened before one is read; the decisions are read first.
 fn judge(rt: &HostRuntime, job: JudgeJob) -> Result<u8, Fault> {
     let mut trace = Input::open(rt, job.file)?;
     let decisions = decided(rt, job.decisions)?;

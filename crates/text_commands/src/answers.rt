@@ -19,8 +19,8 @@ pub trait Answer {
     // what it declines a trace for
     ghost Declines: { Self → Recorded → Fault → Type 0 };
 
-    /// The answer to a trace, which may be cut meanwhile, so that its rest needs no memory. Memory may come instead of what
-    /// it declines the trace for.
+    /// The answer to a trace, which may be cut meanwhile, so that its rest needs no memory. Memory may come instead of
+    /// what it declines the trace for.
     fn answer(&self, alloc: Global, trace: &mut Trace) -> Result<Vec<u8>, Fault>
         ensures gives { IfOk result (λ out. Gives self.now trace.old out.items) }
         ensures declines { IfErr result (IsDeclined (Declines self.now trace.old)) };
@@ -28,8 +28,8 @@ pub trait Answer {
 
 /// The answer of a command to a trace text in memory.
 ///
-/// Refuses, in this order: Trace with the first refusal of the text; what the command declines its trace for. Memory may
-/// come instead.
+/// Refuses, in this order: Trace with the first refusal of the text; what the command declines its trace for. Memory
+/// may come instead.
 pub fn answer_to<A: Answer>(alloc: Global, command: &A, text: &[u8]) -> Result<Vec<u8>, Fault>
     ensures answer { IfOk result (λ out. IsAnswerTo (A.Gives command.now) text.now out.items) }
     ensures refused { IfErr result (IsUnanswered (A.Declines command.now) text.now) }

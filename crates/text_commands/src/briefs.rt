@@ -12,11 +12,11 @@ use front::report_text_of;
 use std::alloc::{AllocError, Global};
 use step_trace::{Gap, Miss, Row, Trace};
 
-/// A brief report. A silence gives a row for each of its ticks, and all of them name the same processor and the same last
-/// tick; the first of them is kept.
+/// A brief report. A silence gives a row for each of its ticks, and all of them name the same processor and the same
+/// last tick; the first of them is kept.
 ///
-/// Declines a trace, in this order, by: Set if a correct processor is above its number of processors; Report if it hasn't
-/// the tick up to which it is reported.
+/// Declines a trace, in this order, by: Set if a correct processor is above its number of processors; Report if it
+/// hasn't the tick up to which it is reported.
 impl Answer for Brief {
     ghost use Rattle.text_commands.specs.Briefs.{IsBriefOf, IsNoBrief};
 

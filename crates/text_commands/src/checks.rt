@@ -27,8 +27,8 @@ use text_verdicts::certificate_of_text;
 use trace_text::Counting;
 
 /// Reads a trace text and then a certificate to their ends, and checks the rows of the certificate by the trace. Writes
-/// the line of the verdict; nothing is written before the verdict is complete. The memory of the trace is left to the end
-/// of the program.
+/// the line of the verdict; nothing is written before the verdict is complete. The memory of the trace is left to the
+/// end of the program.
 ///
 /// Refuses, in this order:
 /// - Read, or Trace for a trace text that is too large;
@@ -74,9 +74,9 @@ pub fn run_check<R: Read, S: Read, W: Write>(
 
 /// The verdict on a certificate's text by a trace text, both in memory.
 ///
-/// Refuses, in this order: Trace with the first refusal of the trace text; Set if a correct processor is above the trace's
-/// number of processors; Report if the trace hasn't the tick; Certificate with the first refusal of the certificate. Memory
-/// may come instead.
+/// Refuses, in this order: Trace with the first refusal of the trace text; Set if a correct processor is above the
+/// trace's number of processors; Report if the trace hasn't the tick; Certificate with the first refusal of the
+/// certificate. Memory may come instead.
 pub fn verdict_on(
     alloc: Global,
     claim: &Claim,

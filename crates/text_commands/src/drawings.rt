@@ -20,15 +20,16 @@ use std::alloc::{AllocError, Global};
 use step_tables::StepTable;
 use step_trace::{ProcSet, Row, Trace};
 
-/// What a picture is asked for, with the text of the table of the trace's steps, if there is one: then nodes and messages
-/// have the names that it gives.
+/// What a picture is asked for, with the text of the table of the trace's steps, if there is one: then nodes and
+/// messages have the names that it gives.
 #[derive(Debug, Drop)]
 pub struct ToldDrawing {
     pub drawing: Drawing,
     pub table: Option<Vec<u8>>,
 }
 
-/// A picture: the bounds of every tick, for the correct processors, and the steps, messages and witnesses of some ticks.
+/// A picture: the bounds of every tick, for the correct processors, and the steps, messages and witnesses of some
+/// ticks.
 ///
 /// Declines a trace, in this order, by:
 /// - Set if a correct processor is above its number of processors;

@@ -18,8 +18,8 @@ use step_trace::{ProcSet, Trace};
 ///
 /// Declines a trace, in this order, by:
 /// - Set if a correct processor is above its number of processors;
-/// - Report for a tick that it hasn't: first the one up to which it is taken, then, up to there, the one from which on the
-///   bounds hold.
+/// - Report for a tick that it hasn't: first the one up to which it is taken, then, up to there, the one from which on
+///   the bounds hold.
 impl Answer for Each {
     ghost use Rattle.text_commands.specs.EachBounds.{IsEachOf, IsNoEach};
 

@@ -15,7 +15,8 @@ use timed_events::{LateMessage, Lateness, Moved};
 
 /// The notes on a log that was read as a trace:
 /// - which processor each node is, if the nodes weren't listed;
-/// - by how much clocks moved, how many lost sends are left out and how many receives are merged, if that was asked for;
+/// - by how much clocks moved, how many lost sends are left out and how many receives are merged, if that was asked
+///   for;
 /// - how far events moved, if they might;
 /// - how many receives of nothing were added, if they might be.
 pub(crate) fn notes_text(
@@ -137,8 +138,8 @@ impl fmt::Display for ClockLine<'_> {
     }
 }
 
-/// How many messages are received no later than they are sent, the worst of them, and what may help; nothing if there are
-/// none.
+/// How many messages are received no later than they are sent, the worst of them, and what may help; nothing if there
+/// are none.
 fn late_lines(alloc: Global, lateness: Lateness) -> Result<String, AllocError>
     ensures { IfOk result (λ text. string_bytes text ≡ late_lines lateness.messages lateness.worst) }
 {

@@ -65,9 +65,10 @@ fn no_length(alloc: Global, option: ImportOption, text: &str) -> Fault
 }
 
 /// Reads a log to its end and writes the notes on it. Then it writes the text of its trace in version 2, or the table
-/// of its steps, or that of the lengths of a tick. The notes are which processor each node is, if the nodes aren't listed; how many lost sends are left
-/// out, if they are; and how far events moved, if they may be spread. With the table of lengths the note is which of them
-/// moves few events. Nothing is written before both texts are complete. That the notes can't be written stops nothing.
+/// of its steps, or that of the lengths of a tick. The notes are which processor each node is, if the nodes aren't
+/// listed; how many lost sends are left out, if they are; and how far events moved, if they may be spread. With the
+/// table of lengths the note is which of them moves few events. Nothing is written before both texts are complete. That
+/// the notes can't be written stops nothing.
 ///
 /// Refuses, in this order: Read, or Log for a text that is too large; Log for any other refusal of the log; Write with
 /// the number of bytes that went out before. Memory may come at any step before the notes are written.

@@ -78,8 +78,8 @@ pub fn run_judge<R: Read, W: Write>(
 
 /// The judgement of the decisions of a text by a trace text, both in memory, or of those that the trace's replay finds.
 ///
-/// Refuses, in this order: Trace with the first refusal of the trace text; Set, Within, Report, NotARun and Decisions as
-/// `run_judge` does. Memory may come instead.
+/// Refuses, in this order: Trace with the first refusal of the trace text; Set, Within, Report, NotARun and Decisions
+/// as `run_judge` does. Memory may come instead.
 pub fn judgement_on(
     alloc: Global,
     judging: &Judging,

@@ -14,8 +14,8 @@ use step_trace::Trace;
 
 /// The command `replay`: the round and the decision of each processor at the end of a run.
 ///
-/// Declines a trace by NotARun with the number of the first step that is none of a run, and with what its processor had to
-/// do.
+/// Declines a trace by NotARun with the number of the first step that is none of a run, and with what its processor had
+/// to do.
 #[derive(Clone, Copy)]
 pub struct Replay;
 

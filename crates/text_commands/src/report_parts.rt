@@ -21,8 +21,8 @@ use suffix_staircase::Stairs;
 ///
 /// Declines a trace, in this order, by:
 /// - Set if a correct processor is above its number of processors;
-/// - Report for a tick that it hasn't: first the one up to which it is reported, then, up to there, the one whose row is
-///   asked for.
+/// - Report for a tick that it hasn't: first the one up to which it is reported, then, up to there, the one whose row
+///   is asked for.
 impl Answer for ReportPart {
     ghost use Rattle.text_commands.specs.ReportParts.{IsPartOfReport, IsUntoldPart};
 

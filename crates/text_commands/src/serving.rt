@@ -17,9 +17,9 @@ use trace_text::{Counting, write_text};
 /// answer is complete. The memory of the trace is left to the end of the program: to free it step by step takes a tenth
 /// of the time of a report.
 ///
-/// Refuses, in this order: Read, or Trace for a text that is too large; Trace for any other refusal of the text; what the
-/// command declines the trace for; Write with the number of bytes that went out before. Memory may come at any step before
-/// the first write.
+/// Refuses, in this order: Read, or Trace for a text that is too large; Trace for any other refusal of the text; what
+/// the command declines the trace for; Write with the number of bytes that went out before. Memory may come at any step
+/// before the first write.
 pub fn serve<A: Answer, R: Read, W: Write>(
     alloc: Global,
     command: &A,

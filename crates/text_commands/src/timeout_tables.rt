@@ -19,8 +19,8 @@ use timeouts::Turns;
 ///
 /// Declines a trace, in this order, by:
 /// - Set if the leader is above its number of processors, or else a follower that is named;
-/// - Report for a tick that it hasn't: first the one up to which it counts, then, up to there, the one whose row is asked
-///   for.
+/// - Report for a tick that it hasn't: first the one up to which it counts, then, up to there, the one whose row is
+///   asked for.
 impl Answer for TimeoutTable {
     ghost use Rattle.text_commands.specs.TimeoutTables.{AreTimeoutsOf, IsNoTable};
 

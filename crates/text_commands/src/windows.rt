@@ -41,8 +41,8 @@ pub fn window_start(from: Option<&str>) -> Result<Option<LogEnd>, Fault>
 }
 
 /// Reads a log of any length to its end, and does with its window from a time on what `run_import` does with a log. The
-/// window's end is that of the options. Records have their numbers in the whole log. The first notes are how many events
-/// are outside the window, and how many received messages were sent outside it.
+/// window's end is that of the options. Records have their numbers in the whole log. The first notes are how many
+/// events are outside the window, and how many received messages were sent outside it.
 ///
 /// Refuses, in this order: Read; Log for a log that has no such window, and then for a window that is refused; Write
 /// with the number of bytes that went out before. Memory may come at any step before the notes are written.

@@ -1,4 +1,5 @@
-//! An order of events that keeps their causes: the earlier events of their processors, and the Sends of what they received.
+//! An order of events that keeps their causes: the earlier events of their processors, and the Sends of what they
+//! received.
 
 ghost use Rattle.std.specs.Prelude.{◌≡◌, ◌<◌, ◌≤◌, ◌+◌, ◌∷◌, ◌++◌, ℕ, [], true, length, IfNone, IfOk, IfErr, IfSome, OnOk, slice_index};
 ghost use Rattle.std.specs.List.{range_with_len};

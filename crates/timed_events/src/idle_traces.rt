@@ -114,8 +114,9 @@ pub fn filling_of(
     Ok(Filling { ticked, idles })
 }
 
-/// The trace of events in their ticks as `placed_trace` makes it, with receives of nothing in the idle ticks. The receives
-/// are then behind the events in the list: a place from the number of events on is that of a receive that was added.
+/// The trace of events in their ticks as `placed_trace` makes it, with receives of nothing in the idle ticks. The
+/// receives are then behind the events in the list: a place from the number of events on is that of a receive that was
+/// added.
 ///
 /// Asks for 2 to 64 processors, and for events with what `filling_of` gives for them; `spread`, `clock` and `limit` are
 /// read by the clauses alone. Fails only if out of memory: then the list of events is unchanged.

@@ -25,8 +25,8 @@ pub struct LateMessage {
 #[derive(Clone, Copy, Debug, PartialEq, Eq)]
 pub struct Lateness {
     pub messages: u64,
-    /// The one that is sent longest after it is received; of several the first, in the order of the events that received
-    /// them.
+    /// The one that is sent longest after it is received; of several the first, in the order of the events that
+    /// received them.
     pub worst: Option<LateMessage>,
 }
 

@@ -27,8 +27,8 @@ pub fn trace_laws()
 {}
 
 /// The laws of orders that keep causes. There is none if an event is in a cycle of causes or behind one (`behind`), and
-/// none if hops are a cycle (`cycle`). If there is one, the least ticks are one list (`least_once`). The order of times is
-/// one exactly if each message was sent before it was received, by their times (`by_time`).
+/// none if hops are a cycle (`cycle`). If there is one, the least ticks are one list (`least_once`). The order of times
+/// is one exactly if each message was sent before it was received, by their times (`by_time`).
 ///
 /// Theorems over the definitions, as those of `trace_laws`.
 pub fn cause_laws()

@@ -9,8 +9,8 @@ pub struct Messages {
     held: Held,
 }
 
-/// Most receives of a long log have one message or none, and so no memory of their own. What others have is boxed, so that
-/// an event is small.
+/// Most receives of a long log have one message or none, and so no memory of their own. What others have is boxed, so
+/// that an event is small.
 #[derive(Debug, Drop)]
 enum Held {
     Nothing,

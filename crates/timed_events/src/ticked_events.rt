@@ -33,8 +33,8 @@ pub struct EventTicks {
     pub order: Vec<u32>,
 }
 
-/// Tests whether events make a trace, and gives their ticks: those of their times or, if they may be `spread`, as little
-/// later as need be. An event is then in the first tick from that of its time on after those of its causes: its
+/// Tests whether events make a trace, and gives their ticks: those of their times or, if they may be `spread`, as
+/// little later as need be. An event is then in the first tick from that of its time on after those of its causes: its
 /// processor's earlier events, and the Sends of the messages that it received.
 ///
 /// Asks for at least one event and at most `MAX_STEPS`, each of one of `n` processors, at most 64, and to one of them.

@@ -13,8 +13,8 @@ enum Says<'a> {
     Locks(&'a [(u64, u64)]),
 }
 
-/// A round: its number; the one message that is heard in it, by sender, what it says, and its PROPER; and the PROPER and
-/// the locks of the node then. It owes an acknowledgement after each of them.
+/// A round: its number; the one message that is heard in it, by sender, what it says, and its PROPER; and the PROPER
+/// and the locks of the node then. It owes an acknowledgement after each of them.
 type Round<'a> = (u64, u64, Says<'a>, &'a [u64], &'a [u64], &'a [(u64, u64)]);
 
 const LOCKS_FIVE: Round = (2, 1, Lock(5), &[5, 7], &[5, 7], &[(5, 1)]);

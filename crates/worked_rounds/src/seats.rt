@@ -7,7 +7,8 @@ use std::test::Fail;
 use step_buffers::{Move, Take};
 use step_trace::Config;
 
-/// A recorder of tag 1 over a World of this configuration, which may make so many steps, up to a million; and its seats.
+/// A recorder of tag 1 over a World of this configuration, which may make so many steps, up to a million; and its
+/// seats.
 pub fn opened(
     alloc: Global,
     t: u64,

@@ -6,8 +6,8 @@ use std::test::Fail;
 use step_trace::{Gap, Miss, ProcSet, Trace};
 use test_support::traces::ticked;
 
-/// A trace of two processors with these steps, each with its tick before it, up to the tick `last`. If the processors of
-/// the list are correct, these are their longest gaps, each as its processor, its first and its last tick; and of
+/// A trace of two processors with these steps, each with its tick before it, up to the tick `last`. If the processors
+/// of the list are correct, these are their longest gaps, each as its processor, its first and its last tick; and of
 /// each of these messages the last Receive that misses it, None if none does.
 struct Worked<'a> {
     name: &'a str,

@@ -58,8 +58,8 @@ pub struct JudgeJob {
 pub struct RunsJob {
     /// The path of the list's file; `-` is standard input.
     pub list: String,
-    /// What the decisions of each run are judged for, unless the list says it of a run. The decisions are never those of the
-    /// replay here, and neither the factor nor the rows are asked for.
+    /// What the decisions of each run are judged for, unless the list says it of a run. The decisions are never those
+    /// of the replay here, and neither the factor nor the rows are asked for.
     pub judging: Judging,
 }
 

@@ -60,8 +60,8 @@ pub fn command<'a>(alloc: Global) -> Result<Command<'a>, AllocError>
 
 /// The job that the words after `page` ask for; None if one is missing.
 ///
-/// Refuses a list that isn't one; then both names and a table; then two files that are both standard input; and then a unit
-/// that is none. Memory may come instead.
+/// Refuses a list that isn't one; then both names and a table; then two files that are both standard input; and then a
+/// unit that is none. Memory may come instead.
 pub fn job(alloc: Global, found: &ArgMatches<'_>) -> Option<Result<Job, LineError>>
     ensures { page_given (rows_of (found_of found.now)) result }
 {
