@@ -6,7 +6,9 @@ use Rattle.std.proofs.lemmas.Bool.Decides.{nat_tests}
 use Rattle.std.proofs.lemmas.List.{append-nil}
 use Rattle.std.proofs.lemmas.List.Elements.{Contains-push, Contains-push_cases, Contains-append_left, Contains-get_or}
 use Rattle.std.proofs.lemmas.List.Quantifiers.{all_pairs_push}
-use Rattle.bound_witness.proofs.Common.{Gap, has_proc, IsWithin, Recorded, IsStepOf, tick_of, IsTimed, IsGap, step_at_within, own_ticks_rise, IsLongestGap, Precedes, BeginsBy, ListsGapsBy, gap_between}
+use Rattle.bound_witness.proofs.Common.{Gap, has_proc, IsWithin, Recorded, IsStepOf, tick_of, IsTimed, IsGap}
+use Rattle.bound_witness.proofs.Common.{step_at_within, own_ticks_rise, IsLongestGap, Precedes, BeginsBy, ListsGapsBy}
+use Rattle.bound_witness.proofs.Common.{gap_between}
 use Rattle.bound_witness.proofs.GapsBetween.{IsEdge, IsEdge-end, IsEdge-step, SilentBetween, between, between-IsLongestGap, same_between}
 
 -- what begins by step k begins by each later step
@@ -18,7 +20,9 @@ precedes_between : (w : Gap) (p last next : ℕ) → BeginsBy w p last → Prece
 precedes_between w p last next b = elim b [ inl a ↦ inl a | inr a ↦ inr (a.0, let q : w.from ≤ last = a.1 in omega arith) ]
 
 -- the list up to an edge, and the interval from there to the next edge
-pub ListsGapsBy-between : (set : ℕ) (trace : Recorded) (p last next : ℕ) (ws : List Gap) → last < next → SilentBetween set trace p last next → ListsGapsBy set trace p last ws → ListsGapsBy set trace p next (ws ++ gap_between p last next)
+pub ListsGapsBy-between : (set : ℕ) (trace : Recorded) (p last next : ℕ) (ws : List Gap) → last < next
+    → SilentBetween set trace p last next → ListsGapsBy set trace p last ws
+    → ListsGapsBy set trace p next (ws ++ gap_between p last next)
 ListsGapsBy-between set trace p last next ws k s l = go (nat_lt (last + 1) next) refl where
   go : (b : Bool) → nat_lt (last + 1) next ≡ b → ListsGapsBy set trace p next (ws ++ (if b then between p last next ∷ [] else []))
   go true e =
@@ -53,7 +57,9 @@ ListsGapsBy-between set trace p last next ws k s l = go (nat_lt (last + 1) next)
   })
 
 -- if each gap of p begins by tick k, the list up to tick k of p is the one of all processors up to p
-pub ListsGapsBy-next : (set : ℕ) (trace : Recorded) (p k : ℕ) (ws : List Gap) → ((w : Gap) → IsGap set trace w → w.proc ≡ p → w.from ≤ k) → ListsGapsBy set trace p k ws → ListsGapsBy set trace (p + 1) 0 ws
+pub ListsGapsBy-next : (set : ℕ) (trace : Recorded) (p k : ℕ) (ws : List Gap)
+    → ((w : Gap) → IsGap set trace w → w.proc ≡ p → w.from ≤ k) → ListsGapsBy set trace p k ws
+    → ListsGapsBy set trace (p + 1) 0 ws
 ListsGapsBy-next set trace p k ws all l = record {
   listed = λ w. (
     λ h. let x = (l.listed w).0 h in (x.0, elim x.1 [ inl a ↦ inl (let q : w.proc < p = a in omega arith) | inr a ↦ inl (let q : w.proc ≡ p = a.0 in omega arith) ]),
@@ -89,7 +95,8 @@ pub record IsScanned (set : ℕ) (trace : Recorded) (p last k : ℕ) (ws : List 
   pub listed : ListsGapsBy set trace p last ws
 
 -- between the last step of p that was read and the next one, p is silent
-silent_before : (set : ℕ) (trace : Recorded) (p last k : ℕ) (ws : List Gap) → IsTimed trace → IsTrue (has_proc set p) → IsStepOf trace.steps k p → IsScanned set trace p last k ws → SilentBetween set trace p last (tick_of trace k)
+silent_before : (set : ℕ) (trace : Recorded) (p last k : ℕ) (ws : List Gap) → IsTimed trace → IsTrue (has_proc set p)
+    → IsStepOf trace.steps k p → IsScanned set trace p last k ws → SilentBetween set trace p last (tick_of trace k)
 silent_before set trace p last k ws time m s i = let t = (time.inside k _ s.1).1 in record {
   member = m;
   begin = i.edge;
@@ -105,7 +112,8 @@ silent_before set trace p last k ws time m s i = let t = (time.inside k _ s.1).1
 }
 
 -- and after the last step of all it is silent up to the end
-silent_at_end : (set : ℕ) (trace : Recorded) (p last k : ℕ) (ws : List Gap) → length trace.steps < k → IsTrue (has_proc set p) → IsScanned set trace p last k ws → SilentBetween set trace p last (trace.last + 1)
+silent_at_end : (set : ℕ) (trace : Recorded) (p last k : ℕ) (ws : List Gap) → length trace.steps < k
+    → IsTrue (has_proc set p) → IsScanned set trace p last k ws → SilentBetween set trace p last (trace.last + 1)
 silent_at_end set trace p last k ws n m i = record {
   member = m;
   begin = i.edge;
@@ -115,14 +123,28 @@ silent_at_end set trace p last k ws n m i = record {
 }
 
 -- if the tick of the next step isn't right after the last one, the interval between them is a longest gap
-pub IsScanned-gap : (set : ℕ) (trace : Recorded) (p last k t : ℕ) (ws : List Gap) → IsTimed trace → IsTrue (has_proc set p) → IsStepOf trace.steps k p → t ≡ tick_of trace k → last + 1 < t → IsScanned set trace p last k ws → (w : Gap) × IsLongestGap set trace w
-IsScanned-gap set trace p last k t ws time m s h n i = let l : last + 1 < tick_of trace k = omega (arith, h, n) in (between p last (tick_of trace k), between-IsLongestGap set trace p last (tick_of trace k) l (silent_before set trace p last k ws time m s i))
+pub IsScanned-gap : (set : ℕ) (trace : Recorded) (p last k t : ℕ) (ws : List Gap) → IsTimed trace
+    → IsTrue (has_proc set p) → IsStepOf trace.steps k p → t ≡ tick_of trace k → last + 1 < t
+    → IsScanned set trace p last k ws → (w : Gap) × IsLongestGap set trace w
+IsScanned-gap set trace p last k t ws time m s h n i = let l : last + 1 < tick_of trace k = omega (arith, h, n) in (
+  between p last (tick_of trace k),
+  between-IsLongestGap set trace p last (tick_of trace k) l
+      (silent_before set trace p last k ws time m s i),
+)
 
 -- and likewise the interval up to the end
-pub IsScanned-last_gap : (set : ℕ) (trace : Recorded) (p last k e : ℕ) (ws : List Gap) → length trace.steps < k → IsTrue (has_proc set p) → e ≡ trace.last → last + 1 < e + 1 → IsScanned set trace p last k ws → (w : Gap) × IsLongestGap set trace w
-IsScanned-last_gap set trace p last k e ws n m h j i = let l : last + 1 < trace.last + 1 = omega (arith, h, j) in (between p last (trace.last + 1), between-IsLongestGap set trace p last (trace.last + 1) l (silent_at_end set trace p last k ws n m i))
+pub IsScanned-last_gap : (set : ℕ) (trace : Recorded) (p last k e : ℕ) (ws : List Gap) → length trace.steps < k
+    → IsTrue (has_proc set p) → e ≡ trace.last → last + 1 < e + 1 → IsScanned set trace p last k ws
+    → (w : Gap) × IsLongestGap set trace w
+IsScanned-last_gap set trace p last k e ws n m h j i = let l : last + 1 < trace.last + 1 = omega (arith, h, j) in (
+  between p last (trace.last + 1),
+  between-IsLongestGap set trace p last (trace.last + 1) l
+      (silent_at_end set trace p last k ws n m i),
+)
 
-scanned_step : (set : ℕ) (trace : Recorded) (p last k : ℕ) (ws : List Gap) → IsTimed trace → IsTrue (has_proc set p) → IsStepOf trace.steps k p → IsScanned set trace p last k ws → IsScanned set trace p (tick_of trace k) (k + 1) (ws ++ gap_between p last (tick_of trace k))
+scanned_step : (set : ℕ) (trace : Recorded) (p last k : ℕ) (ws : List Gap) → IsTimed trace → IsTrue (has_proc set p)
+    → IsStepOf trace.steps k p → IsScanned set trace p last k ws
+    → IsScanned set trace p (tick_of trace k) (k + 1) (ws ++ gap_between p last (tick_of trace k))
 scanned_step set trace p last k ws time m s i = record {
   inside = (time.inside k _ s.1).1;
   edge = IsEdge-step set trace p k s;
@@ -135,7 +157,9 @@ scanned_step set trace p last k ws time m s i = record {
 }
 
 -- at a step of p, which is in tick t, the list gets the gap before it
-pub IsScanned-step : (set : ℕ) (trace : Recorded) (p last k t : ℕ) (ws : List Gap) → IsTimed trace → IsTrue (has_proc set p) → IsStepOf trace.steps k p → t ≡ tick_of trace k → IsScanned set trace p last k ws → IsScanned set trace p t (k + 1) (ws ++ gap_between p last t)
+pub IsScanned-step : (set : ℕ) (trace : Recorded) (p last k t : ℕ) (ws : List Gap) → IsTimed trace
+    → IsTrue (has_proc set p) → IsStepOf trace.steps k p → t ≡ tick_of trace k → IsScanned set trace p last k ws
+    → IsScanned set trace p t (k + 1) (ws ++ gap_between p last t)
 IsScanned-step set trace p last k t ws time m s h i = subst (λ x. IsScanned set trace p x (k + 1) (ws ++ gap_between p last x)) (sym h) (scanned_step set trace p last k ws time m s i)
 
 -- at a step of another processor the list stays
@@ -148,12 +172,16 @@ IsScanned-pass set trace p last k ws n i = record {
   listed = i.listed;
 }
 
-scanned_end : (set : ℕ) (trace : Recorded) (p last k : ℕ) (ws : List Gap) → length trace.steps < k → IsTrue (has_proc set p) → IsScanned set trace p last k ws → ListsGapsBy set trace (p + 1) 0 (ws ++ gap_between p last (trace.last + 1))
+scanned_end : (set : ℕ) (trace : Recorded) (p last k : ℕ) (ws : List Gap) → length trace.steps < k
+    → IsTrue (has_proc set p) → IsScanned set trace p last k ws
+    → ListsGapsBy set trace (p + 1) 0 (ws ++ gap_between p last (trace.last + 1))
 scanned_end set trace p last k ws n m i =
     let l = i.inside in
     ListsGapsBy-end set trace p (trace.last + 1) (ws ++ gap_between p last (trace.last + 1)) (omega arith)
     (ListsGapsBy-between set trace p last (trace.last + 1) ws (omega arith) (silent_at_end set trace p last k ws n m i) i.listed)
 
 -- at the end, which is after tick e, the list gets the gap after the last step of p
-pub IsScanned-end : (set : ℕ) (trace : Recorded) (p last k e : ℕ) (ws : List Gap) → length trace.steps < k → IsTrue (has_proc set p) → e ≡ trace.last → IsScanned set trace p last k ws → ListsGapsBy set trace (p + 1) 0 (ws ++ gap_between p last (e + 1))
+pub IsScanned-end : (set : ℕ) (trace : Recorded) (p last k e : ℕ) (ws : List Gap) → length trace.steps < k
+    → IsTrue (has_proc set p) → e ≡ trace.last → IsScanned set trace p last k ws
+    → ListsGapsBy set trace (p + 1) 0 (ws ++ gap_between p last (e + 1))
 IsScanned-end set trace p last k e ws n m h i = subst (λ x. ListsGapsBy set trace (p + 1) 0 (ws ++ gap_between p last (x + 1))) (sym h) (scanned_end set trace p last k ws n m i)

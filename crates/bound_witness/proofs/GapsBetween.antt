@@ -50,7 +50,9 @@ between-IsLongestGap set trace p last next l s = record {
 }
 
 -- a longest gap that begins between the two edges is the interval between them
-pub same_between : (set : ℕ) (trace : Recorded) (p last next : ℕ) (w : Gap) → SilentBetween set trace p last next → IsLongestGap set trace w → w.proc ≡ p → last < w.from → w.from ≤ next → (last + 1 < next) × (between p last next ≡ w)
+pub same_between : (set : ℕ) (trace : Recorded) (p last next : ℕ) (w : Gap) → SilentBetween set trace p last next
+    → IsLongestGap set trace w → w.proc ≡ p → last < w.from → w.from ≤ next
+    → (last + 1 < next) × (between p last next ≡ w)
 same_between set trace p last next w s g q a b =
     let order = g.gap.order in
     let to : w.to < next = elim (cases_lt w.to next) [ inl k ↦ k | inr k ↦ absurd (s.finish.apart w g.gap q b k) ] in

@@ -2,7 +2,9 @@
 use Rattle.std.proofs.Common.{ℕ, ◌≡◌, ◌≢◌, ◌+◌, ◌-◌, ◌<◌, ◌≤◌, inl, inr, length, Option, Some, None, refl, arith, subst}
 use Rattle.std.proofs.lemmas.Bool.{cases_eq, cases_lt}
 use Rattle.std.specs.Prelude.{MatchOption}
-use Rattle.bound_witness.proofs.Common.{Miss, Recorded, tick_of, IsTimed, IsDelta, IsMiss, IsNamedMiss, NamesMiss, step_at_within, ticks_rise, Miss-same, MissRefutes-sound, IsMissOf, HasNoMissOf, SentHasNoMissOf, IsMissOfSent}
+use Rattle.bound_witness.proofs.Common.{Miss, Recorded, tick_of, IsTimed, IsDelta, IsMiss, IsNamedMiss, NamesMiss}
+use Rattle.bound_witness.proofs.Common.{step_at_within, ticks_rise, Miss-same, MissRefutes-sound, IsMissOf, HasNoMissOf}
+use Rattle.bound_witness.proofs.Common.{SentHasNoMissOf, IsMissOfSent}
 use Rattle.step_trace.proofs.BoundDecisions.{DeltaHolds-unrefuted}
 
 -- no message of number s or a greater one has such a miss

@@ -1,5 +1,6 @@
 -- The longest gaps of the members of a set (own).
-use Rattle.std.specs.Prelude.{ℕ, ◌≡◌, ◌-◌, ◌+◌, ◌<◌, ◌≤◌, ◌↔◌, ◌⊎◌, List, [], ◌∷◌, Contains, AllPairs, nat_lt, if◌then◌else◌}
+use Rattle.std.specs.Prelude.{ℕ, ◌≡◌, ◌-◌, ◌+◌, ◌<◌, ◌≤◌, ◌↔◌, ◌⊎◌, List, []}
+use Rattle.std.specs.Prelude.{◌∷◌, Contains, AllPairs, nat_lt, if◌then◌else◌}
 use Rattle.step_trace.specs.declared.rows.Gap.{Gap}
 use Rattle.step_trace.specs.Traces.{Recorded}
 use Rattle.step_trace.specs.Witnesses.{IsGap}
@@ -24,4 +25,5 @@ pub record ListsGapsBy (set : ℕ) (trace : Recorded) (p x : ℕ) (ws : List Gap
 
 -- the gap between the ticks of two steps of p, if they aren't neighbours
 abbrev pub gap_between : ℕ → ℕ → ℕ → List Gap
-gap_between p last next = if nat_lt (last + 1) next then record { proc = p; from = last + 1; to = next - 1 } ∷ [] else []
+gap_between p last next =
+    if nat_lt (last + 1) next then record { proc = p; from = last + 1; to = next - 1 } ∷ [] else []

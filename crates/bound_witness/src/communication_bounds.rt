@@ -30,7 +30,8 @@ fn delivery(trace: &Trace, s: u64) -> u64
 
 /// The last Receive of processor `p` in a tick from `from` on and before `before`.
 fn last_receive_between(trace: &Trace, p: u64, from: u64, before: u64) -> Option<u64>
-    ensures { MatchOption result (NoReceiveBetween trace.now p from before) (IsLastReceiveBetween trace.now p from before) }
+    ensures { MatchOption result (NoReceiveBetween trace.now p from before)
+        (IsLastReceiveBetween trace.now p from before) }
 {
     for no in (1..trace.len() as u64 + 1).rev() {
         if is_receive_between(trace, no, p, from, before) {
@@ -116,7 +117,8 @@ fn miss_of_length(trace: &Trace, set: ProcSet, g: u64, span: u64, sent: u64) -> 
     requires low { 1 ≤ sent }
     requires high { sent ≤ length trace.now.steps }
     requires span { span ≤ trace.now.last }
-    ensures { MatchOption result (SentHasNoMissOf set trace.now g span sent) (IsMissOfSent set trace.now g span sent) }
+    ensures { MatchOption result (SentHasNoMissOf set trace.now g span sent)
+        (IsMissOfSent set trace.now g span sent) }
 {
     let from = trace.tick(sent);
     if from < g {
@@ -135,7 +137,8 @@ fn miss_of_length(trace: &Trace, set: ProcSet, g: u64, span: u64, sent: u64) -> 
 fn last_miss_of_length(trace: &Trace, set: ProcSet, g: u64, span: u64) -> Option<Miss>
     requires span { span ≤ trace.now.last }
     requires timed { IsTimed trace.now }
-    ensures { MatchOption result (HasNoMissOf set trace.now g span) (IsNamedMiss set trace.now g (span + 1)) }
+    ensures { MatchOption result (HasNoMissOf set trace.now g span)
+        (IsNamedMiss set trace.now g (span + 1)) }
 {
     for sent in (1..trace.len() as u64 + 1).rev() {
         if let Some(miss) = miss_of_length(trace, set, g, span, sent) {
@@ -158,7 +161,8 @@ pub fn delta_at(trace: &Trace, set: ProcSet, g: u64) -> (u64, Option<Miss>)
     ensures delta { IsDelta set trace.now g result.0 }
     ensures miss { NamesMiss set trace.now g result.0 result.1 }
     ensures steady { IsSteadyMiss set trace.now g result.0 result.1 }
-    ensures refutes { IfSome result.1 (λ m. (d : ℕ) → d < result.0 → MissRefutes set trace.now g d m) }
+    ensures refutes { IfSome result.1
+        (λ m. (d : ℕ) → d < result.0 → MissRefutes set trace.now g d m) }
 {
     let delta = least_delta(trace, set, g);
     if delta == 1 {

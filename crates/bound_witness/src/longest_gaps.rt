@@ -12,7 +12,8 @@ use step_trace::{Gap, ProcSet, Trace};
 /// Refuses only if they aren't.
 fn push_gap_between(found: &mut Vec<Gap>, proc: u64, last: u64, next: u64) -> Result<(), AllocError>
     requires { last < next }
-    ensures appended { OnOk result (found.new.items ≡ found.old.items ++ gap_between proc last next) }
+    ensures appended { OnOk result
+        (found.new.items ≡ found.old.items ++ gap_between proc last next) }
     ensures more { OnErr result (last + 1 < next) }
 {
     if last + 1 < next {
@@ -52,7 +53,8 @@ fn push_gaps_of(trace: &Trace, set: ProcSet, p: u64, found: &mut Vec<Gap>) -> Re
 /// Fails only if out of memory, and only if there is a gap to list.
 pub fn gaps(alloc: Global, trace: &Trace, set: ProcSet) -> Result<Vec<Gap>, AllocError>
     requires { IsWithin set trace.now.config.n }
-    ensures listed { IfOk result (λ v. (w : Gap) → (Contains v.items w ↔ IsLongestGap set trace.now w)) }
+    ensures listed { IfOk result
+        (λ v. (w : Gap) → (Contains v.items w ↔ IsLongestGap set trace.now w)) }
     ensures ordered { IfOk result (λ v. AllPairs Precedes v.items) }
     ensures more { OnErr result ((w : Gap) × IsLongestGap set trace.now w) }
 {

@@ -26,7 +26,8 @@ fn steps_within(trace: &Trace, p: u64, x: u64, f: u64) -> bool
 fn first_silent(trace: &Trace, set: ProcSet, x: u64, f: u64) -> Option<u64>
     requires set { IsWithin set trace.now.config.n }
     requires fits { x + f < 2 ^ 64 }
-    ensures { MatchOption result (AllStepWithin set trace.now x f) (IsFirstSilent set trace.now x f) }
+    ensures { MatchOption result (AllStepWithin set trace.now x f)
+        (IsFirstSilent set trace.now x f) }
 {
     for p in 1..trace.config().n() + 1 {
         if set.contains(p) && !steps_within(trace, p, x, f) {
@@ -73,7 +74,8 @@ fn last_gap_of_length(trace: &Trace, set: ProcSet, g: u64, span: u64) -> Option<
     requires start { 1 ≤ g }
     requires positive { 1 ≤ span }
     requires bound { span ≤ trace.now.last }
-    ensures { MatchOption result (PhiHolds set trace.now g span) (IsNamedGap set trace.now g (span + 1)) }
+    ensures { MatchOption result (PhiHolds set trace.now g span)
+        (IsNamedGap set trace.now g (span + 1)) }
 {
     for from in (g..trace.last_tick() - span + 2).rev() {
         if let Some(proc) = first_silent(trace, set, from, span) {
@@ -100,7 +102,8 @@ pub fn phi_at(trace: &Trace, set: ProcSet, g: u64) -> (u64, Option<Gap>)
     ensures phi { IsPhi set trace.now g result.0 }
     ensures gap { NamesGap set trace.now g result.0 result.1 }
     ensures steady { IsSteadyGap set trace.now g result.0 result.1 }
-    ensures refutes { IfSome result.1 (λ w. (f : ℕ) → f < result.0 → GapRefutes set trace.now g f w) }
+    ensures refutes { IfSome result.1
+        (λ w. (f : ℕ) → f < result.0 → GapRefutes set trace.now g f w) }
 {
     let phi = least_phi(trace, set, g);
     if phi == 1 {

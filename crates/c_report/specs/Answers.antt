@@ -38,7 +38,8 @@ pub record IsTooLong (correct : Correct) (text : List ℕ) (room size : ℕ) : T
 
 -- a correct processor is above the number of processors of the text's trace
 abbrev pub IsSetOutside : Correct → List ℕ → Type 0
-IsSetOutside correct text = OfTrace (λ t. (o : MemberOutside) × IsMemberOutside (named correct t.config.n) t.config.n o) text
+IsSetOutside correct text =
+    OfTrace (λ t. (o : MemberOutside) × IsMemberOutside (named correct t.config.n) t.config.n o) text
 
 -- The text encodes no trace; the buffer holds its first refusal in words.
 pub record IsTraceRefused (text old new : List ℕ) (size : ℕ) : Type 0 where

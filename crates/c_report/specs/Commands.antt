@@ -1,5 +1,6 @@
 -- What the words of a command line are answered, and what the room holds then.
-use Rattle.std.specs.Prelude.{ℕ, ◌≡◌, ◌≢◌, ◌<◌, ◌≤◌, ◌⊎◌, ◌==◌, List, ◌∷◌, length, Option, String, option_map, IsUtf8, codes, string_bytes, ⊤, true, false, is_some}
+use Rattle.std.specs.Prelude.{ℕ, ◌≡◌, ◌≢◌, ◌<◌, ◌≤◌, ◌⊎◌, ◌==◌, List, ◌∷◌, length, Option, String}
+use Rattle.std.specs.Prelude.{option_map, IsUtf8, codes, string_bytes, ⊤, true, false, is_some}
 use Rattle.std.specs.List.{slice_split}
 use Rattle.certificate_checker.specs.declared.verdicts.Verdict.{Verdict}
 use Rattle.command_options.specs.declared.ImportForm.{ImportForm}
@@ -98,7 +99,8 @@ pub record IsLineOf (file : List ℕ) (Judges : Verdict → Type 0) (status : �
   pub written : out ≡ told_verdict verdict
 
 -- The command reads the file that is lent; a judgement of decisions is printed, and the status is that of its verdict.
-pub record IsJudgementPrinted (file : List ℕ) (Judges : Judgement → List ℕ → Type 0) (status : ℕ) (out : List ℕ) : Type 0 where
+pub record IsJudgementPrinted (file : List ℕ) (Judges : Judgement → List ℕ → Type 0) (status : ℕ)
+    (out : List ℕ) : Type 0 where
   pub reads : file ≡ lent
   pub verdict : Judgement
   pub text : List ℕ
@@ -108,7 +110,9 @@ pub record IsJudgementPrinted (file : List ℕ) (Judges : Judgement → List ℕ
 
 -- the texts encode these options of a log
 abbrev pub AreImportOptions : ImportOptions → Options → Type 0
-AreImportOptions given o = AreOptions (option_map string_bytes given.nodes) (option_map string_bytes given.unit) (option_map string_bytes given.tick) (option_map string_bytes given.until) (option_map string_bytes given.idle) given.spread given.align given.drop_lost given.merge o
+AreImportOptions given o = AreOptions (option_map string_bytes given.nodes) (option_map string_bytes given.unit)
+    (option_map string_bytes given.tick) (option_map string_bytes given.until)
+    (option_map string_bytes given.idle) given.spread given.align given.drop_lost given.merge o
 
 -- the log is read by these options, and the text is what is printed of it, without notes
 abbrev pub IsTextOfLog : ImportForm → Options → List ℕ → List ℕ → Type 0
@@ -116,16 +120,20 @@ IsTextOfLog form o log out = IsImportTold form o (λ notes. ⊤) log out
 
 -- the same, by the options that are given, of a whole log
 abbrev pub IsImportFor : ImportOptions → List ℕ → List ℕ → Type 0
-IsImportFor given log out = (is_some given.from ≡ false) × ((o : Options) × AreImportOptions given o × IsTextOfLog given.form o log out)
+IsImportFor given log out = (is_some given.from ≡ false)
+    × ((o : Options) × AreImportOptions given o × IsTextOfLog given.form o log out)
 
 -- why there is none of a whole log: the options; or else the log
 abbrev pub IsUnimportedWhole : ImportOptions → List ℕ → Fault → Type 0
-IsUnimportedWhole given log w = IsImportOptionFault (option_map string_bytes given.nodes) (option_map string_bytes given.unit) (option_map string_bytes given.tick) (option_map string_bytes given.until) (option_map string_bytes given.idle) w
+IsUnimportedWhole given log w = IsImportOptionFault (option_map string_bytes given.nodes)
+    (option_map string_bytes given.unit) (option_map string_bytes given.tick) (option_map string_bytes given.until)
+    (option_map string_bytes given.idle) w
     ⊎ ((o : Options) × AreImportOptions given o × IsUnimported given.form o log w)
 
 -- why there is none: a window is asked for; or why there is none of the whole log
 abbrev pub IsUnimportedFor : ImportOptions → List ℕ → Fault → Type 0
-IsUnimportedFor given log w = ((is_some given.from ≡ true) × IsSaid window_words w) ⊎ ((is_some given.from ≡ false) × IsUnimportedWhole given log w)
+IsUnimportedFor given log w = ((is_some given.from ≡ true) × IsSaid window_words w)
+    ⊎ ((is_some given.from ≡ false) × IsUnimportedWhole given log w)
 
 -- the second text, if a file is named for it
 abbrev pub second_if : {B : Type 0} → Option (String B) → List ℕ → Option (List ℕ)
@@ -139,11 +147,15 @@ IsPrintedFor (job.Each j) text second = IsPrintedOf (string_bytes j.file) (IsAns
 IsPrintedFor (job.Timeouts j) text second = IsPrintedOf (string_bytes j.file) (IsAnswerTo (AreTimeoutsOf j.table) text)
 IsPrintedFor (job.Replay j) text second = IsPrintedOf (string_bytes j.file) (IsAnswerTo IsReplayOf text)
 IsPrintedFor (job.Upgrade j) text second = IsPrintedOf (string_bytes j.file) (IsAnswerTo IsUpgradeOf text)
-IsPrintedFor (job.Draw j) text second = IsPrintedOf (string_bytes j.file) (IsAnswerTo (IsDrawingBy j.drawing (second_if j.table second)) text)
-IsPrintedFor (job.Page j) text second = IsPrintedOf (string_bytes j.file) (IsAnswerTo (IsPageBy j.page (second_if j.table second)) text)
+IsPrintedFor (job.Draw j) text second = IsPrintedOf (string_bytes j.file)
+    (IsAnswerTo (IsDrawingBy j.drawing (second_if j.table second)) text)
+IsPrintedFor (job.Page j) text second = IsPrintedOf (string_bytes j.file)
+    (IsAnswerTo (IsPageBy j.page (second_if j.table second)) text)
 IsPrintedFor (job.Import j) text second = IsPrintedOf (string_bytes j.file) (IsImportFor j.options text)
-IsPrintedFor (job.Check j) text second = IsLineOf (string_bytes j.file) (λ verdict. OfTrace (IsVerdictOn j.claim.correct j.claim.until second verdict) text)
-IsPrintedFor (job.Judge j) text second = IsJudgementPrinted (string_bytes j.file) (λ verdict out. OfTrace (IsJudgementOn j.judging second verdict out) text)
+IsPrintedFor (job.Check j) text second =
+    IsLineOf (string_bytes j.file) (λ verdict. OfTrace (IsVerdictOn j.claim.correct j.claim.until second verdict) text)
+IsPrintedFor (job.Judge j) text second =
+    IsJudgementPrinted (string_bytes j.file) (λ verdict out. OfTrace (IsJudgementOn j.judging second verdict out) text)
 IsPrintedFor (job.Help help) text second = λ status out. (status ≡ 0) × (out ≡ string_bytes help)
 IsPrintedFor (job.Run j) text second = λ status out. ⊥
 IsPrintedFor (job.Simulate j) text second = λ status out. ⊥
@@ -151,17 +163,23 @@ IsPrintedFor (job.JudgeRuns j) text second = λ status out. ⊥
 
 -- why nothing is printed for a job
 abbrev pub IsUnprintedFor : Job → List ℕ → List ℕ → Fault → Type 0
-IsUnprintedFor (job.Report j) text second = IsUnprintedOf (string_bytes j.file) (IsUnanswered (IsUntoldPart j.part) text)
+IsUnprintedFor (job.Report j) text second =
+    IsUnprintedOf (string_bytes j.file) (IsUnanswered (IsUntoldPart j.part) text)
 IsUnprintedFor (job.Brief j) text second = IsUnprintedOf (string_bytes j.file) (IsUnanswered (IsNoBrief j.brief) text)
 IsUnprintedFor (job.Each j) text second = IsUnprintedOf (string_bytes j.file) (IsUnanswered (IsNoEach j.each) text)
-IsUnprintedFor (job.Timeouts j) text second = IsUnprintedOf (string_bytes j.file) (IsUnanswered (IsNoTable j.table) text)
+IsUnprintedFor (job.Timeouts j) text second =
+    IsUnprintedOf (string_bytes j.file) (IsUnanswered (IsNoTable j.table) text)
 IsUnprintedFor (job.Replay j) text second = IsUnprintedOf (string_bytes j.file) (IsUnanswered IsOffRun text)
 IsUnprintedFor (job.Upgrade j) text second = IsUnprintedOf (string_bytes j.file) (IsUnanswered IsNothingElse text)
-IsUnprintedFor (job.Draw j) text second = IsUnprintedOf (string_bytes j.file) (IsUnanswered (IsUndrawnBy j.drawing (second_if j.table second)) text)
-IsUnprintedFor (job.Page j) text second = IsUnprintedOf (string_bytes j.file) (IsUnanswered (IsNoPageBy j.page (second_if j.table second)) text)
+IsUnprintedFor (job.Draw j) text second =
+    IsUnprintedOf (string_bytes j.file) (IsUnanswered (IsUndrawnBy j.drawing (second_if j.table second)) text)
+IsUnprintedFor (job.Page j) text second =
+    IsUnprintedOf (string_bytes j.file) (IsUnanswered (IsNoPageBy j.page (second_if j.table second)) text)
 IsUnprintedFor (job.Import j) text second = IsUnprintedOf (string_bytes j.file) (IsUnimportedFor j.options text)
-IsUnprintedFor (job.Check j) text second = IsUnprintedOf (string_bytes j.file) (IsUnanswered (IsUnchecked j.claim second) text)
-IsUnprintedFor (job.Judge j) text second = IsUnprintedOf (string_bytes j.file) (IsUnanswered (IsUnjudged j.judging second) text)
+IsUnprintedFor (job.Check j) text second =
+    IsUnprintedOf (string_bytes j.file) (IsUnanswered (IsUnchecked j.claim second) text)
+IsUnprintedFor (job.Judge j) text second =
+    IsUnprintedOf (string_bytes j.file) (IsUnanswered (IsUnjudged j.judging second) text)
 IsUnprintedFor (job.Help help) text second = λ w. ⊥
 IsUnprintedFor (job.Run j) text second = IsSaid run_words
 IsUnprintedFor (job.Simulate j) text second = IsSaid simulation_words

@@ -1,7 +1,8 @@
 //! The verdict on the text of a certificate, for a caller that brings the room.
 
 ghost use Rattle.std.specs.Prelude.{◌≡◌, ◌≢◌, ◌<◌, ◌≤◌, length};
-ghost use Rattle.c_report.specs.Answers.{IsCertificateRefused, IsJudged, IsLineTooLong, IsSetOutside, IsToldOf, IsTraceRefused};
+ghost use Rattle.c_report.specs.Answers.{IsCertificateRefused, IsJudged, IsLineTooLong};
+ghost use Rattle.c_report.specs.Answers.{IsSetOutside, IsToldOf, IsTraceRefused};
 ghost use Rattle.c_report.specs.CorrectMasks.{correct_of};
 ghost use Rattle.front.specs.RefusalTexts.{report_error_text};
 ghost use Rattle.text_verdicts.specs.VerdictLines.{status_of_verdict, told_verdict};
@@ -37,15 +38,23 @@ pub extern "C" fn synchrony_check(
     out: &mut [u8],
     size: &mut usize,
 ) -> u32
-    ensures yes { result ≡ YES → IsJudged (correct_of correct) text.now certificate.now out.old out.new size.new result }
-    ensures no { result ≡ NO → IsJudged (correct_of correct) text.now certificate.now out.old out.new size.new result }
-    ensures no_room { result ≡ NO_ROOM → IsLineTooLong (correct_of correct) text.now certificate.now (length out.old) size.new }
+    ensures yes { result ≡ YES
+        → IsJudged (correct_of correct) text.now certificate.now out.old out.new size.new result }
+    ensures no { result ≡ NO
+        → IsJudged (correct_of correct) text.now certificate.now out.old out.new size.new result }
+    ensures no_room { result ≡ NO_ROOM
+        → IsLineTooLong (correct_of correct) text.now certificate.now (length out.old) size.new }
     ensures bad_set { result ≡ BAD_SET → IsSetOutside (correct_of correct) text.now }
     ensures bad_trace { result ≡ BAD_TRACE → IsTraceRefused text.now out.old out.new size.new }
-    ensures bad_certificate { result ≡ BAD_CERTIFICATE → IsCertificateRefused (correct_of correct) text.now certificate.now out.old out.new size.new }
-    ensures memory { result ≢ YES → result ≢ NO → result ≢ NO_ROOM → result ≢ BAD_SET → result ≢ BAD_TRACE → result ≢ BAD_CERTIFICATE → result ≡ NO_MEMORY }
-    ensures kept { result ≢ YES → result ≢ NO → result ≢ BAD_TRACE → result ≢ BAD_CERTIFICATE → out.new ≡ out.old }
-    ensures no_size { result ≢ YES → result ≢ NO → result ≢ NO_ROOM → result ≢ BAD_TRACE → result ≢ BAD_CERTIFICATE → size.new ≡ size.old }
+    ensures bad_certificate { result ≡ BAD_CERTIFICATE
+        → IsCertificateRefused (correct_of correct) text.now certificate.now out.old
+        out.new size.new }
+    ensures memory { result ≢ YES → result ≢ NO → result ≢ NO_ROOM → result ≢ BAD_SET
+        → result ≢ BAD_TRACE → result ≢ BAD_CERTIFICATE → result ≡ NO_MEMORY }
+    ensures kept { result ≢ YES → result ≢ NO → result ≢ BAD_TRACE → result ≢ BAD_CERTIFICATE
+        → out.new ≡ out.old }
+    ensures no_size { result ≢ YES → result ≢ NO → result ≢ NO_ROOM → result ≢ BAD_TRACE
+        → result ≢ BAD_CERTIFICATE → size.new ≡ size.old }
 {
     let claim = Claim {
         correct: correct_of(correct),
@@ -63,8 +72,10 @@ pub extern "C" fn synchrony_check(
 
 /// Writes the line of a verdict.
 fn tell_verdict(alloc: Global, verdict: Verdict, out: &mut [u8], size: &mut usize) -> u32
-    ensures told { result ≢ NO_ROOM → result ≢ NO_MEMORY → IsToldOf (told_verdict verdict) out.old out.new size.new }
-    ensures fits { result ≢ NO_ROOM → result ≢ NO_MEMORY → length (told_verdict verdict) ≤ length out.old }
+    ensures told { result ≢ NO_ROOM → result ≢ NO_MEMORY
+        → IsToldOf (told_verdict verdict) out.old out.new size.new }
+    ensures fits { result ≢ NO_ROOM → result ≢ NO_MEMORY
+        → length (told_verdict verdict) ≤ length out.old }
     ensures status { result ≢ NO_ROOM → result ≢ NO_MEMORY → result ≡ status_of_verdict verdict }
     ensures more { result ≡ NO_ROOM → length out.old < length (told_verdict verdict) }
     ensures sized { result ≡ NO_ROOM → size.new ≡ length (told_verdict verdict) }
@@ -86,7 +97,8 @@ fn tell_verdict(alloc: Global, verdict: Verdict, out: &mut [u8], size: &mut usiz
 
 /// Writes why a certificate is refused.
 fn tell_certificate(alloc: Global, why: &ReportError, out: &mut [u8], size: &mut usize) -> u32
-    ensures told { result ≡ BAD_CERTIFICATE → IsToldOf (report_error_text why.now) out.old out.new size.new }
+    ensures told { result ≡ BAD_CERTIFICATE
+        → IsToldOf (report_error_text why.now) out.old out.new size.new }
     ensures memory { result ≢ BAD_CERTIFICATE → result ≡ NO_MEMORY }
     ensures kept { result ≢ BAD_CERTIFICATE → out.new ≡ out.old }
     ensures no_size { result ≢ BAD_CERTIFICATE → size.new ≡ size.old }

@@ -2,7 +2,8 @@
 //! room.
 
 ghost use Rattle.std.specs.Prelude.{◌≡◌, ◌≢◌, ◌<◌, ◌⊎◌, IfOk, IfErr, length};
-ghost use Rattle.c_report.specs.Commands.{HasPrinted, IsAnswered, IsAnswerFor, IsAnswerTooLong, IsRefusedLine, IsTold, IsUnprinted};
+ghost use Rattle.c_report.specs.Commands.{HasPrinted, IsAnswered, IsAnswerFor, IsAnswerTooLong};
+ghost use Rattle.c_report.specs.Commands.{IsRefusedLine, IsTold, IsUnprinted};
 
 use crate::answers::{NO_MEMORY, NO_ROOM};
 use crate::jobs::{Printed, printed_for};
@@ -29,8 +30,10 @@ pub extern "C" fn synchrony_answer(
     out: &mut [u8],
     size: &mut usize,
 ) -> u32
-    ensures answered { result ≢ NO_ROOM → result ≢ NO_MEMORY → IsAnswered words.now text.now second.now out.old out.new size.new result }
-    ensures no_room { result ≡ NO_ROOM → IsAnswerTooLong words.now text.now second.now (length out.old) size.new }
+    ensures answered { result ≢ NO_ROOM → result ≢ NO_MEMORY
+        → IsAnswered words.now text.now second.now out.old out.new size.new result }
+    ensures no_room { result ≡ NO_ROOM
+        → IsAnswerTooLong words.now text.now second.now (length out.old) size.new }
     ensures kept { result ≡ NO_ROOM → out.new ≡ out.old }
     ensures nothing { result ≡ NO_MEMORY → out.new ≡ out.old }
     ensures no_size { result ≡ NO_MEMORY → size.new ≡ size.old }
@@ -64,8 +67,10 @@ fn answer_for(
 
 /// What is printed for the words.
 fn printed(alloc: Global, words: &[u8], text: &[u8], second: &[u8]) -> Result<Printed, Fault>
-    ensures printed { IfOk result (λ p. HasPrinted words.now text.now second.now p.status p.text.items) }
-    ensures refused { IfErr result (λ w. IsRefusedLine words.now w ⊎ IsUnprinted words.now text.now second.now w) }
+    ensures printed { IfOk result
+        (λ p. HasPrinted words.now text.now second.now p.status p.text.items) }
+    ensures refused { IfErr result
+        (λ w. IsRefusedLine words.now w ⊎ IsUnprinted words.now text.now second.now w) }
 {
     let job = job_of(alloc, words)?;
     printed_for(alloc, job, text, second)

@@ -1,7 +1,10 @@
 //! What is printed for the job of a command line, of the texts that a caller lends.
 
 ghost use Rattle.std.specs.Prelude.{◌≡◌, ◌≢◌, ◌<◌, IfOk, IfErr, OnOk, option_map, codes, string_bytes};
-ghost use Rattle.c_report.specs.Commands.{IsImportFor, IsJudgementPrinted, IsLineOf, IsPrintedFor, IsPrintedOf, IsSaid, IsTextOfLog, IsUnimportedFor, IsUnprintedFor, IsUnprintedOf, lent, other_file_words, run_words, runs_words, second_if, simulation_words, window_words};
+ghost use Rattle.c_report.specs.Commands.{IsImportFor, IsJudgementPrinted, IsLineOf, IsPrintedFor, IsPrintedOf, IsSaid};
+ghost use Rattle.c_report.specs.Commands.{IsTextOfLog, IsUnimportedFor, IsUnprintedFor, IsUnprintedOf, lent};
+ghost use Rattle.c_report.specs.Commands.{other_file_words, run_words, runs_words, second_if, simulation_words};
+ghost use Rattle.c_report.specs.Commands.{window_words};
 ghost use Rattle.c_report.specs.declared.answers.TheConstants.{NO_MEMORY, NO_ROOM};
 ghost use Rattle.text_commands.specs.Answers.{IsAnswerTo, IsUnanswered};
 ghost use Rattle.text_commands.specs.Checks.{IsUnchecked};
@@ -42,7 +45,8 @@ pub(crate) fn printed_for(
     text: &[u8],
     second: &[u8],
 ) -> Result<Printed, Fault>
-    ensures printed { IfOk result (λ p. IsPrintedFor job text.now second.now p.status p.text.items) }
+    ensures printed { IfOk result
+        (λ p. IsPrintedFor job text.now second.now p.status p.text.items) }
     ensures refused { IfErr result (IsUnprintedFor job text.now second.now) }
 {
     match job {
@@ -74,8 +78,11 @@ fn well(text: Vec<u8>) -> Printed
 
 /// The answer of a command to the trace in a file.
 fn answer<A: Answer>(alloc: Global, file: &str, command: &A, text: &[u8]) -> Result<Printed, Fault>
-    ensures printed { IfOk result (λ p. IsPrintedOf file.now (IsAnswerTo (A.Gives command.now) text.now) p.status p.text.items) }
-    ensures refused { IfErr result (IsUnprintedOf file.now (IsUnanswered (A.Declines command.now) text.now)) }
+    ensures printed { IfOk result
+        (λ p. IsPrintedOf file.now (IsAnswerTo (A.Gives command.now) text.now) p.status
+        p.text.items) }
+    ensures refused { IfErr result
+        (IsUnprintedOf file.now (IsUnanswered (A.Declines command.now) text.now)) }
 {
     test_file(alloc, file)?;
     Ok(well(answer_to(alloc, command, text)?))
@@ -83,8 +90,13 @@ fn answer<A: Answer>(alloc: Global, file: &str, command: &A, text: &[u8]) -> Res
 
 /// The picture of the trace, by the table in the second text, if one is asked for.
 fn draw(alloc: Global, job: DrawJob, text: &[u8], second: &[u8]) -> Result<Printed, Fault>
-    ensures printed { IfOk result (λ p. IsPrintedOf (string_bytes job.file) (IsAnswerTo (IsDrawingBy job.drawing (second_if job.table second.now)) text.now) p.status p.text.items) }
-    ensures refused { IfErr result (IsUnprintedOf (string_bytes job.file) (IsUnanswered (IsUndrawnBy job.drawing (second_if job.table second.now)) text.now)) }
+    ensures printed { IfOk result
+        (λ p. IsPrintedOf (string_bytes job.file)
+        (IsAnswerTo (IsDrawingBy job.drawing (second_if job.table second.now)) text.now)
+        p.status p.text.items) }
+    ensures refused { IfErr result
+        (IsUnprintedOf (string_bytes job.file)
+        (IsUnanswered (IsUndrawnBy job.drawing (second_if job.table second.now)) text.now)) }
 {
     test_file(alloc, job.file.as_str())?;
     let table = second_if(alloc, &job.table, second)?;
@@ -94,8 +106,13 @@ fn draw(alloc: Global, job: DrawJob, text: &[u8], second: &[u8]) -> Result<Print
 
 /// The page about the trace, by the table in the second text, if one is asked for.
 fn page(alloc: Global, job: PageJob, text: &[u8], second: &[u8]) -> Result<Printed, Fault>
-    ensures printed { IfOk result (λ p. IsPrintedOf (string_bytes job.file) (IsAnswerTo (IsPageBy job.page (second_if job.table second.now)) text.now) p.status p.text.items) }
-    ensures refused { IfErr result (IsUnprintedOf (string_bytes job.file) (IsUnanswered (IsNoPageBy job.page (second_if job.table second.now)) text.now)) }
+    ensures printed { IfOk result
+        (λ p. IsPrintedOf (string_bytes job.file)
+        (IsAnswerTo (IsPageBy job.page (second_if job.table second.now)) text.now) p.status
+        p.text.items) }
+    ensures refused { IfErr result
+        (IsUnprintedOf (string_bytes job.file)
+        (IsUnanswered (IsNoPageBy job.page (second_if job.table second.now)) text.now)) }
 {
     test_file(alloc, job.file.as_str())?;
     let table = second_if(alloc, &job.table, second)?;
@@ -109,7 +126,8 @@ fn second_if(
     file: &Option<String>,
     second: &[u8],
 ) -> Result<Option<Vec<u8>>, AllocError>
-    ensures { IfOk result (λ text. option_map (λ text. text.items) text ≡ second_if file.now second.now) }
+    ensures { IfOk result
+        (λ text. option_map (λ text. text.items) text ≡ second_if file.now second.now) }
 {
     match file {
         Some(_) => Ok(Some(Vec::from_slice(alloc, second)?)),
@@ -119,8 +137,14 @@ fn second_if(
 
 /// The verdict on the second text.
 fn check(alloc: Global, job: &CheckJob, text: &[u8], second: &[u8]) -> Result<Printed, Fault>
-    ensures printed { IfOk result (λ p. IsLineOf (string_bytes job.now.file) (λ verdict. OfTrace (IsVerdictOn job.now.claim.correct job.now.claim.until second.now verdict) text.now) p.status p.text.items) }
-    ensures refused { IfErr result (IsUnprintedOf (string_bytes job.now.file) (IsUnanswered (IsUnchecked job.now.claim second.now) text.now)) }
+    ensures printed { IfOk result
+        (λ p. IsLineOf (string_bytes job.now.file)
+        (λ verdict.
+        OfTrace (IsVerdictOn job.now.claim.correct job.now.claim.until second.now verdict)
+        text.now) p.status p.text.items) }
+    ensures refused { IfErr result
+        (IsUnprintedOf (string_bytes job.now.file)
+        (IsUnanswered (IsUnchecked job.now.claim second.now) text.now)) }
 {
     test_file(alloc, job.file.as_str())?;
     let verdict = verdict_on(alloc, &job.claim, text, second)?;
@@ -131,8 +155,13 @@ fn check(alloc: Global, job: &CheckJob, text: &[u8], second: &[u8]) -> Result<Pr
 
 /// The judgement of the decisions of the second text.
 fn judge(alloc: Global, job: &JudgeJob, text: &[u8], second: &[u8]) -> Result<Printed, Fault>
-    ensures printed { IfOk result (λ p. IsJudgementPrinted (string_bytes job.now.file) (λ verdict out. OfTrace (IsJudgementOn job.now.judging second.now verdict out) text.now) p.status p.text.items) }
-    ensures refused { IfErr result (IsUnprintedOf (string_bytes job.now.file) (IsUnanswered (IsUnjudged job.now.judging second.now) text.now)) }
+    ensures printed { IfOk result
+        (λ p. IsJudgementPrinted (string_bytes job.now.file)
+        (λ verdict out. OfTrace (IsJudgementOn job.now.judging second.now verdict out) text.now)
+        p.status p.text.items) }
+    ensures refused { IfErr result
+        (IsUnprintedOf (string_bytes job.now.file)
+        (IsUnanswered (IsUnjudged job.now.judging second.now) text.now)) }
 {
     test_file(alloc, job.file.as_str())?;
     let told = judgement_on(alloc, &job.judging, text, second)?;
@@ -145,8 +174,11 @@ fn judge(alloc: Global, job: &JudgeJob, text: &[u8], second: &[u8]) -> Result<Pr
 
 /// What is printed of the log in a file.
 fn import(alloc: Global, job: &ImportJob, text: &[u8]) -> Result<Printed, Fault>
-    ensures printed { IfOk result (λ p. IsPrintedOf (string_bytes job.now.file) (IsImportFor job.now.options text.now) p.status p.text.items) }
-    ensures refused { IfErr result (IsUnprintedOf (string_bytes job.now.file) (IsUnimportedFor job.now.options text.now)) }
+    ensures printed { IfOk result
+        (λ p. IsPrintedOf (string_bytes job.now.file) (IsImportFor job.now.options text.now)
+        p.status p.text.items) }
+    ensures refused { IfErr result
+        (IsUnprintedOf (string_bytes job.now.file) (IsUnimportedFor job.now.options text.now)) }
 {
     test_file(alloc, job.file.as_str())?;
     Ok(well(imported(alloc, &job.options, text)?))
@@ -194,7 +226,8 @@ fn log_text(
 
 /// The text of the trace of a log, which is read so.
 fn trace_text_of(alloc: Global, text: &[u8], options: &Options) -> Result<Vec<u8>, Fault>
-    ensures trace { IfOk result (λ out. IsTextOfLog ImportForm.Trace options.now text.now out.items) }
+    ensures trace { IfOk result
+        (λ out. IsTextOfLog ImportForm.Trace options.now text.now out.items) }
     ensures refused { IfErr result (IsUnimported ImportForm.Trace options.now text.now) }
 {
     let mut import = log_import(alloc, CowSlice::Borrowed(text), options)?;
@@ -203,7 +236,8 @@ fn trace_text_of(alloc: Global, text: &[u8], options: &Options) -> Result<Vec<u8
 
 /// The table of the steps of a log, which is read so.
 fn table_text_of(alloc: Global, text: &[u8], options: &Options) -> Result<Vec<u8>, Fault>
-    ensures table { IfOk result (λ out. IsTextOfLog ImportForm.Table options.now text.now out.items) }
+    ensures table { IfOk result
+        (λ out. IsTextOfLog ImportForm.Table options.now text.now out.items) }
     ensures refused { IfErr result (IsUnimported ImportForm.Table options.now text.now) }
 {
     Ok(log_table(alloc, text, options)?.table)
@@ -211,7 +245,8 @@ fn table_text_of(alloc: Global, text: &[u8], options: &Options) -> Result<Vec<u8
 
 /// The table of the lengths of a tick for a log.
 fn ticks_text_of(alloc: Global, text: &[u8], options: &Options) -> Result<Vec<u8>, Fault>
-    ensures ticks { IfOk result (λ out. IsTextOfLog ImportForm.Ticks options.now text.now out.items) }
+    ensures ticks { IfOk result
+        (λ out. IsTextOfLog ImportForm.Ticks options.now text.now out.items) }
     ensures refused { IfErr result (IsUnimported ImportForm.Ticks options.now text.now) }
 {
     let table = log_ticks(alloc, text, options)?;

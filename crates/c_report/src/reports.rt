@@ -28,11 +28,14 @@ pub extern "C" fn synchrony_report(
     out: &mut [u8],
     size: &mut usize,
 ) -> u32
-    ensures done { result ≡ DONE → IsReported (correct_of correct) text.now out.old out.new size.new }
-    ensures no_room { result ≡ NO_ROOM → IsTooLong (correct_of correct) text.now (length out.old) size.new }
+    ensures done { result ≡ DONE
+        → IsReported (correct_of correct) text.now out.old out.new size.new }
+    ensures no_room { result ≡ NO_ROOM
+        → IsTooLong (correct_of correct) text.now (length out.old) size.new }
     ensures bad_set { result ≡ BAD_SET → IsSetOutside (correct_of correct) text.now }
     ensures bad_trace { result ≡ BAD_TRACE → IsTraceRefused text.now out.old out.new size.new }
-    ensures memory { result ≢ DONE → result ≢ NO_ROOM → result ≢ BAD_SET → result ≢ BAD_TRACE → result ≡ NO_MEMORY }
+    ensures memory { result ≢ DONE → result ≢ NO_ROOM → result ≢ BAD_SET → result ≢ BAD_TRACE
+        → result ≡ NO_MEMORY }
     ensures kept { result ≢ DONE → result ≢ BAD_TRACE → out.new ≡ out.old }
     ensures no_size { result ≢ DONE → result ≢ NO_ROOM → result ≢ BAD_TRACE → size.new ≡ size.old }
 {
@@ -58,7 +61,8 @@ pub extern "C" fn synchrony_report(
 
 /// Writes why a trace text is refused.
 pub(crate) fn tell_trace(alloc: Global, why: &TextError, out: &mut [u8], size: &mut usize) -> u32
-    ensures told { result ≡ BAD_TRACE → IsToldOf (text_error_text why.now) out.old out.new size.new }
+    ensures told { result ≡ BAD_TRACE
+        → IsToldOf (text_error_text why.now) out.old out.new size.new }
     ensures memory { result ≢ BAD_TRACE → result ≡ NO_MEMORY }
     ensures kept { result ≢ BAD_TRACE → out.new ≡ out.old }
     ensures no_size { result ≢ BAD_TRACE → size.new ≡ size.old }

@@ -1,12 +1,16 @@
 -- What is kept of claimed rows settles their verdict.
-use Rattle.std.proofs.Common.{ℕ, Bool, true, false, ◌==◌, ◌≡◌, ◌≢◌, ◌+◌, ◌-◌, ◌<◌, ◌≤◌, ◌⊎◌, inl, inr, List, [], ◌∷◌, ◌++◌, length, get_or, cond, Some, None, refl, ap, sym, subst, ◌∙◌, suc, zero, append_assoc, arith}
+use Rattle.std.proofs.Common.{ℕ, Bool, true, false, ◌==◌, ◌≡◌, ◌≢◌, ◌+◌, ◌-◌, ◌<◌, ◌≤◌, ◌⊎◌, inl, inr, List, [], ◌∷◌}
+use Rattle.std.proofs.Common.{◌++◌, length, get_or, cond, Some, None, refl, ap, sym, subst, ◌∙◌, suc, zero}
+use Rattle.std.proofs.Common.{append_assoc, arith}
 use Rattle.std.specs.Prelude.{nat_le, nat_lt}
 use Rattle.std.specs.Option.{option_map_or}
 use Rattle.std.proofs.lemmas.Bool.{eqb-true}
 use Rattle.std.proofs.lemmas.Bool.Decides.{nat_tests}
 use Rattle.std.proofs.lemmas.List.{append-nil, length-append}
 use Rattle.std.proofs.lemmas.Option.{none-some}
-use Rattle.certificate_checker.proofs.Common.{Row, Recorded, Reason, FirstNotOne, NotRising, BeyondEnd, No, row_at, IsFirst, IsFirstReason, HasRow, HasTwoRows, IsVerdict, slice_get-push_cases, slice_get-push_old, slice_get-last}
+use Rattle.certificate_checker.proofs.Common.{Row, Recorded, Reason, FirstNotOne, NotRising, BeyondEnd, No, row_at}
+use Rattle.certificate_checker.proofs.Common.{IsFirst, IsFirstReason, HasRow, HasTwoRows, IsVerdict}
+use Rattle.certificate_checker.proofs.Common.{slice_get-push_cases, slice_get-push_old, slice_get-last}
 use Rattle.certificate_checker.specs.declared.claims.ClaimedRows.{ClaimedRows}
 use Rattle.certificate_checker.specs.declared.claims.ClaimedRows.TheVariants.{InOrder, Beyond, Refuted}
 use Rattle.certificate_checker.specs.Claims.{claimed, count_of, last_gst, next_beyond, next_in_order, risen, with_row, with_rows}
@@ -210,7 +214,8 @@ fallen-above rows new h some = let other : (length rows == 0) ≡ false = grind 
 in_order-on : (last : ℕ) (rows : List Row) (new : Row) → RiseFromOne rows → ((k : ℕ) → ¬ IsBeyond last rows k) → Tells last (next_in_order last rows new) (rows ++ new ∷ [])
 in_order-on last rows new rise none = go (length rows == 0) refl (risen rows new) refl (nat_le new.gst last) refl where
   go : (z : Bool) → (length rows == 0) ≡ z → (u : Bool) → risen rows new ≡ u → (w : Bool) → nat_le new.gst last ≡ w
-      → Tells last (cond u (cond w (InOrder (rows ++ new ∷ [])) (Beyond (length rows + 1) (length rows + 1) new.gst)) (Refuted (cond z FirstNotOne (NotRising (length rows + 1))) (length rows + 1))) (rows ++ new ∷ [])
+      → Tells last (cond u (cond w (InOrder (rows ++ new ∷ [])) (Beyond (length rows + 1) (length rows + 1) new.gst))
+      (Refuted (cond z FirstNotOne (NotRising (length rows + 1))) (length rows + 1))) (rows ++ new ∷ [])
   go z a true b true c = (refl, rise-more rows new rise (risen-one rows new b) (risen-above rows new b), within-more last rows new none (grind (arith, nat_tests)))
   go z a true b false c = (one-more rows new, omega arith, sym (last_gst-push rows new), rise-more rows new rise (risen-one rows new b) (risen-above rows new b), beyond-new last rows new none (grind (arith, nat_tests)))
   go true a false b w c =

@@ -2,7 +2,9 @@
 use Rattle.std.proofs.Common.{ℕ, ◌≡◌, ◌+◌, ◌<◌, ◌≤◌, inl, inr, List, IsTrue, length, get_or, sym, subst, ◌∙◌, arith}
 use Rattle.std.proofs.lemmas.Bool.{cases_eq, cases_lt, lt-ltb, le-ltb}
 use Rattle.std.proofs.lemmas.List.{get_or_default}
-use Rattle.certificate_checker.proofs.Common.{has_proc, IsWithin, Recorded, IsTimed, StepsIn, Silence, IsNextStep, IsSilence, HasSilent, AreClosings, IsReached, PutsEnds, KnowsEnds, IsRaised, IsCarried}
+use Rattle.certificate_checker.proofs.Common.{has_proc, IsWithin, Recorded, IsTimed, StepsIn, Silence, IsNextStep}
+use Rattle.certificate_checker.proofs.Common.{IsSilence, HasSilent, AreClosings, IsReached, PutsEnds, KnowsEnds}
+use Rattle.certificate_checker.proofs.Common.{IsRaised, IsCarried}
 use Rattle.certificate_checker.proofs.NextSteps.{ArePassed, IsNextStep-at, IsNextStep-none}
 
 -- what is reached is reached if no end is taken away
@@ -45,7 +47,8 @@ abbrev pub AreBefore : Silence → ℕ → ℕ → Type 0
 AreBefore s i from = (k : ℕ) → k < i → get_or s.ticks.items k 0 < from
 
 -- from there on the place of the next step is known
-passed_from : (t : Recorded) (p i from x : ℕ) (s : Silence) → IsSilence t p s → AreBefore s i from → i ≤ length s.ticks.items → from ≤ x → (i < length s.ticks.items → x ≤ get_or s.ticks.items i 0) → ArePassed x i s
+passed_from : (t : Recorded) (p i from x : ℕ) (s : Silence) → IsSilence t p s → AreBefore s i from
+    → i ≤ length s.ticks.items → from ≤ x → (i < length s.ticks.items → x ≤ get_or s.ticks.items i 0) → ArePassed x i s
 passed_from t p i from x s known before size late upto = (
   (λ k d low below.
       let e = get_or_default s.ticks.items k 0 d (omega (arith, below, size)) in
@@ -76,7 +79,10 @@ pub PutsEnds-last : (t : Recorded) (p from : ℕ) (s : Silence) (old mid new : L
     → PutsEnds t p from old mid → IsRaised from (t.last + 1) mid new → PutsEnds t p (t.last + 1) old new
 PutsEnds-last t p from s old mid new known size before k raised =
     let count = length s.ticks.items in
-    let next = λ (x : ℕ) (late : from ≤ x) (inside : x ≤ t.last). IsNextStep-none t p x count s known (passed_from t p count from x s known before (omega arith) late (λ l. absurd (omega (arith, l)))) (omega arith) inside in
+    let next = λ (x : ℕ) (late : from ≤ x) (inside : x ≤ t.last).
+    IsNextStep-none t p x count s known
+    (passed_from t p count from x s known before (omega arith) late (λ l. absurd (omega (arith, l))))
+    (omega arith) inside in
     PutsEnds-raise t p from (t.last + 1) (t.last + 1) old mid new size k raised (omega arith)
     (λ z a b. (next z a (omega (arith, b))).silent z (omega arith) (let n = (next z a (omega (arith, b))).until in omega (arith, b)))
     (λ x late _ inside. next x late inside)
@@ -107,7 +113,8 @@ KnowsEnds-other set t p ends outside k = record {
 }
 
 -- if the ends of all members are carried on, they close the ticks
-pub AreClosings-carried : (set : ℕ) (t : Recorded) (number : ℕ) (ends new : List ℕ) → IsWithin set t.config.n → t.config.n < number → KnowsEnds set t number ends → IsCarried ends new → AreClosings set t new
+pub AreClosings-carried : (set : ℕ) (t : Recorded) (number : ℕ) (ends new : List ℕ) → IsWithin set t.config.n
+    → t.config.n < number → KnowsEnds set t number ends → IsCarried ends new → AreClosings set t new
 AreClosings-carried set t number ends new within all k carried = record {
   long = carried.long ∙ k.long;
   each = λ x inside.

@@ -22,7 +22,9 @@ pub use Rattle.step_trace.specs.declared.steps.Step.{Step}
 pub use Rattle.certificate_checker.specs.Certificates.{Certifies, IsLongestGap, IsLongestMiss, NamesNothingBesideOne, Serves, ShowsDelta, ShowsPhi, after_stretch, row_at}
 pub use Rattle.certificate_checker.specs.Closings.{AreClosings, HasSilent, IsCarried, IsRaised, IsReached, KnowsEnds, PutsEnds}
 pub use Rattle.certificate_checker.specs.LongestSilences.{IsLongestSilence, IsTooShort}
-pub use Rattle.certificate_checker.specs.LongestWitnesses.{AreBefore, AreFrom, HasNoGapAt, HasNoMiss, HasNoMissAfter, HasSpan, IsLastMiss, IsLongestGapAt, IsLongestMissAfter, KnowsMissesAfter, longer_miss, span_of}
+pub use Rattle.certificate_checker.specs.LongestWitnesses.{AreBefore, AreFrom, HasNoGapAt, HasNoMiss, HasNoMissAfter}
+pub use Rattle.certificate_checker.specs.LongestWitnesses.{HasSpan, IsLastMiss, IsLongestGapAt, IsLongestMissAfter}
+pub use Rattle.certificate_checker.specs.LongestWitnesses.{KnowsMissesAfter, longer_miss, span_of}
 pub use Rattle.certificate_checker.specs.Receives.{IsLastBefore, IsLastWaited, KnowsReceives, NotesTakes, WaitsAt, last_waited}
 pub use Rattle.certificate_checker.specs.Searches.{AreInOrder, IsFirst, IsFirstReason, IsFirstWith}
 pub use Rattle.certificate_checker.specs.Silences.{AreSilences, IsNextStep, IsSilence, KnowsSilence, KnowsSilences}

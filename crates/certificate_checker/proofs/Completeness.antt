@@ -1,7 +1,10 @@
 -- No reason holds against the report.
 use Rattle.std.proofs.Common.{ℕ, ◌≡◌, ◌+◌, ◌-◌, ◌<◌, ◌≤◌, inl, inr, List, Option, Some, None, arith}
 use Rattle.std.proofs.lemmas.Bool.{cases_lt}
-use Rattle.certificate_checker.proofs.Common.{Miss, Gap, Row, Recorded, tick_of, DeltaHolds, PhiHolds, IsDelta, IsPhi, NamesMiss, NamesGap, IsReport, MissRefutes-sound, GapRefutes-sound, DeltaHolds-unrefuted, PhiHolds-unrefuted, Reason, row_at, after_stretch, ShowsDelta, ShowsPhi, Stands}
+use Rattle.certificate_checker.proofs.Common.{Miss, Gap, Row, Recorded, tick_of, DeltaHolds, PhiHolds, IsDelta, IsPhi}
+use Rattle.certificate_checker.proofs.Common.{NamesMiss, NamesGap, IsReport, MissRefutes-sound, GapRefutes-sound}
+use Rattle.certificate_checker.proofs.Common.{DeltaHolds-unrefuted, PhiHolds-unrefuted, Reason, row_at, after_stretch}
+use Rattle.certificate_checker.proofs.Common.{ShowsDelta, ShowsPhi, Stands}
 use Rattle.certificate_checker.proofs.RowPlaces.{Contains-row_at}
 use Rattle.certificate_checker.proofs.FrontRows.{AreTheFront, last_served, least_served, IsUnopposed-front}
 
@@ -50,7 +53,8 @@ ShowsPhi-named set trace g h f (Some w) start l least names = (names.0, names.1.
   ]
 
 -- the witnesses of a report show, all over each stretch, that no smaller positive bounds hold
-ShowsDelta-report : (set : ℕ) (trace : Recorded) (rows : List Row) (k : ℕ) (r : Row) → IsReport set trace rows → row_at rows k ≡ Some r → ShowsDelta set trace (after_stretch rows trace.last k) r.delta r.miss
+ShowsDelta-report : (set : ℕ) (trace : Recorded) (rows : List Row) (k : ℕ) (r : Row) → IsReport set trace rows
+    → row_at rows k ≡ Some r → ShowsDelta set trace (after_stretch rows trace.last k) r.delta r.miss
 ShowsDelta-report set trace rows k r report here =
     let (h, serves, after) = last_served set trace rows k r (AreTheFront-report set trace rows report) here in
     let least = least_served set trace rows k r h (AreTheFront-report set trace rows report) serves in

@@ -1,7 +1,9 @@
 -- Rows of which a bound doesn't hold, scanned from the last one back.
 use Rattle.std.proofs.Common.{ℕ, ◌≡◌, ◌+◌, ◌<◌, ◌≤◌, inl, inr, List, length, get_or, Option, Some, None, ap, subst, arith}
 use Rattle.std.proofs.lemmas.Bool.{cases_eq, cases_lt}
-use Rattle.certificate_checker.proofs.Common.{Miss, Row, IsMiss, Recorded, tick_of, DeltaHolds, MissRefutes-sound, DeltaHolds-unrefuted, DeltaFails, row_at, Stands, IsFirstWith, AreInOrder, HasNoMissAfter, IsLongestMissAfter, span_of, AreFrom, AreBefore}
+use Rattle.certificate_checker.proofs.Common.{Miss, Row, IsMiss, Recorded, tick_of, DeltaHolds, MissRefutes-sound}
+use Rattle.certificate_checker.proofs.Common.{DeltaHolds-unrefuted, DeltaFails, row_at, Stands, IsFirstWith, AreInOrder}
+use Rattle.certificate_checker.proofs.Common.{HasNoMissAfter, IsLongestMissAfter, span_of, AreFrom, AreBefore}
 use Rattle.certificate_checker.proofs.RowSearches.{no_row, row_at_within, row_at_next, row_at_same}
 
 -- the first number after k of which this is so, with what it is so of
@@ -59,8 +61,10 @@ sent_after set t done g o below m from = elim (cases_lt done o.sent) [
 ]
 
 -- the bound doesn't hold if the longest miss is as long
-pub delta_fails : (set : ℕ) (t : Recorded) (rows : List Row) (i done : ℕ) (w : Miss) → i < length rows → IsLongestMissAfter set t done w → AreFrom t done (get_or rows i no_row).gst → AreBefore t done (get_or rows i no_row).gst
-    → (get_or rows i no_row).delta ≤ span_of t w → Stands set t rows (DeltaFails (i + 1) w)
+pub delta_fails : (set : ℕ) (t : Recorded) (rows : List Row) (i done : ℕ) (w : Miss) → i < length rows
+    → IsLongestMissAfter set t done w → AreFrom t done (get_or rows i no_row).gst
+    → AreBefore t done (get_or rows i no_row).gst → (get_or rows i no_row).delta ≤ span_of t w
+    → Stands set t rows (DeltaFails (i + 1) w)
 delta_fails set t rows i done w inside l above below long =
     let from = above w.sent _ l.miss.message.sent l.after in (
       record { row = get_or rows i no_row; here = row_at_next rows i no_row inside },
@@ -74,14 +78,16 @@ delta_fails set t rows i done w inside l above below long =
     )
 
 -- if there is no miss from there on, the row holds
-pub delta_stands_none : (set : ℕ) (t : Recorded) (rows : List Row) (i done : ℕ) → HasNoMissAfter set t done → AreBefore t done (get_or rows i no_row).gst → (m : Miss) → ¬ Stands set t rows (DeltaFails (i + 1) m)
+pub delta_stands_none : (set : ℕ) (t : Recorded) (rows : List Row) (i done : ℕ) → HasNoMissAfter set t done
+    → AreBefore t done (get_or rows i no_row).gst → (m : Miss) → ¬ Stands set t rows (DeltaFails (i + 1) m)
 delta_stands_none set t rows i done none below m s =
     let same = ap (λ (r : Row). r.gst) (row_at_same rows i s.0.row no_row s.0.here) in
     none m s.2.miss (sent_after set t done _ m below s.2.miss (omega (arith, s.2.from, same)))
 
 -- or if the longest is shorter than the bound
-pub delta_stands_short : (set : ℕ) (t : Recorded) (rows : List Row) (i done : ℕ) (w : Miss) → IsLongestMissAfter set t done w → AreBefore t done (get_or rows i no_row).gst → span_of t w < (get_or rows i no_row).delta
-    → (m : Miss) → ¬ Stands set t rows (DeltaFails (i + 1) m)
+pub delta_stands_short : (set : ℕ) (t : Recorded) (rows : List Row) (i done : ℕ) (w : Miss)
+    → IsLongestMissAfter set t done w → AreBefore t done (get_or rows i no_row).gst
+    → span_of t w < (get_or rows i no_row).delta → (m : Miss) → ¬ Stands set t rows (DeltaFails (i + 1) m)
 delta_stands_short set t rows i done w l below short m s =
     let fails = subst (λ (r : Row). ¬ DeltaHolds set t r.gst r.delta) (row_at_same rows i s.0.row no_row s.0.here) s.1 in
     fails (DeltaHolds-unrefuted set t _ _ (omega (arith, short)) (λ o r.

@@ -4,7 +4,13 @@ use Rattle.std.proofs.Common.{ℕ, ◌≡◌, ◌+◌, ◌-◌, ◌<◌, ◌≤�
 use Rattle.std.specs.List.Sorted.{IsStrictlyIncreasing}
 use Rattle.std.proofs.lemmas.Bool.{cases_eq, cases_lt}
 use Rattle.std.proofs.lemmas.Option.{none-some, same_Some}
-use Rattle.certificate_checker.proofs.Common.{Row, Recorded, DeltaHolds, PhiHolds, IsDelta, IsPhi, Triple, IsOnFront, triple_of, Contains-nil, Contains-from_map, DeltaHolds-later, PhiHolds-later, IsLeastBound-unique, IsDelta-on_front, IsPhi-on_front, on_front-changes, IsOnFront-from_change, Reason, NoRows, FirstNotOne, NotRising, BeyondEnd, NotNonIncreasing, SameAsBefore, BadMiss, BadGap, DeltaFails, PhiFails, row_at, after_stretch, Serves, ShowsDelta, ShowsPhi, HasTwoRows, Stands}
+use Rattle.certificate_checker.proofs.Common.{Row, Recorded, DeltaHolds, PhiHolds, IsDelta, IsPhi, Triple, IsOnFront}
+use Rattle.certificate_checker.proofs.Common.{triple_of, Contains-nil, Contains-from_map, DeltaHolds-later}
+use Rattle.certificate_checker.proofs.Common.{PhiHolds-later, IsLeastBound-unique, IsDelta-on_front, IsPhi-on_front}
+use Rattle.certificate_checker.proofs.Common.{on_front-changes, IsOnFront-from_change, Reason, NoRows, FirstNotOne}
+use Rattle.certificate_checker.proofs.Common.{NotRising, BeyondEnd, NotNonIncreasing, SameAsBefore, BadMiss, BadGap}
+use Rattle.certificate_checker.proofs.Common.{DeltaFails, PhiFails, row_at, after_stretch, Serves, ShowsDelta, ShowsPhi}
+use Rattle.certificate_checker.proofs.Common.{HasTwoRows, Stands}
 use Rattle.certificate_checker.proofs.LeastBounds.{least_bounds}
 use Rattle.certificate_checker.proofs.RowPlaces.{Contains-row_at, row_at-from_Contains, later_above}
 use Rattle.certificate_checker.proofs.Stretches.{AreInOrder, begins_within, served_within, begins_outside}
@@ -66,7 +72,8 @@ pub record AreLeast (set : ℕ) (trace : Recorded) (r : Row) (g : ℕ) : Type 0 
   pub phi : IsPhi set trace g r.phi
 
 -- they are those of the tick after g too, since no row begins there
-least_after : (set : ℕ) (trace : Recorded) (rows : List Row) (k : ℕ) (r : Row) (g : ℕ) → AreTheFront set trace rows → Serves rows trace.last k r (suc g) → r.gst ≤ g → AreLeast set trace r g → AreLeast set trace r (suc g)
+least_after : (set : ℕ) (trace : Recorded) (rows : List Row) (k : ℕ) (r : Row) (g : ℕ) → AreTheFront set trace rows
+    → Serves rows trace.last k r (suc g) → r.gst ≤ g → AreLeast set trace r g → AreLeast set trace r (suc g)
 least_after set trace rows k r g are serves begun least = record {
   delta = record {
     positive = least.delta.positive;
@@ -121,7 +128,8 @@ least_served set trace rows k r (suc g) are serves = elim (cases_eq r.gst (suc g
 ]
 
 -- the last tick of a row's stretch
-pub last_served : (set : ℕ) (trace : Recorded) (rows : List Row) (k : ℕ) (r : Row) → AreTheFront set trace rows → row_at rows k ≡ Some r → (h : ℕ) × Serves rows trace.last k r h × (after_stretch rows trace.last k ≡ h + 1)
+pub last_served : (set : ℕ) (trace : Recorded) (rows : List Row) (k : ℕ) (r : Row) → AreTheFront set trace rows
+    → row_at rows k ≡ Some r → (h : ℕ) × Serves rows trace.last k r h × (after_stretch rows trace.last k ≡ h + 1)
 last_served set trace rows k r are here =
     let own = begins_within rows trace.last k r (AreInOrder-front set trace rows are) here in
     let until = own.until in
@@ -148,8 +156,15 @@ IsUnopposed-front set trace rows are misses gaps (NotNonIncreasing k) s =
     let here = front_row set trace rows k s.0.row are s.0.here in
     let l = follows set trace rows k s.0 are in
     elim s.1 [
-      | inl greater ↦ absurd (let low = (IsDelta-on_front set trace (triple_of s.0.row) here).least s.0.before.delta before.feasible.delta_positive (DeltaHolds-later set trace s.0.before.gst s.0.row.gst s.0.before.delta (omega (arith, l)) before.feasible.delta) in omega (arith, greater, low))
-      | inr greater ↦ absurd (let low = (IsPhi-on_front set trace (triple_of s.0.row) here).least s.0.before.phi before.feasible.phi_positive (PhiHolds-later set trace s.0.before.gst s.0.row.gst s.0.before.phi (omega (arith, l)) before.feasible.phi) in omega (arith, greater, low))
+      | inl greater ↦ absurd
+          (let low = (IsDelta-on_front set trace (triple_of s.0.row) here).least s.0.before.delta
+          before.feasible.delta_positive
+          (DeltaHolds-later set trace s.0.before.gst s.0.row.gst s.0.before.delta
+          (omega (arith, l)) before.feasible.delta) in omega (arith, greater, low))
+      | inr greater ↦ absurd
+          (let low = (IsPhi-on_front set trace (triple_of s.0.row) here).least s.0.before.phi
+          before.feasible.phi_positive (PhiHolds-later set trace s.0.before.gst s.0.row.gst s.0.before.phi
+          (omega (arith, l)) before.feasible.phi) in omega (arith, greater, low))
     ]
 IsUnopposed-front set trace rows are misses gaps (SameAsBefore k) s =
     let before = front_row set trace rows (k - 1) s.0.before are s.0.there in

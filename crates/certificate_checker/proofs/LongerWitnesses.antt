@@ -2,7 +2,9 @@
 use Rattle.std.proofs.Common.{ℕ, ◌≡◌, ◌+◌, ◌-◌, ◌<◌, ◌≤◌, inl, inr, Option, Some, None, Bool, true, false, cond, refl, ap, sym, ◌∙◌, arith}
 use Rattle.std.specs.Prelude.{MatchOption, nat_lt, IfSome}
 use Rattle.std.proofs.lemmas.Bool.{cases_eq, ltb-true, ltb-false}
-use Rattle.certificate_checker.proofs.Common.{Miss, Recorded, tick_of, IsMiss, step_at_within, HasNoMiss, IsLastMiss, HasNoMissAfter, IsLongestMissAfter, KnowsMissesAfter, HasSpan, span_of, longer_miss}
+use Rattle.certificate_checker.proofs.Common.{Miss, Recorded, tick_of, IsMiss, step_at_within, HasNoMiss, IsLastMiss}
+use Rattle.certificate_checker.proofs.Common.{HasNoMissAfter, IsLongestMissAfter, KnowsMissesAfter, HasSpan, span_of}
+use Rattle.certificate_checker.proofs.Common.{longer_miss}
 
 -- a miss has a length
 pub HasSpan-of_miss : (set : ℕ) (t : Recorded) (m : Miss) → IsMiss set t m → HasSpan t m
@@ -21,7 +23,10 @@ HasSpan-of_miss set t m i =
 misses_none : (set : ℕ) (t : Recorded) (s : ℕ) → HasNoMiss set t s → HasNoMissAfter set t s → HasNoMissAfter set t (s - 1)
 misses_none set t s here later o i f = elim (cases_eq o.sent s) [ inl e ↦ here o i e | inr e ↦ later o i (omega (arith, e, f)) ]
 
-misses_kept : (set : ℕ) (t : Recorded) (s : ℕ) (w : Miss) → ((o : Miss) → IsMiss set t o → o.sent ≡ s → tick_of t o.missed + tick_of t w.sent ≤ tick_of t w.missed + tick_of t o.sent) → IsLongestMissAfter set t s w → IsLongestMissAfter set t (s - 1) w
+misses_kept : (set : ℕ) (t : Recorded) (s : ℕ) (w : Miss)
+    → ((o : Miss) → IsMiss set t o → o.sent ≡ s
+    → tick_of t o.missed + tick_of t w.sent ≤ tick_of t w.missed + tick_of t o.sent) → IsLongestMissAfter set t s w
+    → IsLongestMissAfter set t (s - 1) w
 misses_kept set t s w here l = let after = l.after in record {
   miss = l.miss;
   after = omega (arith, after);
@@ -29,7 +34,9 @@ misses_kept set t s w here l = let after = l.after in record {
   greatest = λ o i f same. elim (cases_eq o.sent s) [ inl e ↦ omega (arith, e, after) | inr e ↦ l.greatest o i (omega (arith, e, f)) same ];
 }
 
-misses_new : (set : ℕ) (t : Recorded) (s : ℕ) (v : Miss) → 1 ≤ s → ((o : Miss) → IsMiss set t o → s < o.sent → tick_of t o.missed + tick_of t v.sent < tick_of t v.missed + tick_of t o.sent) → IsLastMiss set t s v
+misses_new : (set : ℕ) (t : Recorded) (s : ℕ) (v : Miss) → 1 ≤ s
+    → ((o : Miss) → IsMiss set t o → s < o.sent
+    → tick_of t o.missed + tick_of t v.sent < tick_of t v.missed + tick_of t o.sent) → IsLastMiss set t s v
     → IsLongestMissAfter set t (s - 1) v
 misses_new set t s v low later l = let at = l.sent in record {
   miss = l.miss;
@@ -45,7 +52,9 @@ misses_new set t s v low later l = let at = l.sent in record {
 }
 
 -- the longer of the last miss of s and the longest after s
-pub KnowsMissesAfter-earlier : (set : ℕ) (t : Recorded) (s : ℕ) (v w : Option Miss) → 1 ≤ s → MatchOption v (HasNoMiss set t s) (IsLastMiss set t s) → KnowsMissesAfter set t s w → KnowsMissesAfter set t (s - 1) (longer_miss t v w)
+pub KnowsMissesAfter-earlier : (set : ℕ) (t : Recorded) (s : ℕ) (v w : Option Miss) → 1 ≤ s
+    → MatchOption v (HasNoMiss set t s) (IsLastMiss set t s) → KnowsMissesAfter set t s w
+    → KnowsMissesAfter set t (s - 1) (longer_miss t v w)
 KnowsMissesAfter-earlier set t s None None low here later = misses_none set t s here later
 KnowsMissesAfter-earlier set t s None (Some w) low here later = misses_kept set t s w (λ o i e. absurd (here o i e)) later
 KnowsMissesAfter-earlier set t s (Some v) None low here later = misses_new set t s v low (λ o i l. absurd (later o i l)) here

@@ -3,7 +3,9 @@ use Rattle.std.proofs.Common.{ℕ, ◌≡◌, ◌+◌, ◌-◌, ◌≤◌, inl, 
 use Rattle.std.specs.Prelude.{IsTrue, nat_le, nat_lt, ◌&&◌}
 use Rattle.std.proofs.lemmas.Bool.{cases_eq, cases_lt, and_parts, leb-true}
 use Rattle.step_trace.specs.declared.processors.TheConstants.{MAX_MEMBER}
-use Rattle.certificate_checker.proofs.Common.{Miss, Gap, has_proc, Recorded, tick_of, IsTimed, IsMessage, IsMiss, IsGap, step_at_within, one_in_tick, IsMessage-receiver, Miss-same, Gap-same, IsLongestMiss, IsLongestGap, span_of}
+use Rattle.certificate_checker.proofs.Common.{Miss, Gap, has_proc, Recorded, tick_of, IsTimed, IsMessage, IsMiss, IsGap}
+use Rattle.certificate_checker.proofs.Common.{step_at_within, one_in_tick, IsMessage-receiver, Miss-same, Gap-same}
+use Rattle.certificate_checker.proofs.Common.{IsLongestMiss, IsLongestGap, span_of}
 
 -- ranks are bounded: if nothing that passes has the greatest, nothing passes that is n below the bound
 none_near : (X : Type 0) (Passes : X → Type 0) (rank : X → ℕ) (most : ℕ) → ((x : X) → Passes x → rank x ≤ most)

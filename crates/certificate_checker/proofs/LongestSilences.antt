@@ -2,7 +2,9 @@
 use Rattle.std.proofs.Common.{ℕ, ◌≡◌, ◌+◌, ◌-◌, ◌<◌, ◌≤◌, inl, inr, List, length, get_or, refl, ap, subst, arith}
 use Rattle.std.specs.Prelude.{slice_index}
 use Rattle.std.proofs.lemmas.Bool.{cases_lt}
-use Rattle.certificate_checker.proofs.Common.{Gap, Row, Recorded, IsGap, GapRefutes-sound, PhiHolds-unrefuted, PhiFails, IsLongestGap, Stands, AreInOrder, AreClosings, HasNoGapAt, IsLongestGapAt, IsLongestSilence, IsTooShort}
+use Rattle.certificate_checker.proofs.Common.{Gap, Row, Recorded, IsGap, GapRefutes-sound, PhiHolds-unrefuted, PhiFails}
+use Rattle.certificate_checker.proofs.Common.{IsLongestGap, Stands, AreInOrder, AreClosings, HasNoGapAt, IsLongestGapAt}
+use Rattle.certificate_checker.proofs.Common.{IsLongestSilence, IsTooShort}
 use Rattle.certificate_checker.specs.declared.bounds.LongestSilence.{LongestSilence}
 use Rattle.certificate_checker.proofs.RowSearches.{no_row, row_at_within, row_at_next, row_at_same}
 
@@ -11,8 +13,9 @@ pub too_short_low : (closings : List ℕ) (rows : List Row) (k : ℕ) (s : Longe
 too_short_low closings rows k s h = let w = row_at_within rows k h.row.row h.row.here in omega (arith, w)
 
 -- the row after i rows is too short if its bound is no longer than the longest silence
-pub too_short_here : (closings : List ℕ) (rows : List Row) (i : ℕ) (s : LongestSilence) → i < length rows → IsLongestSilence closings (get_or rows i no_row).gst s → 0 < s.end - s.start → (get_or rows i no_row).phi ≤ s.end - s.start
-    → IsTooShort closings rows (i + 1) s
+pub too_short_here : (closings : List ℕ) (rows : List Row) (i : ℕ) (s : LongestSilence) → i < length rows
+    → IsLongestSilence closings (get_or rows i no_row).gst s → 0 < s.end - s.start
+    → (get_or rows i no_row).phi ≤ s.end - s.start → IsTooShort closings rows (i + 1) s
 too_short_here closings rows i s inside longest some short = record {
   row = record { row = get_or rows i no_row; here = row_at_next rows i no_row inside };
   longest = longest;
@@ -25,8 +28,10 @@ as_long : (closings : List ℕ) (g : ℕ) (s v : LongestSilence) → IsLongestSi
 as_long closings g s v l h some = omega (arith, l.longest v.start h.from (h.inside some), h.closed some, l.order, some)
 
 -- no row is too short if it isn't by the longest silence
-pub too_short_not : (closings : List ℕ) (rows : List Row) (i : ℕ) (s : LongestSilence) → IsLongestSilence closings (get_or rows i no_row).gst s → (0 < s.end - s.start → s.end - s.start < (get_or rows i no_row).phi)
-    → (v : LongestSilence) → ¬ IsTooShort closings rows (i + 1) v
+pub too_short_not : (closings : List ℕ) (rows : List Row) (i : ℕ) (s : LongestSilence)
+    → IsLongestSilence closings (get_or rows i no_row).gst s
+    → (0 < s.end - s.start → s.end - s.start < (get_or rows i no_row).phi) → (v : LongestSilence)
+    → ¬ IsTooShort closings rows (i + 1) v
 too_short_not closings rows i s longest not v h =
     let same = row_at_same rows i h.row.row no_row h.row.here in
     let own = subst (λ (r : Row). IsLongestSilence closings r.gst v) same h.longest in
@@ -65,7 +70,8 @@ gap_closes set t closings o c g =
     ]
 
 -- if the longest silence begins, a gap begins
-pub silence_has_gap : (set : ℕ) (t : Recorded) (closings : List ℕ) (g : ℕ) (s : LongestSilence) → AreClosings set t closings → 1 ≤ g → IsLongestSilence closings g s → s.start < s.end → ¬ HasNoGapAt set t s.start
+pub silence_has_gap : (set : ℕ) (t : Recorded) (closings : List ℕ) (g : ℕ) (s : LongestSilence)
+    → AreClosings set t closings → 1 ≤ g → IsLongestSilence closings g s → s.start < s.end → ¬ HasNoGapAt set t s.start
 silence_has_gap set t closings g s c low l some none =
     let from = l.from in
     let inside = l.inside some in
@@ -75,8 +81,9 @@ silence_has_gap set t closings g s c low l some none =
     none w.0 w.1 w.2
 
 -- the longest gap that begins there is the longest from the tick on
-pub IsLongestGap-from_silence : (set : ℕ) (t : Recorded) (closings : List ℕ) (g : ℕ) (s : LongestSilence) (w : Gap) → AreClosings set t closings → 1 ≤ g → IsLongestSilence closings g s → s.start < s.end → IsLongestGapAt set t s.start w
-    → IsLongestGap set t g w × (w.to + 1 ≡ s.end)
+pub IsLongestGap-from_silence : (set : ℕ) (t : Recorded) (closings : List ℕ) (g : ℕ) (s : LongestSilence) (w : Gap)
+    → AreClosings set t closings → 1 ≤ g → IsLongestSilence closings g s → s.start < s.end
+    → IsLongestGapAt set t s.start w → IsLongestGap set t g w × (w.to + 1 ≡ s.end)
 IsLongestGap-from_silence set t closings g s w c low l some at =
     let from = l.from in
     let inside = l.inside some in
@@ -87,7 +94,9 @@ IsLongestGap-from_silence set t closings g s w c low l some at =
     let least = at.longest v.0 v.1 v.2 in
     let w_at = ap (λ (x : ℕ). slice_index closings x) here in
     let end : w.to + 1 ≡ s.end = omega (arith, least, v.3, gap_closes set t closings w c at.gap, w_at, closed) in
-    let longest : (o : Gap) → IsGap set t o → g ≤ o.from → (slice_index closings o.from + s.start ≤ s.end + o.from) = λ o i f. (let order = i.order in let last = i.inside in l.longest o.from f (omega (arith, order, last, long))) in (
+    let longest : (o : Gap) → IsGap set t o → g ≤ o.from → (slice_index closings o.from + s.start ≤ s.end + o.from) =
+    λ o i f. (let order = i.order in let last = i.inside in
+    l.longest o.from f (omega (arith, order, last, long))) in (
       record {
         gap = at.gap;
         from = omega (arith, from, here);
@@ -104,7 +113,9 @@ IsLongestGap-from_silence set t closings g s w c low l some at =
     )
 
 -- the longest gap from a tick on is the longest silence
-pub IsLongestSilence-from_gap : (set : ℕ) (t : Recorded) (closings : List ℕ) (g : ℕ) (w : Gap) → AreClosings set t closings → 1 ≤ g → IsLongestGap set t g w → IsLongestSilence closings g (record { start = w.from; end = w.to + 1 })
+pub IsLongestSilence-from_gap : (set : ℕ) (t : Recorded) (closings : List ℕ) (g : ℕ) (w : Gap)
+    → AreClosings set t closings → 1 ≤ g → IsLongestGap set t g w
+    → IsLongestSilence closings g (record { start = w.from; end = w.to + 1 })
 IsLongestSilence-from_gap set t closings g w c low l =
     let order = l.gap.order in
     let last = l.gap.inside in
@@ -133,7 +144,8 @@ IsLongestSilence-from_gap set t closings g w c low l =
     }
 
 -- a row that is too short fails by the longest gap
-pub PhiFails-from_silence : (set : ℕ) (t : Recorded) (closings : List ℕ) (rows : List Row) (k : ℕ) (s : LongestSilence) (w : Gap) → AreClosings set t closings → AreInOrder rows t.last → IsTooShort closings rows k s
+pub PhiFails-from_silence : (set : ℕ) (t : Recorded) (closings : List ℕ) (rows : List Row) (k : ℕ) (s : LongestSilence)
+    (w : Gap) → AreClosings set t closings → AreInOrder rows t.last → IsTooShort closings rows k s
     → IsLongestGapAt set t s.start w → Stands set t rows (PhiFails k w)
 PhiFails-from_silence set t closings rows k s w c order h at =
     let l = IsLongestGap-from_silence set t closings h.row.row.gst s w c (order.start k h.row.row h.row.here) h.longest h.some at in

@@ -1,7 +1,10 @@
 -- Rows have one verdict.
 use Rattle.std.proofs.Common.{ℕ, ◌≡◌, inl, inr, List, refl, ap, sym, ◌∙◌, subst, arith}
 use Rattle.std.proofs.lemmas.Option.{same_Some}
-use Rattle.certificate_checker.proofs.Common.{Row, Miss, Gap, Recorded, IsTrace, IsTimed, Reason, NoRows, FirstNotOne, NotRising, BeyondEnd, NotNonIncreasing, SameAsBefore, BadMiss, BadGap, DeltaFails, PhiFails, Verdict, Yes, No, row_at, IsLongestMiss, IsLongestGap, HasRow, Stands, place_of, row_of, IsNotAfter, IsVerdict}
+use Rattle.certificate_checker.proofs.Common.{Row, Miss, Gap, Recorded, IsTrace, IsTimed, Reason, NoRows, FirstNotOne}
+use Rattle.certificate_checker.proofs.Common.{NotRising, BeyondEnd, NotNonIncreasing, SameAsBefore, BadMiss, BadGap}
+use Rattle.certificate_checker.proofs.Common.{DeltaFails, PhiFails, Verdict, Yes, No, row_at, IsLongestMiss}
+use Rattle.certificate_checker.proofs.Common.{IsLongestGap, HasRow, Stands, place_of, row_of, IsNotAfter, IsVerdict}
 use Rattle.certificate_checker.proofs.LongestOrNone.{IsLongestMiss-unique, IsLongestGap-unique}
 
 -- one row has a number

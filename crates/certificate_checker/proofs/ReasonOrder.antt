@@ -1,12 +1,16 @@
 -- The first reason that holds, put together from the searches for each kind of reason.
 use Rattle.std.proofs.Common.{ℕ, Bool, true, false, ◌==◌, ◌≡◌, ◌+◌, ◌<◌, ◌≤◌, inl, inr, List, length, get_or, Option, Some, None, refl, ap, subst, ◌∙◌, suc, arith}
 use Rattle.std.proofs.lemmas.Bool.{cases_lt, cases_eq}
-use Rattle.certificate_checker.proofs.Common.{Miss, Gap, Row, Recorded, Reason, NoRows, FirstNotOne, NotRising, BeyondEnd, NotNonIncreasing, SameAsBefore, BadMiss, BadGap, DeltaFails, PhiFails, No, row_at, Stands, place_of, row_of, IsVerdict, IsFirstReason, AreInOrder}
+use Rattle.certificate_checker.proofs.Common.{Miss, Gap, Row, Recorded, Reason, NoRows, FirstNotOne, NotRising}
+use Rattle.certificate_checker.proofs.Common.{BeyondEnd, NotNonIncreasing, SameAsBefore, BadMiss, BadGap, DeltaFails}
+use Rattle.certificate_checker.proofs.Common.{PhiFails, No, row_at, Stands, place_of, row_of, IsVerdict, IsFirstReason}
+use Rattle.certificate_checker.proofs.Common.{AreInOrder}
 use Rattle.certificate_checker.proofs.RowPlaces.{two_rows, later_above, rising-from_next}
 use Rattle.certificate_checker.proofs.RowSearches.{no_row, row_at_within, row_at_next, row_at_same}
 
 -- if none of the first kinds holds, the first of the next kinds is the first of all
-pub first_after : (set : ℕ) (t : Recorded) (rows : List Row) (low middle next high : ℕ) (o : Option Reason) → next ≡ middle + 1 → IsFirstReason set t rows low middle None → IsFirstReason set t rows next high o
+pub first_after : (set : ℕ) (t : Recorded) (rows : List Row) (low middle next high : ℕ) (o : Option Reason)
+    → next ≡ middle + 1 → IsFirstReason set t rows low middle None → IsFirstReason set t rows next high o
     → IsFirstReason set t rows low high o
 first_after set t rows low middle next high None e none later = λ w a b s. elim (cases_lt middle (place_of w)) [
   | inl l ↦ later w (omega (arith, l, e)) b s

@@ -1,15 +1,20 @@
 -- What is known of the Receives up to a step, on over one step more.
-use Rattle.std.proofs.Common.{ℕ, ◌≡◌, ◌≢◌, ◌+◌, ◌-◌, ◌<◌, ◌≤◌, ◌==◌, ◌||◌, take, inl, inr, List, length, get_or, set, Some, Bool, true, false, cond, refl, sym, ap, subst, ◌∙◌, arith, get_or-set_same, get_or-set_other}
+use Rattle.std.proofs.Common.{ℕ, ◌≡◌, ◌≢◌, ◌+◌, ◌-◌, ◌<◌, ◌≤◌, ◌==◌, ◌||◌, take, inl, inr, List, length, get_or, set}
+use Rattle.std.proofs.Common.{Some, Bool, true, false, cond, refl, sym, ap, subst, ◌∙◌, arith, get_or-set_same}
+use Rattle.std.proofs.Common.{get_or-set_other}
 use Rattle.std.specs.Prelude.{Contains}
 use Rattle.std.specs.List.{list_any}
 use Rattle.std.proofs.lemmas.List.{length-set}
 use Rattle.std.proofs.lemmas.List.Folds.{list_any_more}
 use Rattle.std.proofs.lemmas.Bool.{cases_eq, eqb-true, eqb-false}
-use Rattle.certificate_checker.proofs.Common.{Send, Receive, Step, act_ids, Recorded, step_at, TakesAt, IsReceiveOf, IsWellFormed, Contains-from_takes, act_takes-from_Contains, UNTAKEN, Receives, IsLastBefore, KnowsReceives, NotesTakes}
+use Rattle.certificate_checker.proofs.Common.{Send, Receive, Step, act_ids, Recorded, step_at, TakesAt, IsReceiveOf}
+use Rattle.certificate_checker.proofs.Common.{IsWellFormed, Contains-from_takes, act_takes-from_Contains, UNTAKEN}
+use Rattle.certificate_checker.proofs.Common.{Receives, IsLastBefore, KnowsReceives, NotesTakes}
 use Rattle.certificate_checker.proofs.StepFacts.{same_step, receive_unique}
 
 -- one id more, as at a step of a loop
-pub taken_noted : (old now ids : List ℕ) (x i s : ℕ) → i < length ids → length now ≡ length old → get_or ids i 0 < length old → get_or now s 0 ≡ cond (list_any (λ k. k == s) (take i ids)) x (get_or old s 0)
+pub taken_noted : (old now ids : List ℕ) (x i s : ℕ) → i < length ids → length now ≡ length old
+    → get_or ids i 0 < length old → get_or now s 0 ≡ cond (list_any (λ k. k == s) (take i ids)) x (get_or old s 0)
     → get_or (set now (get_or ids i 0) x) s 0 ≡ cond (list_any (λ k. k == s) (take (i + 1) ids)) x (get_or old s 0)
 taken_noted old now ids x i s below long inside known = rw (list_any_more (λ k. k == s) ids i 0 below) (go (list_any (λ k. k == s) (take i ids)) (get_or ids i 0 == s) known refl) where
   go : (before here : Bool) → get_or now s 0 ≡ cond before x (get_or old s 0) → (get_or ids i 0 == s) ≡ here
@@ -81,8 +86,11 @@ taken_of t x p s j ids ends old w within low h k u takes false e = elim (cases_e
 ]
 
 -- a message of which a note is kept is taken
-known_of : (t : Recorded) (x p s : ℕ) (ids : List ℕ) (ends : Bool) (old : Receives) → 1 ≤ x → step_at t.steps x ≡ Some (record { proc = p; act = Receive ends ids }) → KnowsReceives t (x - 1) old → s ≤ length t.steps
-    → (b : Bool) → list_any (λ i. i == s) ids ≡ b → cond b (get_or old.last.items p 0) (get_or old.before.items s 0) ≢ UNTAKEN → (j : ℕ) × TakesAt t.steps j s × (j ≤ x)
+known_of : (t : Recorded) (x p s : ℕ) (ids : List ℕ) (ends : Bool) (old : Receives) → 1 ≤ x
+    → step_at t.steps x ≡ Some (record { proc = p; act = Receive ends ids }) → KnowsReceives t (x - 1) old
+    → s ≤ length t.steps → (b : Bool) → list_any (λ i. i == s) ids ≡ b
+    → cond b (get_or old.last.items p 0) (get_or old.before.items s 0) ≢ UNTAKEN
+    → (j : ℕ) × TakesAt t.steps j s × (j ≤ x)
 known_of t x p s ids ends old low h k within true e some = (x, takes_id t x p s ids ends h e, omega arith)
 known_of t x p s ids ends old low h k within false e some = let f = k.known s some within in let u = f.2 in (f.0, f.1, omega (arith, u))
 

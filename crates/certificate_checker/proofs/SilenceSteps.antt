@@ -52,7 +52,8 @@ step_unique : (steps : List Step) (x p q : ℕ) → IsStepOf steps x p → IsSte
 step_unique steps x p q g h = ap (λ (z : Step). z.proc) (same_step steps x _ _ g.1 h.1)
 
 -- over a step of q another silence takes its place, and the others are unchanged
-pub KnowsSilences-note : (members : ℕ) (t : Recorded) (number q : ℕ) (old : List Silence) (now : Silence) → IsStepOf t.steps number q → KnowsSilence t q (number + 1) now → KnowsSilences members t number old
+pub KnowsSilences-note : (members : ℕ) (t : Recorded) (number q : ℕ) (old : List Silence) (now : Silence)
+    → IsStepOf t.steps number q → KnowsSilence t q (number + 1) now → KnowsSilences members t number old
     → KnowsSilences members t (number + 1) (set old q now)
 KnowsSilences-note members t number q old now own known k = record {
   long = length-set old q now ∙ k.long;

@@ -7,14 +7,16 @@ use Rattle.std.proofs.lemmas.List.{length-append}
 use Rattle.certificate_checker.proofs.Common.{Gap, has_proc, Recorded, IsGap, Silence, IsNextStep, IsSilence, AreSilences, slice_get-push_cases}
 
 -- the silence of a member, if it is read
-pub silence_of : (set : ℕ) (t : Recorded) (silences : List Silence) (p : ℕ) (s : Silence) → AreSilences set t silences → IsTrue (has_proc set p) → p ≤ t.config.n → s ≡ get_or silences p s → IsSilence t p s
+pub silence_of : (set : ℕ) (t : Recorded) (silences : List Silence) (p : ℕ) (s : Silence) → AreSilences set t silences
+    → IsTrue (has_proc set p) → p ≤ t.config.n → s ≡ get_or silences p s → IsSilence t p s
 silence_of set t silences p s k member within e = let long = k.long in k.each p s member (slice_get_read silences (length silences) p s refl (omega (arith, long, within)) e)
 
 -- one silence more at the end of a list
 pub pushed_long : (list new : List Silence) (s : Silence) (p : ℕ) → new ≡ list ++ s ∷ [] → length list ≡ p → length new ≡ p + 1
 pushed_long list new s p e long = ap (λ (xs : List Silence). length xs) e ∙ length-append list (s ∷ []) ∙ ap (λ (n : ℕ). n + 1) long
 
-pub pushed_each : (Holds : ℕ → Silence → Type 0) (list new : List Silence) (s : Silence) (p : ℕ) → new ≡ list ++ s ∷ [] → length list ≡ p → ((q : ℕ) (x : Silence) → slice_get list q ≡ Some x → Holds q x) → Holds p s
+pub pushed_each : (Holds : ℕ → Silence → Type 0) (list new : List Silence) (s : Silence) (p : ℕ) → new ≡ list ++ s ∷ []
+    → length list ≡ p → ((q : ℕ) (x : Silence) → slice_get list q ≡ Some x → Holds q x) → Holds p s
     → (q : ℕ) (x : Silence) → slice_get new q ≡ Some x → Holds q x
 pushed_each Holds list new s p e long each here q x h = elim (slice_get-push_cases list s x q (subst (λ (xs : List Silence). slice_get xs q ≡ Some x) e h)) [
   | inl old ↦ each q x old
@@ -86,7 +88,9 @@ KnowsLongest-passed set t x p proc end next n early k = record {
 }
 
 -- over a member whose next step comes later
-pub KnowsLongest-taken : (set : ℕ) (t : Recorded) (x p proc end next : ℕ) → IsNextStep t p x next → IsTrue (has_proc set p) → 1 ≤ x → end < next → KnowsLongest set t x p proc end → KnowsLongest set t x (p + 1) p next
+pub KnowsLongest-taken : (set : ℕ) (t : Recorded) (x p proc end next : ℕ) → IsNextStep t p x next
+    → IsTrue (has_proc set p) → 1 ≤ x → end < next → KnowsLongest set t x p proc end
+    → KnowsLongest set t x (p + 1) p next
 KnowsLongest-taken set t x p proc end next n member low later k =
     let within = k.within in
     record {

@@ -2,7 +2,13 @@
 use Rattle.std.proofs.Common.{ℕ, ◌≡◌, ◌-◌, ◌<◌, ◌≤◌, inl, inr, List, [], ◌∷◌, map, Contains, Some, refl, subst, suc, zero, arith}
 use Rattle.std.proofs.lemmas.Bool.{cases_lt, cases_eq}
 use Rattle.std.proofs.lemmas.Option.{none-some}
-use Rattle.certificate_checker.proofs.Common.{Row, Recorded, DeltaHolds, PhiHolds, IsDelta, IsPhi, Triple, IsOnFront, triple_of, Contains-map, DeltaHolds-unrefuted, PhiHolds-unrefuted, DeltaHolds-later, PhiHolds-later, MissRefutes-sound, GapRefutes-sound, IsLeastBound-unique, IsDelta-on_front, IsPhi-on_front, on_front-changes, IsOnFront-from_change, Reason, NoRows, FirstNotOne, NotRising, BeyondEnd, SameAsBefore, BadMiss, BadGap, DeltaFails, PhiFails, row_at, after_stretch, Serves, ShowsDelta, ShowsPhi, Certifies, HasRow, Stands}
+use Rattle.certificate_checker.proofs.Common.{Row, Recorded, DeltaHolds, PhiHolds, IsDelta, IsPhi, Triple, IsOnFront}
+use Rattle.certificate_checker.proofs.Common.{triple_of, Contains-map, DeltaHolds-unrefuted, PhiHolds-unrefuted}
+use Rattle.certificate_checker.proofs.Common.{DeltaHolds-later, PhiHolds-later, MissRefutes-sound, GapRefutes-sound}
+use Rattle.certificate_checker.proofs.Common.{IsLeastBound-unique, IsDelta-on_front, IsPhi-on_front, on_front-changes}
+use Rattle.certificate_checker.proofs.Common.{IsOnFront-from_change, Reason, NoRows, FirstNotOne, NotRising, BeyondEnd}
+use Rattle.certificate_checker.proofs.Common.{SameAsBefore, BadMiss, BadGap, DeltaFails, PhiFails, row_at}
+use Rattle.certificate_checker.proofs.Common.{after_stretch, Serves, ShowsDelta, ShowsPhi, Certifies, HasRow, Stands}
 use Rattle.certificate_checker.proofs.LongestOrNone.{no_miss, no_gap}
 use Rattle.certificate_checker.proofs.RowPlaces.{Contains-row_at, row_at-from_Contains, row_before, two_rows, later_above, rising-from_next}
 use Rattle.certificate_checker.proofs.Stretches.{AreInOrder, begins_within, serving_row, serves_before}

@@ -26,7 +26,8 @@ ids_bound c steps x p ids list ends w h long = λ k d l.
     omega (arith, earlier, step_at_within steps x _ h, long)
 
 -- who takes a message is its receiver
-pub taker_receives : (c : Setup) (steps : List Step) (s a b place : ℕ) → IsWellFormed c steps → step_at steps s ≡ Some (record { proc = a; act = Send b }) → TakesAt steps place s → IsReceiveOf steps place b
+pub taker_receives : (c : Setup) (steps : List Step) (s a b place : ℕ) → IsWellFormed c steps
+    → step_at steps s ≡ Some (record { proc = a; act = Send b }) → TakesAt steps place s → IsReceiveOf steps place b
 taker_receives c steps s a b place w h t = go t.0.act refl t.2 where
   proc : t.0.proc ≡ b
   proc = let sent = (w.earlier place s t.0 t.1 t.2).1 in

@@ -15,9 +15,13 @@ pub record AreInOrder (last : ℕ) (rows : List Row) : Type 0 where
   pub end : (k : ℕ) (r : Row) → row_at rows k ≡ Some r → r.gst ≤ last
 
 -- a stretch ends where the next row begins, or at the last tick
-after_cases : (rows : List Row) (last k : ℕ) → ((b : Row) × (row_at rows (suc k) ≡ Some b) × (after_stretch rows last k ≡ b.gst)) ⊎ ((row_at rows (suc k) ≡ None) × (after_stretch rows last k ≡ last + 1))
+after_cases : (rows : List Row) (last k : ℕ)
+    → ((b : Row) × (row_at rows (suc k) ≡ Some b) × (after_stretch rows last k ≡ b.gst))
+    ⊎ ((row_at rows (suc k) ≡ None) × (after_stretch rows last k ≡ last + 1))
 after_cases rows last k = go (row_at rows (suc k)) refl where
-  go : (o : Option Row) → row_at rows (suc k) ≡ o → ((b : Row) × (row_at rows (suc k) ≡ Some b) × (after_stretch rows last k ≡ b.gst)) ⊎ ((row_at rows (suc k) ≡ None) × (after_stretch rows last k ≡ last + 1))
+  go : (o : Option Row) → row_at rows (suc k) ≡ o
+      → ((b : Row) × (row_at rows (suc k) ≡ Some b) × (after_stretch rows last k ≡ b.gst))
+      ⊎ ((row_at rows (suc k) ≡ None) × (after_stretch rows last k ≡ last + 1))
   go None e = inr (e, ap (λ o. option_map_or (λ (r : Row). r.gst) o (last + 1)) e)
   go (Some b) e = inl (b, e, ap (λ o. option_map_or (λ (r : Row). r.gst) o (last + 1)) e)
 

@@ -2,7 +2,10 @@
 use Rattle.std.proofs.Common.{ℕ, ◌≡◌, ◌<◌, ◌≤◌, ◌==◌, inl, inr, List, length, get_or, Bool, true, false, cond, refl, ap, subst, arith}
 use Rattle.std.specs.Prelude.{◌↔◌}
 use Rattle.std.proofs.lemmas.Bool.{cases_lt, eqb-true, eqb-false}
-use Rattle.certificate_checker.proofs.Common.{Miss, Step, Recorded, TakesAt, IsReceiveOf, IsWellFormed, tick_of, IsTrace, IsMessage, IsMiss, step_at_within, ticks_rise, own_ticks_rise, IsMessage-receiver, UNTAKEN, Receives, IsLastBefore, WaitsAt, IsLastWaited, KnowsReceives, last_waited, IsLastMiss}
+use Rattle.certificate_checker.proofs.Common.{Miss, Step, Recorded, TakesAt, IsReceiveOf, IsWellFormed, tick_of}
+use Rattle.certificate_checker.proofs.Common.{IsTrace, IsMessage, IsMiss, step_at_within, ticks_rise, own_ticks_rise}
+use Rattle.certificate_checker.proofs.Common.{IsMessage-receiver, UNTAKEN, Receives, IsLastBefore, WaitsAt}
+use Rattle.certificate_checker.proofs.Common.{IsLastWaited, KnowsReceives, last_waited, IsLastMiss}
 use Rattle.certificate_checker.proofs.StepFacts.{taker_receives, same_step}
 
 -- if no note was made of a message it is never taken
@@ -14,7 +17,9 @@ never_taken t s r w k e j takes =
     omega (arith, inside, below, w.short)
 
 -- the note of a message that is never taken, and of one that is
-pub IsLastWaited-from_known : (set : ℕ) (t : Recorded) (s b : ℕ) (r : Receives) → IsWellFormed t.config t.steps → IsMessage set t.steps s b → b ≤ t.config.n → KnowsReceives t (length t.steps) r → IsLastWaited t.steps s b (last_waited r s b)
+pub IsLastWaited-from_known : (set : ℕ) (t : Recorded) (s b : ℕ) (r : Receives) → IsWellFormed t.config t.steps
+    → IsMessage set t.steps s b → b ≤ t.config.n → KnowsReceives t (length t.steps) r
+    → IsLastWaited t.steps s b (last_waited r s b)
 IsLastWaited-from_known set t s b r w m within k = go (get_or r.before.items s 0 == UNTAKEN) refl where
   receiver_of : (j : ℕ) (takes : TakesAt t.steps j s) → IsReceiveOf t.steps j b → takes.0.proc ≡ b
   receiver_of j takes receive = ap (λ (z : Step). z.proc) (same_step t.steps j _ _ takes.1 receive.step)
@@ -55,7 +60,8 @@ miss_waits set t w m i k l takes = i.undelivered (record {
 })
 
 -- a Receive of the receiver in a later tick, up to which the message isn't taken, misses it
-waits_miss : (set : ℕ) (t : Recorded) → IsTrace t → (s b r : ℕ) → IsMessage set t.steps s b → IsReceiveOf t.steps r b → tick_of t s < tick_of t r → WaitsAt t.steps s r → IsMiss set t (record { sent = s; missed = r })
+waits_miss : (set : ℕ) (t : Recorded) → IsTrace t → (s b r : ℕ) → IsMessage set t.steps s b → IsReceiveOf t.steps r b
+    → tick_of t s < tick_of t r → WaitsAt t.steps s r → IsMiss set t (record { sent = s; missed = r })
 waits_miss set t w s b r m receive late waits = record {
   to = b;
   message = m;
@@ -85,7 +91,9 @@ own_last set t w s b r o message l i e =
     l.last o.missed (subst (λ (q : ℕ). IsReceiveOf t.steps o.missed q) to i.receive) (subst (λ (k : ℕ). WaitsAt t.steps k o.missed) e (miss_waits set t w o i))
 
 -- the last Receive that the message waits through is its last miss, if it comes in a later tick
-pub IsLastMiss-from_waited : (set : ℕ) (t : Recorded) → IsTrace t → (s b r : ℕ) → IsMessage set t.steps s b → IsLastWaited t.steps s b r → 0 < r → tick_of t s < tick_of t r → IsLastMiss set t s (record { sent = s; missed = r })
+pub IsLastMiss-from_waited : (set : ℕ) (t : Recorded) → IsTrace t → (s b r : ℕ) → IsMessage set t.steps s b
+    → IsLastWaited t.steps s b r → 0 < r → tick_of t s < tick_of t r
+    → IsLastMiss set t s (record { sent = s; missed = r })
 IsLastMiss-from_waited set t w s b r message l some late =
     let f = l.found some in
     record {
@@ -95,7 +103,8 @@ IsLastMiss-from_waited set t w s b r message l some late =
     }
 
 -- if there is none, or it comes in no later tick, the message has no miss
-pub HasNoMiss-from_waited : (set : ℕ) (t : Recorded) → IsTrace t → (s b r : ℕ) → IsMessage set t.steps s b → IsLastWaited t.steps s b r → (0 < r → tick_of t r ≤ tick_of t s) → (o : Miss) → IsMiss set t o → o.sent ≡ s → ⊥
+pub HasNoMiss-from_waited : (set : ℕ) (t : Recorded) → IsTrace t → (s b r : ℕ) → IsMessage set t.steps s b
+    → IsLastWaited t.steps s b r → (0 < r → tick_of t r ≤ tick_of t s) → (o : Miss) → IsMiss set t o → o.sent ≡ s → ⊥
 HasNoMiss-from_waited set t w s b r message l early o i e =
     let high = own_last set t w s b r o message l i e in
     let some : 0 < r = omega (arith, step_at_within t.steps o.missed _ i.receive.step, high) in

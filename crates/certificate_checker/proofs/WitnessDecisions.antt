@@ -3,7 +3,9 @@ use Rattle.std.proofs.Common.{ℕ, ◌≡◌, ◌+◌, ◌-◌, ◌<◌, ◌≤�
 use Rattle.std.specs.Prelude.{IsTrue}
 use Rattle.std.proofs.lemmas.Bool.{cases_lt, cases_Bool, both_ways}
 use Rattle.std.proofs.lemmas.Option.{none-some, same_Some}
-use Rattle.certificate_checker.proofs.Common.{Act, Send, Receive, Step, Miss, Gap, has_proc, Recorded, step_at, IsReceiveOf, tick_of, IsMessage, IsMiss, IsGap, IsMessage-receiver, delivered_or_not, step_or_not, steps_within_or_not}
+use Rattle.certificate_checker.proofs.Common.{Act, Send, Receive, Step, Miss, Gap, has_proc, Recorded, step_at}
+use Rattle.certificate_checker.proofs.Common.{IsReceiveOf, tick_of, IsMessage, IsMiss, IsGap, IsMessage-receiver}
+use Rattle.certificate_checker.proofs.Common.{delivered_or_not, step_or_not, steps_within_or_not}
 
 -- what may be decided of each of four may be decided of all
 pub all_or_not : {P Q R S : Type 0} → P ⊎ (¬ P) → Q ⊎ (¬ Q) → R ⊎ (¬ R) → S ⊎ (¬ S) → (P × Q × R × S) ⊎ (¬ (P × Q × R × S))

@@ -31,7 +31,8 @@ pub record Serves (rows : List Row) (last k : ℕ) (r : Row) (g : ℕ) : Type 0 
 abbrev pub ShowsDelta : ℕ → Recorded → ℕ → ℕ → Option Miss → Type 0
 ShowsDelta set trace after d None = d ≡ 1
 ShowsDelta set trace after d (Some m) =
-    (1 < d) × IsMiss set trace m × (tick_of trace m.sent + d ≡ tick_of trace m.missed + 1) × (after ≤ tick_of trace m.sent + 1)
+    (1 < d) × IsMiss set trace m × (tick_of trace m.sent + d ≡ tick_of trace m.missed + 1)
+    × (after ≤ tick_of trace m.sent + 1)
 
 -- the witness beside the processor bound f shows the same of it: a gap that is one tick shorter
 abbrev pub ShowsPhi : ℕ → Recorded → ℕ → ℕ → Option Gap → Type 0
@@ -44,8 +45,10 @@ ShowsPhi set trace after f (Some w) =
 pub record IsLongestMiss (set : ℕ) (trace : Recorded) (g : ℕ) (m : Miss) : Type 0 where
   pub miss : IsMiss set trace m
   pub from : g ≤ tick_of trace m.sent
-  pub longest : (o : Miss) → IsMiss set trace o → g ≤ tick_of trace o.sent → tick_of trace o.missed + tick_of trace m.sent ≤ tick_of trace m.missed + tick_of trace o.sent
-  pub greatest : (o : Miss) → IsMiss set trace o → g ≤ tick_of trace o.sent → tick_of trace o.missed + tick_of trace m.sent ≡ tick_of trace m.missed + tick_of trace o.sent → o.sent ≤ m.sent
+  pub longest : (o : Miss) → IsMiss set trace o → g ≤ tick_of trace o.sent
+      → tick_of trace o.missed + tick_of trace m.sent ≤ tick_of trace m.missed + tick_of trace o.sent
+  pub greatest : (o : Miss) → IsMiss set trace o → g ≤ tick_of trace o.sent
+      → tick_of trace o.missed + tick_of trace m.sent ≡ tick_of trace m.missed + tick_of trace o.sent → o.sent ≤ m.sent
 
 -- of the gaps that begin in tick g or later one of the longest, then the one that begins last, then of the least
 -- processor
@@ -62,8 +65,10 @@ pub record Certifies (set : ℕ) (trace : Recorded) (rows : List Row) : Type 0 w
   pub rising : IsStrictlyIncreasing (map (λ r. r.gst) rows)
   pub sound : (r : Row) → Contains rows r → IsOnFront set trace (triple_of r)
   pub complete : (t : Triple) → IsOnFront set trace t → Contains (map triple_of rows) t
-  pub miss : (k g d : ℕ) (r : Row) → Serves rows trace.last k r g → 1 ≤ d → d < r.delta → (m : Miss) × (r.miss ≡ Some m) × MissRefutes set trace g d m
-  pub gap : (k g f : ℕ) (r : Row) → Serves rows trace.last k r g → 1 ≤ f → f < r.phi → (w : Gap) × (r.gap ≡ Some w) × GapRefutes set trace g f w
+  pub miss : (k g d : ℕ) (r : Row) → Serves rows trace.last k r g → 1 ≤ d → d < r.delta
+      → (m : Miss) × (r.miss ≡ Some m) × MissRefutes set trace g d m
+  pub gap : (k g f : ℕ) (r : Row) → Serves rows trace.last k r g → 1 ≤ f → f < r.phi
+      → (w : Gap) × (r.gap ≡ Some w) × GapRefutes set trace g f w
 
 -- No row names a witness beside the bound 1, below which no positive bound is left to refute.
 pub record NamesNothingBesideOne (rows : List Row) : Type 0 where

@@ -1,5 +1,6 @@
 -- What is kept of claimed rows: themselves while they are in order, else what settles the verdict (own).
-use Rattle.std.specs.Prelude.{ℕ, ◌+◌, ◌==◌, List, [], ◌∷◌, ◌++◌, length, nat_le, nat_lt, Bool, true, false, if◌then◌else◌}
+use Rattle.std.specs.Prelude.{ℕ, ◌+◌, ◌==◌, List, [], ◌∷◌, ◌++◌, length, nat_le}
+use Rattle.std.specs.Prelude.{nat_lt, Bool, true, false, if◌then◌else◌}
 use Rattle.std.specs.Option.{option_map_or}
 use Rattle.step_trace.specs.declared.rows.Row.{Row}
 use Rattle.certificate_checker.specs.declared.claims.ClaimedRows.{ClaimedRows}
@@ -24,13 +25,15 @@ risen rows row = if length rows == 0 then row.gst == 1 else nat_lt (last_gst row
 -- what one more row makes of rows in order, which rise from tick 1 to the last tick at most
 abbrev pub next_in_order : ℕ → List Row → Row → ClaimedRows
 next_in_order last rows row =
-    if risen rows row then (if nat_le row.gst last then InOrder (rows ++ row ∷ []) else Beyond (length rows + 1) (length rows + 1) row.gst)
+    if risen rows row then (if nat_le row.gst last then InOrder (rows ++ row ∷ []) else Beyond (length rows + 1)
+    (length rows + 1) row.gst)
     else Refuted (if length rows == 0 then FirstNotOne else NotRising (length rows + 1)) (length rows + 1)
 
 -- What the row of this number makes of rows before it that rise. The first of them beyond the last tick has the
 -- number `first`, and the last begins at `gst`.
 abbrev pub next_beyond : ℕ → ℕ → ℕ → Row → ClaimedRows
-next_beyond first number gst row = if nat_lt gst row.gst then Beyond first number row.gst else Refuted (NotRising number) number
+next_beyond first number gst row = if nat_lt gst row.gst then Beyond first number row.gst else Refuted
+    (NotRising number) number
 
 -- what one more row makes of what is kept; of rows that are refuted only the count goes on
 abbrev pub with_row : ℕ → ClaimedRows → Row → ClaimedRows

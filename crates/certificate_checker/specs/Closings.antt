@@ -51,7 +51,8 @@ pub record PutsEnds (trace : Recorded) (p until : ℕ) (old new : List ℕ) : Ty
 -- The ends of the silences of the members below `number` are noted.
 pub record KnowsEnds (set : ℕ) (trace : Recorded) (number : ℕ) (ends : List ℕ) : Type 0 where
   pub long : length ends ≡ trace.last + 1
-  pub silent : (x : ℕ) → x < slice_index ends x → HasSilent set trace x (slice_index ends x) × (slice_index ends x ≤ trace.last + 1)
+  pub silent : (x : ℕ) → x < slice_index ends x → HasSilent set trace x (slice_index ends x)
+      × (slice_index ends x ≤ trace.last + 1)
   pub reach : (p : ℕ) → IsTrue (has_proc set p) → p < number → (x : ℕ) → x ≤ trace.last → IsReached trace p ends x
 
 -- the place has the tick unless it had a later one, and all else is unchanged

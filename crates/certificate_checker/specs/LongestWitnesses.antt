@@ -1,5 +1,6 @@
 -- The longest misses and gaps, from one place on (own).
-use Rattle.std.specs.Prelude.{ℕ, length, ◌≡◌, ◌+◌, ◌-◌, ◌<◌, ◌≤◌, Option, Some, None, MatchOption, nat_lt, if◌then◌else◌}
+use Rattle.std.specs.Prelude.{ℕ, length, ◌≡◌, ◌+◌, ◌-◌, ◌<◌, ◌≤◌, Option, Some}
+use Rattle.std.specs.Prelude.{None, MatchOption, nat_lt, if◌then◌else◌}
 use Rattle.step_trace.specs.declared.rows.Miss.{Miss}
 use Rattle.step_trace.specs.declared.rows.Gap.{Gap}
 use Rattle.step_trace.specs.declared.steps.Step.{Step}
@@ -26,12 +27,15 @@ HasNoMissAfter set trace done = (o : Miss) → IsMiss set trace o → done < o.s
 pub record IsLongestMissAfter (set : ℕ) (trace : Recorded) (done : ℕ) (m : Miss) : Type 0 where
   pub miss : IsMiss set trace m
   pub after : done < m.sent
-  pub longest : (o : Miss) → IsMiss set trace o → done < o.sent → tick_of trace o.missed + tick_of trace m.sent ≤ tick_of trace m.missed + tick_of trace o.sent
-  pub greatest : (o : Miss) → IsMiss set trace o → done < o.sent → tick_of trace o.missed + tick_of trace m.sent ≡ tick_of trace m.missed + tick_of trace o.sent → o.sent ≤ m.sent
+  pub longest : (o : Miss) → IsMiss set trace o → done < o.sent
+      → tick_of trace o.missed + tick_of trace m.sent ≤ tick_of trace m.missed + tick_of trace o.sent
+  pub greatest : (o : Miss) → IsMiss set trace o → done < o.sent
+      → tick_of trace o.missed + tick_of trace m.sent ≡ tick_of trace m.missed + tick_of trace o.sent → o.sent ≤ m.sent
 
 -- that miss, or None if there is none
 abbrev pub KnowsMissesAfter : ℕ → Recorded → ℕ → Option Miss → Type 0
-KnowsMissesAfter set trace done found = MatchOption found (HasNoMissAfter set trace done) (IsLongestMissAfter set trace done)
+KnowsMissesAfter set trace done found = MatchOption found (HasNoMissAfter set trace done)
+    (IsLongestMissAfter set trace done)
 
 -- the steps after this number are in tick g or later
 abbrev pub AreFrom : Recorded → ℕ → ℕ → Type 0

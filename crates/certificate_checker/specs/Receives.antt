@@ -22,14 +22,17 @@ pub record IsLastWaited (steps : List Step) (s p r : ℕ) : Type 0 where
 
 -- the last Receive of p up to which message s isn't taken, of what is known of a whole trace
 abbrev pub last_waited : Receives → ℕ → ℕ → ℕ
-last_waited r s p = if slice_index r.before.items s == UNTAKEN then slice_index r.last.items p else slice_index r.before.items s
+last_waited r s p = if slice_index r.before.items s == UNTAKEN then slice_index r.last.items p else slice_index
+    r.before.items s
 
 -- what is known of the steps up to number done
 pub record KnowsReceives (trace : Recorded) (done : ℕ) (r : Receives) : Type 0 where
   pub before_long : length r.before.items ≡ length trace.steps + 1
   pub last_long : length r.last.items ≡ trace.config.n + 1
-  pub taken : (k s : ℕ) → k ≤ done → (t : TakesAt trace.steps k s) → IsLastBefore trace.steps t.0.proc k (slice_index r.before.items s)
-  pub known : (s : ℕ) → slice_index r.before.items s ≢ UNTAKEN → s ≤ length trace.steps → (k : ℕ) × TakesAt trace.steps k s × (k ≤ done)
+  pub taken : (k s : ℕ) → k ≤ done → (t : TakesAt trace.steps k s)
+      → IsLastBefore trace.steps t.0.proc k (slice_index r.before.items s)
+  pub known : (s : ℕ) → slice_index r.before.items s ≢ UNTAKEN → s ≤ length trace.steps
+      → (k : ℕ) × TakesAt trace.steps k s × (k ≤ done)
   pub last : (p : ℕ) → p ≤ trace.config.n → IsLastBefore trace.steps p (done + 1) (slice_index r.last.items p)
 
 -- the value is noted for these messages, and the others are as before

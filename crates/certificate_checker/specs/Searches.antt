@@ -18,8 +18,10 @@ IsFirstWith P (Some f) = P f.0 f.1 × ((j : ℕ) (x : _) → P j x → f.0 ≤ j
 
 -- the first reason that holds of those with these places in the list of reasons; None if none of them holds
 abbrev pub IsFirstReason : ℕ → Recorded → List Row → ℕ → ℕ → Option Reason → Type 0
-IsFirstReason set trace rows low high None = (o : Reason) → low ≤ place_of o → place_of o ≤ high → ¬ Stands set trace rows o
-IsFirstReason set trace rows low high (Some w) = Stands set trace rows w × ((o : Reason) → low ≤ place_of o → Stands set trace rows o → IsNotAfter w o)
+IsFirstReason set trace rows low high None = (o : Reason) → low ≤ place_of o → place_of o ≤ high
+    → ¬ Stands set trace rows o
+IsFirstReason set trace rows low high (Some w) = Stands set trace rows w
+    × ((o : Reason) → low ≤ place_of o → Stands set trace rows o → IsNotAfter w o)
 
 -- the rows' stabilization times rise, and are ticks of the trace
 pub record AreInOrder (rows : List Row) (last : ℕ) : Type 0 where

@@ -35,4 +35,5 @@ pub record KnowsSilence (trace : Recorded) (p number : ℕ) (s : Silence) : Type
 -- the same of each member of the set
 pub record KnowsSilences (set : ℕ) (trace : Recorded) (number : ℕ) (silences : List Silence) : Type 0 where
   pub long : length silences ≡ trace.config.n + 1
-  pub each : (p : ℕ) (s : Silence) → IsTrue (has_proc set p) → slice_get silences p ≡ Some s → KnowsSilence trace p number s
+  pub each : (p : ℕ) (s : Silence) → IsTrue (has_proc set p) → slice_get silences p ≡ Some s
+      → KnowsSilence trace p number s

@@ -4,10 +4,13 @@ use Rattle.step_trace.specs.declared.rows.Row.{Row}
 use Rattle.step_trace.specs.Traces.{Recorded}
 use Rattle.step_trace.specs.Bounds.{DeltaHolds, PhiHolds}
 use Rattle.certificate_checker.specs.declared.verdicts.Reason.{Reason}
-use Rattle.certificate_checker.specs.declared.verdicts.Reason.TheVariants.{NoRows, FirstNotOne, NotRising, BeyondEnd, NotNonIncreasing, SameAsBefore, BadMiss, BadGap, DeltaFails, PhiFails}
+use Rattle.certificate_checker.specs.declared.verdicts.Reason.TheVariants.{NoRows, FirstNotOne, NotRising, BeyondEnd}
+use Rattle.certificate_checker.specs.declared.verdicts.Reason.TheVariants.{NotNonIncreasing, SameAsBefore, BadMiss}
+use Rattle.certificate_checker.specs.declared.verdicts.Reason.TheVariants.{BadGap, DeltaFails, PhiFails}
 use Rattle.certificate_checker.specs.declared.verdicts.Verdict.{Verdict}
 use Rattle.certificate_checker.specs.declared.verdicts.Verdict.TheVariants.{Yes, No}
-use Rattle.certificate_checker.specs.Certificates.{row_at, after_stretch, ShowsDelta, ShowsPhi, IsLongestMiss, IsLongestGap}
+use Rattle.certificate_checker.specs.Certificates.{row_at, after_stretch, ShowsDelta, ShowsPhi}
+use Rattle.certificate_checker.specs.Certificates.{IsLongestMiss, IsLongestGap}
 
 -- row k is `row`
 pub record HasRow (rows : List Row) (k : ℕ) : Type 0 where
@@ -27,12 +30,18 @@ Stands set trace rows NoRows = (rows ≡ []) × (1 ≤ trace.last)
 Stands set trace rows FirstNotOne = (a : HasRow rows 1) × ¬ (a.row.gst ≡ 1)
 Stands set trace rows (NotRising k) = (a : HasTwoRows rows k) × (a.row.gst ≤ a.before.gst)
 Stands set trace rows (BeyondEnd k) = (a : HasRow rows k) × (trace.last < a.row.gst)
-Stands set trace rows (NotNonIncreasing k) = (a : HasTwoRows rows k) × ((a.before.delta < a.row.delta) ⊎ (a.before.phi < a.row.phi))
-Stands set trace rows (SameAsBefore k) = (a : HasTwoRows rows k) × (a.row.delta ≡ a.before.delta) × (a.row.phi ≡ a.before.phi)
-Stands set trace rows (BadMiss k) = (a : HasRow rows k) × ¬ ShowsDelta set trace (after_stretch rows trace.last k) a.row.delta a.row.miss
-Stands set trace rows (BadGap k) = (a : HasRow rows k) × ¬ ShowsPhi set trace (after_stretch rows trace.last k) a.row.phi a.row.gap
-Stands set trace rows (DeltaFails k m) = (a : HasRow rows k) × (¬ DeltaHolds set trace a.row.gst a.row.delta) × IsLongestMiss set trace a.row.gst m
-Stands set trace rows (PhiFails k w) = (a : HasRow rows k) × (¬ PhiHolds set trace a.row.gst a.row.phi) × IsLongestGap set trace a.row.gst w
+Stands set trace rows (NotNonIncreasing k) = (a : HasTwoRows rows k)
+    × ((a.before.delta < a.row.delta) ⊎ (a.before.phi < a.row.phi))
+Stands set trace rows (SameAsBefore k) = (a : HasTwoRows rows k) × (a.row.delta ≡ a.before.delta)
+    × (a.row.phi ≡ a.before.phi)
+Stands set trace rows (BadMiss k) = (a : HasRow rows k)
+    × ¬ ShowsDelta set trace (after_stretch rows trace.last k) a.row.delta a.row.miss
+Stands set trace rows (BadGap k) = (a : HasRow rows k)
+    × ¬ ShowsPhi set trace (after_stretch rows trace.last k) a.row.phi a.row.gap
+Stands set trace rows (DeltaFails k m) = (a : HasRow rows k) × (¬ DeltaHolds set trace a.row.gst a.row.delta)
+    × IsLongestMiss set trace a.row.gst m
+Stands set trace rows (PhiFails k w) = (a : HasRow rows k) × (¬ PhiHolds set trace a.row.gst a.row.phi)
+    × IsLongestGap set trace a.row.gst w
 
 -- the place of a reason in the list of reasons
 abbrev pub place_of : Reason → ℕ

@@ -4,7 +4,8 @@
 ghost use Rattle.std.specs.Prelude.{◌≡◌, ◌+◌, ◌-◌, ◌<◌, ◌≤◌, length, IfSome};
 ghost use Rattle.step_trace.specs.Processors.{IsWithin};
 ghost use Rattle.certificate_checker.specs.declared.verdicts.Reason.TheVariants.{DeltaFails, PhiFails};
-ghost use Rattle.certificate_checker.specs.LongestWitnesses.{HasSpan, span_of, longer_miss, KnowsMissesAfter, AreFrom, AreBefore};
+ghost use Rattle.certificate_checker.specs.LongestWitnesses.{HasSpan, span_of, longer_miss, KnowsMissesAfter};
+ghost use Rattle.certificate_checker.specs.LongestWitnesses.{AreFrom, AreBefore};
 ghost use Rattle.certificate_checker.specs.Verdicts.{Stands};
 ghost use Rattle.certificate_checker.specs.Searches.{IsFirstWith, AreInOrder};
 ghost use Rattle.certificate_checker.specs.Receives.{KnowsReceives};

@@ -33,7 +33,8 @@ pub fn check(
 ) -> Result<Verdict, AllocError>
     requires { IsWithin set trace.now.config.n }
     ensures verdict { IfOk result (λ v. IsVerdict set trace.now rows.now v) }
-    ensures more { OnErr result ((0 < length rows.now) × ((why : Reason) → place_of why ≤ 6 → ¬ Stands set trace.now rows.now why)) }
+    ensures more { OnErr result ((0 < length rows.now)
+        × ((why : Reason) → place_of why ≤ 6 → ¬ Stands set trace.now rows.now why)) }
     ensures certifies { IfOk result (λ v. v ≡ Yes → Certifies set trace.now rows.now) }
     ensures accepts { IsReport set trace.now rows.now → IfOk result (λ v. v ≡ Yes) }
 {
@@ -49,7 +50,8 @@ fn verdict_on(
 ) -> Result<Verdict, AllocError>
     requires { IsWithin set trace.now.config.n }
     ensures verdict { IfOk result (λ v. IsVerdict set trace.now rows.now v) }
-    ensures more { OnErr result ((0 < length rows.now) × ((why : Reason) → place_of why ≤ 6 → ¬ Stands set trace.now rows.now why)) }
+    ensures more { OnErr result ((0 < length rows.now)
+        × ((why : Reason) → place_of why ≤ 6 → ¬ Stands set trace.now rows.now why)) }
 {
     if let Some(why) = order_reason(rows, trace.last_tick()) {
         return Ok(Verdict::No(why));

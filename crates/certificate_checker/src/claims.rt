@@ -5,7 +5,8 @@ ghost use Rattle.step_trace.specs.declared.rows.Row.{Row};
 ghost use Rattle.step_trace.specs.Processors.{IsWithin};
 ghost use Rattle.certificate_checker.specs.declared.claims.ClaimedRows.TheVariants.{InOrder};
 ghost use Rattle.certificate_checker.specs.declared.verdicts.Reason.{Reason};
-ghost use Rattle.certificate_checker.specs.Claims.{claimed, count_of, is_in_order, last_gst, next_beyond, next_in_order, with_row};
+ghost use Rattle.certificate_checker.specs.Claims.{claimed, count_of, is_in_order, last_gst};
+ghost use Rattle.certificate_checker.specs.Claims.{next_beyond, next_in_order, with_row};
 ghost use Rattle.certificate_checker.specs.Verdicts.{IsVerdict, Stands, place_of};
 
 use crate::certificates::check;
@@ -88,7 +89,8 @@ impl ClaimedRows {
     /// a `u64` has no number left for it.
     pub fn with(self, last: u64, row: Row) -> Result<Self, AllocError>
         ensures rows { IfOk result (λ more. more ≡ with_row last self row) }
-        ensures more { OnErr result ((is_in_order (with_row last self row) ≡ true) ⊎ (2 ^ 64 ≤ count_of self + 1)) }
+        ensures more { OnErr result
+            ((is_in_order (with_row last self row) ≡ true) ⊎ (2 ^ 64 ≤ count_of self + 1)) }
     {
         let count = self.count().checked_add(1).ok_or(AllocError)?;
         match self {
@@ -153,8 +155,11 @@ pub fn check_claimed(
     rows: &ClaimedRows,
 ) -> Result<Verdict, AllocError>
     requires { IsWithin set trace.now.config.n }
-    ensures verdict { (all : List Row) → rows.now ≡ claimed trace.now.last all → IfOk result (λ v. IsVerdict set trace.now all v) }
-    ensures more { (all : List Row) → rows.now ≡ claimed trace.now.last all → OnErr result ((0 < length all) × ((why : Reason) → place_of why ≤ 6 → ¬ Stands set trace.now all why)) }
+    ensures verdict { (all : List Row) → rows.now ≡ claimed trace.now.last all
+        → IfOk result (λ v. IsVerdict set trace.now all v) }
+    ensures more { (all : List Row) → rows.now ≡ claimed trace.now.last all
+        → OnErr result ((0 < length all)
+        × ((why : Reason) → place_of why ≤ 6 → ¬ Stands set trace.now all why)) }
 {
     match rows {
         ClaimedRows::InOrder(rows) => check(alloc, trace, set, rows.as_slice()),

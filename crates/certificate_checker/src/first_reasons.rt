@@ -18,7 +18,8 @@ use step_trace::{ProcSet, Row, Trace};
 
 /// The first of the reasons that need no look at the steps: `NoRows` to `SameAsBefore`. Takes no memory.
 pub(crate) fn order_reason(rows: &[Row], last: u64) -> Option<Reason>
-    ensures { (set : ℕ) (trace : Recorded) → trace.last ≡ last → IsFirstReason set trace rows.now 1 6 result }
+    ensures { (set : ℕ) (trace : Recorded) → trace.last ≡ last
+        → IsFirstReason set trace rows.now 1 6 result }
 {
     if rows.len() == 0 {
         return if last > 0 { Some(Reason::NoRows) } else { None };

@@ -37,7 +37,8 @@ pub(crate) fn longest_gap_at(
     requires known { AreSilences set trace.now silences.now }
     requires low { 1 ≤ from }
     requires high { from ≤ trace.now.last }
-    ensures { MatchOption result (HasNoGapAt set trace.now from) (IsLongestGapAt set trace.now from) }
+    ensures { MatchOption result (HasNoGapAt set trace.now from)
+        (IsLongestGapAt set trace.now from) }
 {
     let mut proc = 0;
     let mut end = from;

@@ -17,8 +17,12 @@ ghost use Rattle.certificate_checker.specs.Verdicts.{IsVerdict};
 /// These are theorems over the definitions. The contract quantifies over every set of processors, all recorded
 /// steps (but `one` is about traces) and every list of rows. Calling it does nothing.
 pub fn certificate_laws()
-    ensures sound { (set : ℕ) (trace : Recorded) (rows : List Row) → IsVerdict set trace rows Yes → Certifies set trace rows }
-    ensures complete { (set : ℕ) (trace : Recorded) (rows : List Row) → IsReport set trace rows → IsVerdict set trace rows Yes }
-    ensures exact { (set : ℕ) (trace : Recorded) (rows : List Row) → IsVerdict set trace rows Yes ↔ (Certifies set trace rows × NamesNothingBesideOne rows) }
-    ensures one { (set : ℕ) (trace : Recorded) (rows : List Row) (a b : RowsVerdict) → IsTrace trace → IsVerdict set trace rows a → IsVerdict set trace rows b → a ≡ b }
+    ensures sound { (set : ℕ) (trace : Recorded) (rows : List Row) → IsVerdict set trace rows Yes
+        → Certifies set trace rows }
+    ensures complete { (set : ℕ) (trace : Recorded) (rows : List Row) → IsReport set trace rows
+        → IsVerdict set trace rows Yes }
+    ensures exact { (set : ℕ) (trace : Recorded) (rows : List Row)
+        → IsVerdict set trace rows Yes ↔ (Certifies set trace rows × NamesNothingBesideOne rows) }
+    ensures one { (set : ℕ) (trace : Recorded) (rows : List Row) (a b : RowsVerdict) → IsTrace trace
+        → IsVerdict set trace rows a → IsVerdict set trace rows b → a ≡ b }
 {}

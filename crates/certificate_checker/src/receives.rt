@@ -102,7 +102,8 @@ impl Receives {
     pub(crate) fn last_miss(&self, trace: &Trace, set: ProcSet, sent: u64) -> Option<Miss>
         requires set { IsWithin set trace.now.config.n }
         requires known { KnowsReceives trace.now (length trace.now.steps) self.now }
-        ensures { MatchOption result (HasNoMiss set trace.now sent) (IsLastMiss set trace.now sent) }
+        ensures { MatchOption result (HasNoMiss set trace.now sent)
+            (IsLastMiss set trace.now sent) }
     {
         let to = receiver(trace, set, sent)?;
         let start = trace.tick(sent);

@@ -33,7 +33,8 @@ pub(crate) fn first_beyond(rows: &[Row], last: u64) -> Option<u64>
 
 /// The first row of which a bound is above that of the row before.
 pub(crate) fn first_above(rows: &[Row]) -> Option<u64>
-    ensures { IsFirst (λ k. (a : HasTwoRows rows.now k) × ((a.before.delta < a.row.delta) ⊎ (a.before.phi < a.row.phi))) result }
+    ensures { IsFirst (λ k. (a : HasTwoRows rows.now k)
+        × ((a.before.delta < a.row.delta) ⊎ (a.before.phi < a.row.phi))) result }
 {
     for k in 1..rows.len() {
         if rows[k - 1].delta < rows[k].delta || rows[k - 1].phi < rows[k].phi {
@@ -45,7 +46,8 @@ pub(crate) fn first_above(rows: &[Row]) -> Option<u64>
 
 /// The first row of which both bounds are those of the row before.
 pub(crate) fn first_repeated(rows: &[Row]) -> Option<u64>
-    ensures { IsFirst (λ k. (a : HasTwoRows rows.now k) × ((a.row.delta ≡ a.before.delta) × (a.row.phi ≡ a.before.phi))) result }
+    ensures { IsFirst (λ k. (a : HasTwoRows rows.now k)
+        × ((a.row.delta ≡ a.before.delta) × (a.row.phi ≡ a.before.phi))) result }
 {
     for k in 1..rows.len() {
         if rows[k].delta == rows[k - 1].delta && rows[k].phi == rows[k - 1].phi {

@@ -28,7 +28,8 @@ impl Silence {
 
     /// The first tick from `x` on in which the processor takes a step, or the tick after the last of the trace.
     pub(crate) fn end(&self, trace: &Trace, x: u64) -> u64
-        ensures { (p : ℕ) → IsSilence trace.now p self.now → x ≤ trace.now.last → IsNextStep trace.now p x result }
+        ensures { (p : ℕ) → IsSilence trace.now p self.now → x ≤ trace.now.last
+            → IsNextStep trace.now p x result }
     {
         let after = trace.last_tick() + 1;
         let passed = self

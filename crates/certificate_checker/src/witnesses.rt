@@ -66,7 +66,9 @@ pub(crate) fn first_bad_miss(
 ) -> Option<u64>
     requires set { IsWithin set trace.now.config.n }
     requires known { KnowsReceives trace.now (length trace.now.steps) receives.now }
-    ensures { IsFirst (λ k. (a : HasRow rows.now k) × ¬ ShowsDelta set trace.now (after_stretch rows.now trace.now.last k) a.row.delta a.row.miss) result }
+    ensures { IsFirst (λ k. (a : HasRow rows.now k)
+        × ¬ ShowsDelta set trace.now (after_stretch rows.now trace.now.last k) a.row.delta
+        a.row.miss) result }
 {
     for k in 0..rows.len() {
         let after = after_stretch(rows, trace.last_tick(), k + 1);
@@ -86,7 +88,9 @@ pub(crate) fn first_bad_gap(
 ) -> Option<u64>
     requires set { IsWithin set trace.now.config.n }
     requires known { AreSilences set trace.now silences.now }
-    ensures { IsFirst (λ k. (a : HasRow rows.now k) × ¬ ShowsPhi set trace.now (after_stretch rows.now trace.now.last k) a.row.phi a.row.gap) result }
+    ensures { IsFirst (λ k. (a : HasRow rows.now k)
+        × ¬ ShowsPhi set trace.now (after_stretch rows.now trace.now.last k) a.row.phi
+        a.row.gap) result }
 {
     for k in 0..rows.len() {
         let after = after_stretch(rows, trace.last_tick(), k + 1);

@@ -40,7 +40,8 @@ any_takes_all set t i j b all o l = record {
 }
 
 -- of these the older ones
-pub block_taken : (set : ℕ) (t : Recorded) (from j : ℕ) (all : List Take) → 1 ≤ from → AreCatches set t (from - 1) j all → IsListing TakenBefore (IsTake set t (from - 1) j) (filter (is_older from) all)
+pub block_taken : (set : ℕ) (t : Recorded) (from j : ℕ) (all : List Take) → 1 ≤ from → AreCatches set t (from - 1) j all
+    → IsListing TakenBefore (IsTake set t (from - 1) j) (filter (is_older from) all)
 block_taken set t from j all low a = record {
   rising = Rises-filter TakenBefore (is_older from) all a.rising;
   sound = λ x k.
@@ -109,8 +110,10 @@ settled_as m None e h = ap (λ f. with_fate m f) (sym e)
 settled_as m (Some x) e h = ap₂ (λ (s : Place) (o : Option Place). with_fate m (Taken (after s o))) (h x refl) (sym (later_of-none x.before))
 
 -- the messages with their fates from a list by number are those that settle
-pub fated_settled : (set : ℕ) (t : Recorded) (from j before b : ℕ) (all : List Take) (fates : List Fate) (opens : List Message) → 1 ≤ from → AreStepsBefore t from before → length fates ≡ b - before → AreFates before all fates → AreCatches set t (from - 1) j all
-    → AreOpenBy set t (from - 1) b opens → map (fated before fates) opens ≡ map (settle all []) opens
+pub fated_settled : (set : ℕ) (t : Recorded) (from j before b : ℕ) (all : List Take) (fates : List Fate)
+    (opens : List Message) → 1 ≤ from → AreStepsBefore t from before → length fates ≡ b - before
+    → AreFates before all fates → AreCatches set t (from - 1) j all → AreOpenBy set t (from - 1) b opens
+    → map (fated before fates) opens ≡ map (settle all []) opens
 fated_settled set t from j before b all fates opens low first long f a l = map-alike (fated before fates) (settle all []) opens one where
   one : (m : Message) → Contains opens m → fated before fates m ≡ settle all [] m
   one m k =

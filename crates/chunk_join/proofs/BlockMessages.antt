@@ -64,7 +64,8 @@ opens_more t time set i k b sent low message l =
         let to : b ≡ y.to = cc in
         alike (λ no tick to fate. record { sent = record { no = no; tick = tick }; to = to; fate = fate }) (sym e) (ap (tick_of t) (sym e) ∙ o.place) to (sym o.open_yet)
       where
-        alike : (make : ℕ → ℕ → ℕ → Fate → Message) → k + 1 ≡ y.sent.no → tick_of t (k + 1) ≡ y.sent.tick → b ≡ y.to → Open ≡ y.fate → make (k + 1) (tick_of t (k + 1)) b Open ≡ make y.sent.no y.sent.tick y.to y.fate
+        alike : (make : ℕ → ℕ → ℕ → Fate → Message) → k + 1 ≡ y.sent.no → tick_of t (k + 1) ≡ y.sent.tick → b ≡ y.to
+            → Open ≡ y.fate → make (k + 1) (tick_of t (k + 1)) b Open ≡ make y.sent.no y.sent.tick y.to y.fate
         alike make p q r s = cc
 
     cases : (y : Message) → IsOpenBy set t i (k + 1) y → IsOpenBy set t i k y ⊎ (next ≡ y)
@@ -83,8 +84,9 @@ opens_same t set i k sent none l = IsListing-same SentBefore (IsOpenBy set t i k
     ]) l
 
 -- the last Receive up to a number, where the numbers are those before a tick
-last_before : (t : Recorded) → IsTimed t → (p i k high : ℕ) (o : Option Place) → ((y : ℕ) → IsReceiveOf t.steps y p → tick_of t y < high → y ≤ k) → ((y : ℕ) → IsReceiveOf t.steps y p → y ≤ k → tick_of t y < high)
-    → IsLastBy t p i k o → IsLastReceive t p i high o
+last_before : (t : Recorded) → IsTimed t → (p i k high : ℕ) (o : Option Place)
+    → ((y : ℕ) → IsReceiveOf t.steps y p → tick_of t y < high → y ≤ k)
+    → ((y : ℕ) → IsReceiveOf t.steps y p → y ≤ k → tick_of t y < high) → IsLastBy t p i k o → IsLastReceive t p i high o
 last_before t time p i k high None f g h = λ y r u v. h y r u (f y r v)
 last_before t time p i k high (Some r) f g h = record {
   receive = h.receive;
@@ -157,16 +159,27 @@ last_more set t i k q last m r low a = record {
     | inr other ↦ other.1 ∙ a.others p h
   ];
 } where
-  cases : (p : ℕ) → ((p ≡ q) × (last_of (set_at last q (Some (record { no = k + 1; tick = tick_of t (k + 1) }))) p ≡ Some (record { no = k + 1; tick = tick_of t (k + 1) }))) ⊎ ((p ≢ q) × (last_of (set_at last q (Some (record { no = k + 1; tick = tick_of t (k + 1) }))) p ≡ last_of last p))
+  cases : (p : ℕ)
+      → ((p ≡ q)
+      × (last_of (set_at last q (Some (record { no = k + 1; tick = tick_of t (k + 1) }))) p ≡ Some
+      (record { no = k + 1; tick = tick_of t (k + 1) })))
+      ⊎ ((p ≢ q)
+      × (last_of (set_at last q (Some (record { no = k + 1; tick = tick_of t (k + 1) }))) p ≡ last_of last p))
   cases p = last_of-set last q p _ (omega (arith, (member_range set q m).1, a.long))
 
 -- another step changes nothing
-pub last_same : (set : ℕ) (t : Recorded) (i k : ℕ) (last : List (Option Place)) → ((p : ℕ) → IsTrue (has_proc set p) → IsReceiveOf t.steps (k + 1) p → ⊥) → AreLastBy set t i k last → AreLastBy set t i (k + 1) last
+pub last_same : (set : ℕ) (t : Recorded) (i k : ℕ) (last : List (Option Place))
+    → ((p : ℕ) → IsTrue (has_proc set p) → IsReceiveOf t.steps (k + 1) p → ⊥) → AreLastBy set t i k last
+    → AreLastBy set t i (k + 1) last
 last_same set t i k last none a = record { long = a.long; members = λ p m. last_kept t p i k (last_of last p) (none p m) (a.members p m); others = a.others }
 
 -- the same with fates from a list
-pub fated_more : (t : Recorded) → IsTimed t → (set i before k b tick : ℕ) (fate : Fate) (fates : List Fate) (sent : List Message) → before ≤ k → i < tick_of t (k + 1) → IsMessage set t.steps (k + 1) b → tick ≡ tick_of t (k + 1)
-    → fate ≡ get_or fates (k - before) Open → AreFated set t i before k fates sent → AreFated set t i before (k + 1) fates (sent ++ record { sent = record { no = k + 1; tick = tick }; to = b; fate = fate } ∷ [])
+pub fated_more : (t : Recorded) → IsTimed t
+    → (set i before k b tick : ℕ) (fate : Fate) (fates : List Fate) (sent : List Message) → before ≤ k
+    → i < tick_of t (k + 1) → IsMessage set t.steps (k + 1) b → tick ≡ tick_of t (k + 1)
+    → fate ≡ get_or fates (k - before) Open → AreFated set t i before k fates sent
+    → AreFated set t i before (k + 1) fates
+    (sent ++ record { sent = record { no = k + 1; tick = tick }; to = b; fate = fate } ∷ [])
 fated_more t time set i before k b tick fate fates sent order low message e f a = record {
   opens = a.opens ++ next ∷ [];
   listing = opens_more t time set i k b a.opens low message a.listing;
@@ -181,5 +194,7 @@ fated_more t time set i before k b tick fate fates sent order low message e f a 
   one : (let m : Message = record { sent = record { no = k + 1; tick = tick }; to = b; fate = fate } in m) ≡ fated before fates next
   one = ap₂ (λ (x : ℕ) (g : Fate). let m : Message = record { sent = record { no = k + 1; tick = x }; to = b; fate = g } in m) e (f ∙ ap (λ n. get_or fates n Open) index)
 
-pub fated_same : (t : Recorded) (set i before k : ℕ) (fates : List Fate) (sent : List Message) → ((b : ℕ) → IsMessage set t.steps (k + 1) b → ⊥) → AreFated set t i before k fates sent → AreFated set t i before (k + 1) fates sent
+pub fated_same : (t : Recorded) (set i before k : ℕ) (fates : List Fate) (sent : List Message)
+    → ((b : ℕ) → IsMessage set t.steps (k + 1) b → ⊥) → AreFated set t i before k fates sent
+    → AreFated set t i before (k + 1) fates sent
 fated_same t set i before k fates sent none a = record { opens = a.opens; listing = opens_same t set i k a.opens none a.listing; same = a.same }

@@ -11,9 +11,12 @@ use Rattle.chunk_join.specs.BlockSteps.{AreFates, AreFated, AreLastBy, AreTakesB
 use Rattle.chunk_join.proofs.BlockMessages.{last_all}
 use Rattle.chunk_join.proofs.BlockFates.{any_takes_all, block_taken, block_sent, fated_settled}
 
-pub IsSummary-block : (set : ℕ) (t : Recorded) → IsTrace t → (from j before b : ℕ) (s : Summary) (fates : List Fate) (all : List Take) → 1 ≤ from → s.set ≡ set → s.from ≡ from → s.to ≡ j → AreStepsBefore t from before → AreStepsBefore t (j + 1) b
-    → length fates ≡ b - before → AreFates before all fates → AreFated set t (from - 1) before b fates s.sent → AreTakesBy set t (from - 1) b [] all → s.taken ≡ filter (is_older from) all
-    → AreLastBy set t (from - 1) b s.last → IsListing EndsBefore (IsLongest set t (from - 1) j) s.silent → IsSummary set t (from - 1) j s
+pub IsSummary-block : (set : ℕ) (t : Recorded) → IsTrace t
+    → (from j before b : ℕ) (s : Summary) (fates : List Fate) (all : List Take) → 1 ≤ from → s.set ≡ set → s.from ≡ from
+    → s.to ≡ j → AreStepsBefore t from before → AreStepsBefore t (j + 1) b → length fates ≡ b - before
+    → AreFates before all fates → AreFated set t (from - 1) before b fates s.sent → AreTakesBy set t (from - 1) b [] all
+    → s.taken ≡ filter (is_older from) all → AreLastBy set t (from - 1) b s.last
+    → IsListing EndsBefore (IsLongest set t (from - 1) j) s.silent → IsSummary set t (from - 1) j s
 IsSummary-block set t sound from j before b s fates all low e f g first o long each sent taken q last silent =
     let takes = any_takes_all set t (from - 1) j b all o taken in
     let same = sent.same ∙ fated_settled set t from j before b all fates sent.opens low first long each takes sent.listing in

@@ -49,13 +49,15 @@ module _ (set : ℕ) (t : Recorded) (i x n y m : ℕ) (forth : (k p : ℕ) → I
   }
 
 -- before tick x all its steps are to come, after it none is
-pub ended_before : (set : ℕ) (t : Recorded) (i x b : ℕ) (silent : List Gap) (begun : List ℕ) → AreStepsBefore t (x + 1) b → AreEnded set t i x (length t.steps) silent begun → AreEnded set t i x b silent begun
+pub ended_before : (set : ℕ) (t : Recorded) (i x b : ℕ) (silent : List Gap) (begun : List ℕ)
+    → AreStepsBefore t (x + 1) b → AreEnded set t i x (length t.steps) silent begun → AreEnded set t i x b silent begun
 ended_before set t i x b silent begun o a = ended_alike set t i x (length t.steps) x b
     (λ k p m s d. elim d [ inl l ↦ inl l | inr e ↦ absurd (let w = (step_at_within t.steps k _ s.1).1 in omega (arith, w, e.1)) ])
     (λ k p m s d. elim d [ inl l ↦ inl l | inr e ↦ absurd (let r = o.rest k e.1 (step_at_within t.steps k _ s.1).1 in omega (arith, r, e.0)) ])
     silent begun a
 
-pub ended_after : (set : ℕ) (t : Recorded) (i x a : ℕ) (silent : List Gap) (begun : List ℕ) → AreStepsBefore t x a → AreEnded set t i x a silent begun → AreEnded set t i (x + 1) (length t.steps) silent begun
+pub ended_after : (set : ℕ) (t : Recorded) (i x a : ℕ) (silent : List Gap) (begun : List ℕ) → AreStepsBefore t x a
+    → AreEnded set t i x a silent begun → AreEnded set t i (x + 1) (length t.steps) silent begun
 ended_after set t i x a silent begun o e = ended_alike set t i x a (x + 1) (length t.steps)
     (λ k p m s d. elim d [ inl l ↦ inl (omega (arith, l)) | inr e ↦ inl (omega (arith, e.0)) ])
     (λ k p m s d. elim d [
@@ -74,15 +76,26 @@ ended_after set t i x a silent begun o e = ended_alike set t i x a (x + 1) (leng
     silent begun e
 
 -- a silence of p that ends where all steps of p that are done are earlier begins where p's next one does
-begin_one : (t : Recorded) (set i x n p v : ℕ) (w : Gap) → IsBegun t i x n p v → ((k : ℕ) → IsStepOf t.steps k p → IsDone t x n k → tick_of t k < x) → ((k : ℕ) → IsStepOf t.steps k p → tick_of t k < x → IsDone t x n k)
-    → w.proc ≡ p → w.to + 1 ≡ x → IsGap set t w → i < w.from → (w.from ≡ i + 1) ⊎ StepsIn t (w.from - 1) w.proc → v ≡ w.from
+begin_one : (t : Recorded) (set i x n p v : ℕ) (w : Gap) → IsBegun t i x n p v
+    → ((k : ℕ) → IsStepOf t.steps k p → IsDone t x n k → tick_of t k < x)
+    → ((k : ℕ) → IsStepOf t.steps k p → tick_of t k < x → IsDone t x n k) → w.proc ≡ p → w.to + 1 ≡ x → IsGap set t w
+    → i < w.from → (w.from ≡ i + 1) ⊎ StepsIn t (w.from - 1) w.proc → v ≡ w.from
 begin_one t set i x n p v w b early done own end gap after left = elim (cases_lt w.from v) [
   | inl l ↦ absurd (elim b.left [
     | inl e ↦ omega (arith, e, l, after)
     | inr s ↦ (
         let tick = s.tick in
         let u = early s.place s.step s.done in
-        gap.silent (v - 1) (omega (arith, l)) (omega (arith, tick, u, end)) (record { place = s.place; step = (s.step.0, subst (λ q. step_at t.steps s.place ≡ Some (record { proc = q; act = s.step.0 })) (sym own) s.step.1); tick = tick }))
+        gap.silent (v - 1) (omega (arith, l)) (omega (arith, tick, u, end))
+        (record {
+          place = s.place;
+          step = (
+            s.step.0,
+            subst (λ q. step_at t.steps s.place ≡ Some (record { proc = q; act = s.step.0 }))
+                (sym own) s.step.1,
+          );
+          tick = tick;
+        }))
   ])
   | inr n ↦ elim (cases_lt v w.from) [
     | inl l ↦ absurd (elim left [
@@ -142,9 +155,13 @@ module _ (set : ℕ) (t : Recorded) (time : IsTimed t) (i x n p : ℕ) (low : i 
     ];
   }
 
-  begun_all : (begun : List ℕ) → length begun ≡ MAX_MEMBER + 1 → ((q : ℕ) → IsTrue (has_proc set q) → IsBegun t i x (n + 1) q (get_or begun q 0)) → (q : ℕ) → IsTrue (has_proc set q) → IsBegun t i x n q (get_or (set_at begun p (x + 1)) q 0)
+  begun_all : (begun : List ℕ) → length begun ≡ MAX_MEMBER + 1
+      → ((q : ℕ) → IsTrue (has_proc set q) → IsBegun t i x (n + 1) q (get_or begun q 0)) → (q : ℕ)
+      → IsTrue (has_proc set q) → IsBegun t i x n q (get_or (set_at begun p (x + 1)) q 0)
   begun_all begun long all q m = elim (cases_eq q p) [
-    | inl e ↦ subst (λ r. IsBegun t i x n r (get_or (set_at begun p (x + 1)) r 0)) (sym e) (subst (λ v. IsBegun t i x n p v) (sym (get_or-set_same begun p (x + 1) 0 (omega (arith, (member_range set p member).1, long)))) begun_own)
+    | inl e ↦ subst (λ r. IsBegun t i x n r (get_or (set_at begun p (x + 1)) r 0)) (sym e)
+        (subst (λ v. IsBegun t i x n p v)
+        (sym (get_or-set_same begun p (x + 1) 0 (omega (arith, (member_range set p member).1, long)))) begun_own)
     | inr d ↦ subst (λ v. IsBegun t i x n q v) (sym (get_or-set_other begun p q (x + 1) 0 d)) (begun_other q (get_or begun q 0) d (all q m))
   ]
 
@@ -205,7 +222,8 @@ module _ (set : ℕ) (t : Recorded) (time : IsTimed t) (i x n p : ℕ) (low : i 
       right = record { place = n + 1; step = step; tick = (let e : x ≡ x - 1 + 1 = omega (arith, low) in tick ∙ e); done = inr (tick, omega arith) };
     }
 
-  pub ended_step : (silent : List Gap) (begun : List ℕ) → length begun ≡ MAX_MEMBER + 1 → x ≤ get_or begun p 0 → AreEnded set t i x (n + 1) silent begun → AreEnded set t i x n silent (set_at begun p (x + 1))
+  pub ended_step : (silent : List Gap) (begun : List ℕ) → length begun ≡ MAX_MEMBER + 1 → x ≤ get_or begun p 0
+      → AreEnded set t i x (n + 1) silent begun → AreEnded set t i x n silent (set_at begun p (x + 1))
   ended_step silent begun long none a = record {
     ended = IsListing-same EndsBefore (IsEnded set t i x (n + 1)) (IsEnded set t i x n) silent ended_more
         (λ w e. elim (ended_less (get_or begun p 0) (a.next p member) w e) [
@@ -222,7 +240,9 @@ module _ (set : ℕ) (t : Recorded) (time : IsTimed t) (i x n p : ℕ) (low : i 
       subst (λ u. AreEnded set t i x n (silent ++ record { proc = p; from = u; to = x - 1 } ∷ []) (set_at begun p (x + 1))) (sym e) (ended_push silent begun long (subst (λ u. u < x) e short) a)
 
 -- a step of another processor ends none that counts
-pub ended_same : (set : ℕ) (t : Recorded) (i x n : ℕ) (silent : List Gap) (begun : List ℕ) → ((p : ℕ) → IsTrue (has_proc set p) → IsStepOf t.steps (n + 1) p → ⊥) → AreEnded set t i x (n + 1) silent begun → AreEnded set t i x n silent begun
+pub ended_same : (set : ℕ) (t : Recorded) (i x n : ℕ) (silent : List Gap) (begun : List ℕ)
+    → ((p : ℕ) → IsTrue (has_proc set p) → IsStepOf t.steps (n + 1) p → ⊥) → AreEnded set t i x (n + 1) silent begun
+    → AreEnded set t i x n silent begun
 ended_same set t i x n silent begun none a = ended_alike set t i x (n + 1) x n
     (λ k p m s d. elim d [ inl l ↦ inl l | inr e ↦ inr (e.0, omega (arith, e.1)) ])
     (λ k p m s d. elim d [
@@ -305,7 +325,9 @@ module _ (set : ℕ) (t : Recorded) (i j : ℕ) (low : i < j) (high : j ≤ t.la
         right = inl refl;
       }
 
-  pub tails_same : (p : ℕ) (silent : List Gap) → (IsTrue (has_proc set p) → (v : ℕ) × IsBegun t i (j + 1) (length t.steps) p v × (j < v)) → AreLongestFrom set t i j (p + 1) silent → AreLongestFrom set t i j p silent
+  pub tails_same : (p : ℕ) (silent : List Gap)
+      → (IsTrue (has_proc set p) → (v : ℕ) × IsBegun t i (j + 1) (length t.steps) p v × (j < v))
+      → AreLongestFrom set t i j (p + 1) silent → AreLongestFrom set t i j p silent
   tails_same p silent none l = IsListing-same EndsBefore (IsLongestFrom set t i j (p + 1)) (IsLongestFrom set t i j p) silent
       (λ w h. record { longest = h.longest; from = elim h.from [ inl e ↦ inl e | inr m ↦ inr (omega (arith, m)) ] })
       (λ w h. record {

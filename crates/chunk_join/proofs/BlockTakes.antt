@@ -58,13 +58,19 @@ module _ (set : ℕ) (t : Recorded) (time : IsTimed t) (i k p : ℕ) (b : Option
   next_one : (y : Take) → IsAnyTake set t i y → y.at.no ≡ k + 1 → get_or all n 0 ≡ y.sent.no → next ≡ y
   next_one y own e f =
       let at : tick_of t (k + 1) ≡ y.at.tick = ap (tick_of t) (sym e) ∙ own.at_place in
-      let by : p ≡ y.by = ap (λ (z : Step). z.proc) (same_step t.steps (k + 1) _ _ step (subst (λ v. step_at t.steps v ≡ Some (record { proc = y.by; act = Receive own.receive.ends own.receive.ids })) e own.receive.step)) in
+      let by : p ≡ y.by = ap (λ (z : Step). z.proc)
+      (same_step t.steps (k + 1) _ _ step
+      (subst (λ v. step_at t.steps v ≡ Some
+      (record { proc = y.by; act = Receive own.receive.ends own.receive.ids })) e own.receive.step)) in
       let sent : tick_of t (get_or all n 0) ≡ y.sent.tick = ap (λ v. tick_of t v) f ∙ own.sent_place in
       let before : b ≡ y.before = IsLastReceive-one t time y.by i y.at.tick b y.before (subst (λ v. IsLastReceive t y.by i v b) at (subst (λ q. IsLastReceive t q i (tick_of t (k + 1)) b) by last)) own.before in
       alike y (λ no tick by id place before. record { at = record { no = no; tick = tick }; by = by; sent = record { no = id; tick = place }; before = before }) (sym e) at by f sent before
     where
-      alike : (y : Take) (make : ℕ → ℕ → ℕ → ℕ → ℕ → Option Place → Take) → k + 1 ≡ y.at.no → tick_of t (k + 1) ≡ y.at.tick → p ≡ y.by → get_or all n 0 ≡ y.sent.no → tick_of t (get_or all n 0) ≡ y.sent.tick → b ≡ y.before
-          → make (k + 1) (tick_of t (k + 1)) p (get_or all n 0) (tick_of t (get_or all n 0)) b ≡ make y.at.no y.at.tick y.by y.sent.no y.sent.tick y.before
+      alike : (y : Take) (make : ℕ → ℕ → ℕ → ℕ → ℕ → Option Place → Take) → k + 1 ≡ y.at.no
+          → tick_of t (k + 1) ≡ y.at.tick → p ≡ y.by → get_or all n 0 ≡ y.sent.no
+          → tick_of t (get_or all n 0) ≡ y.sent.tick → b ≡ y.before
+          → make (k + 1) (tick_of t (k + 1)) p (get_or all n 0) (tick_of t (get_or all n 0)) b
+          ≡ make y.at.no y.at.tick y.by y.sent.no y.sent.tick y.before
       alike y make e f g h i j = cc
 
   pub one_take_more : (taken : List Take) → AreTakesBy set t i k (take n all) taken → AreTakesBy set t i k (take (n + 1) all) (taken ++ next ∷ [])
@@ -86,7 +92,8 @@ module _ (set : ℕ) (t : Recorded) (time : IsTimed t) (i k p : ℕ) (b : Option
       ])
 
 -- once all its ids are scanned, the step counts as scanned
-any_takes_done : (set : ℕ) (t : Recorded) (i k p : ℕ) (ends : Bool) (all : List ℕ) (taken : List Take) → step_at t.steps (k + 1) ≡ Some (record { proc = p; act = Receive ends all }) → AreTakesBy set t i k all taken
+any_takes_done : (set : ℕ) (t : Recorded) (i k p : ℕ) (ends : Bool) (all : List ℕ) (taken : List Take)
+    → step_at t.steps (k + 1) ≡ Some (record { proc = p; act = Receive ends all }) → AreTakesBy set t i k all taken
     → AreTakesBy set t i (k + 1) [] taken
 any_takes_done set t i k p ends all taken step l = IsListing-same TakenBefore (IsAnyTakeBy set t i k all) (IsAnyTakeBy set t i (k + 1) []) taken
     (λ y h. record { own = h.own; until = elim h.until [ inl before ↦ inl (omega (arith, before)) | inr here ↦ inl (omega (arith, here.0)) ] })
@@ -124,9 +131,12 @@ any_takes_same set t i k taken none l = IsListing-same TakenBefore (IsAnyTakeBy 
     }) l
 
 -- what one Receive takes, first n ids
-any_takes_upto : (set : ℕ) (t : Recorded) → IsTimed t → (i k p : ℕ) (b : Option Place) → i < tick_of t (k + 1) → (ends : Bool) (all : List ℕ) → IsStrictlyIncreasing all → step_at t.steps (k + 1) ≡ Some (record { proc = p; act = Receive ends all })
-    → IsTrue (has_proc set p) → IsLastReceive t p i (tick_of t (k + 1)) b → (taken : List Take) → AreTakesBy set t i k [] taken → (n : ℕ) → n ≤ length all
-    → AreTakesBy set t i k (take n all) (taken ++ map (take_of t (record { no = k + 1; tick = tick_of t (k + 1) }) p b) (take n all))
+any_takes_upto : (set : ℕ) (t : Recorded) → IsTimed t → (i k p : ℕ) (b : Option Place) → i < tick_of t (k + 1)
+    → (ends : Bool) (all : List ℕ) → IsStrictlyIncreasing all
+    → step_at t.steps (k + 1) ≡ Some (record { proc = p; act = Receive ends all }) → IsTrue (has_proc set p)
+    → IsLastReceive t p i (tick_of t (k + 1)) b → (taken : List Take) → AreTakesBy set t i k [] taken → (n : ℕ)
+    → n ≤ length all → AreTakesBy set t i k (take n all)
+    (taken ++ map (take_of t (record { no = k + 1; tick = tick_of t (k + 1) }) p b) (take n all))
 any_takes_upto set t time i k p b low ends all rising step member last taken l zero h = subst (AreTakesBy set t i k []) (sym (append-nil taken)) l
 any_takes_upto set t time i k p b low ends all rising step member last taken l (suc n) h =
     let before = any_takes_upto set t time i k p b low ends all rising step member last taken l n (omega (arith, h)) in
@@ -153,9 +163,13 @@ any_takes_step set t sound time i k p b low r member last taken l =
     subst (λ ys. AreTakesBy set t i (k + 1) [] (taken ++ map (take_of t (record { no = k + 1; tick = tick_of t (k + 1) }) p b) ys)) same (any_takes_done set t i k p r.ends ids _ r.step whole)
 
 -- so do the last Receives with it
-pub receives_more : (set : ℕ) (t : Recorded) → IsTrace t → (i k p tick : ℕ) (b : Option Place) → i < tick_of t (k + 1) → tick ≡ tick_of t (k + 1) → IsReceiveOf t.steps (k + 1) p → IsTrue (has_proc set p)
-    → (taken : List Take) (last : List (Option Place)) → b ≡ last_of last p → AreTakesBy set t i k [] taken → AreLastBy set t i k last
-    → AreTakesBy set t i (k + 1) [] (taken ++ map (take_of t (record { no = k + 1; tick = tick }) p b) (ids_at t.steps (k + 1))) × AreLastBy set t i (k + 1) (set_at last p (Some (record { no = k + 1; tick = tick })))
+pub receives_more : (set : ℕ) (t : Recorded) → IsTrace t → (i k p tick : ℕ) (b : Option Place) → i < tick_of t (k + 1)
+    → tick ≡ tick_of t (k + 1) → IsReceiveOf t.steps (k + 1) p → IsTrue (has_proc set p)
+    → (taken : List Take) (last : List (Option Place)) → b ≡ last_of last p → AreTakesBy set t i k [] taken
+    → AreLastBy set t i k last
+    → AreTakesBy set t i (k + 1) [] (taken ++ map (take_of t (record { no = k + 1; tick = tick }) p b)
+    (ids_at t.steps (k + 1))) × AreLastBy set t i (k + 1)
+    (set_at last p (Some (record { no = k + 1; tick = tick })))
 receives_more set t sound i k p tick b low e r member taken last f l a = (
   subst (λ x. AreTakesBy set t i (k + 1) [] (taken ++ map (take_of t (record { no = k + 1; tick = x }) p b) (ids_at t.steps (k + 1)))) (sym e)
       (any_takes_step set t sound.steps sound.time i k p b low r member (last_at_step t sound.time p i k b r (subst (λ o. IsLastBy t p i k o) (sym f) (a.members p member))) taken l),

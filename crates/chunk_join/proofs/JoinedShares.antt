@@ -45,8 +45,10 @@ after all right (Ok digest) set trace i j k both a b = both set trace i j k a b
 after all right (Err e) set trace i j k both a b = tt
 
 module _ {T G : Type 0} where
-  pub ArePromised-push : (set : ℕ) (trace : Recorded) (gate : G) (workers : ℕ) (threads : List (PromisedHandle T (DigestOf G))) (thread : PromisedHandle T (DigestOf G)) → ArePromised set trace gate workers threads
-      → IsPromised set trace gate workers (length threads + 1) thread.promise → ArePromised set trace gate workers (threads ++ thread ∷ [])
+  pub ArePromised-push : (set : ℕ) (trace : Recorded) (gate : G) (workers : ℕ)
+      (threads : List (PromisedHandle T (DigestOf G))) (thread : PromisedHandle T (DigestOf G))
+      → ArePromised set trace gate workers threads → IsPromised set trace gate workers
+      (length threads + 1) thread.promise → ArePromised set trace gate workers (threads ++ thread ∷ [])
   ArePromised-push set trace gate workers threads thread are is = λ k other h. elim (slice_get-push threads thread other k h) [
     | inl old ↦ are k other old
     | inr new ↦ subst (λ x. IsPromised set trace gate workers (k + 1) x.promise) new.1 (subst (λ n. IsPromised set trace gate workers (n + 1) thread.promise) (sym new.0) is)
@@ -58,7 +60,9 @@ module _ {T G : Type 0} where
       pub done : ℕ
       pub count : done + length rest ≡ length threads
       pub left : (k : ℕ) → slice_get rest k ≡ slice_get threads (done + k)
-      pub digest : (set : ℕ) (trace : Recorded) (gate : G) (workers : ℕ) → 0 < workers → ArePromised set trace gate workers threads → IfOk all (IsDigestBetween set trace 0 (cut trace.last workers done))
+      pub digest : (set : ℕ) (trace : Recorded) (gate : G) (workers : ℕ) → 0 < workers
+          → ArePromised set trace gate workers threads
+          → IfOk all (IsDigestBetween set trace 0 (cut trace.last workers done))
 
     pub AreJoined-none : (threads : List (PromisedHandle T (DigestOf G))) (unit : Option Summary) → unit ≡ None → AreJoined threads (Ok unit) threads
     AreJoined-none threads unit e = record {
@@ -68,10 +72,13 @@ module _ {T G : Type 0} where
       digest = λ set trace gate workers some are sound. subst (IsDigestOf (record { set = set; trace = trace; sound = sound }) 0 (cut trace.last workers 0)) (sym e) (cut_zero trace.last workers);
     }
 
-    pub AreJoined-more : (threads : List (PromisedHandle T (DigestOf G))) (all right more : Result (Option Summary) E) (thread : PromisedHandle T (DigestOf G)) (rest : List (PromisedHandle T (DigestOf G)))
+    pub AreJoined-more : (threads : List (PromisedHandle T (DigestOf G))) (all right more : Result (Option Summary) E)
+        (thread : PromisedHandle T (DigestOf G)) (rest : List (PromisedHandle T (DigestOf G)))
         → AreJoined threads all (thread ∷ rest)
-        → IfOk right (IsDigestBetween thread.promise.set thread.promise.trace.value (thread.promise.share.from - 1) thread.promise.share.to)
-        → IfOk more (λ digest. (set : ℕ) (trace : Recorded) (i j k : ℕ) → IfOk all (IsDigestBetween set trace i j) → IfOk right (IsDigestBetween set trace j k) → IsDigestBetween set trace i k digest)
+        → IfOk right (IsDigestBetween thread.promise.set thread.promise.trace.value
+        (thread.promise.share.from - 1) thread.promise.share.to)
+        → IfOk more (λ digest. (set : ℕ) (trace : Recorded) (i j k : ℕ) → IfOk all (IsDigestBetween set trace i j)
+        → IfOk right (IsDigestBetween set trace j k) → IsDigestBetween set trace i k digest)
         → AreJoined threads more rest
     AreJoined-more threads all right more thread rest was kept both = record {
       done = was.done + 1;
@@ -84,17 +91,23 @@ module _ {T G : Type 0} where
           after all right more set trace 0 (cut trace.last workers was.done) (cut trace.last workers (was.done + 1)) both (was.digest set trace gate workers some are) own);
     }
 
-    pub AreJoined-all : (threads : List (PromisedHandle T (DigestOf G))) (all : Result (Option Summary) E) (rest : List (PromisedHandle T (DigestOf G))) → AreJoined threads all rest → length rest ≡ 0
-        → IfOk all (λ digest. (set : ℕ) (trace : Recorded) (gate : G) (workers : ℕ) → 0 < workers → ArePromised set trace gate workers threads → IsDigestBetween set trace 0 (cut trace.last workers (length threads)) digest)
+    pub AreJoined-all : (threads : List (PromisedHandle T (DigestOf G))) (all : Result (Option Summary) E)
+        (rest : List (PromisedHandle T (DigestOf G))) → AreJoined threads all rest → length rest ≡ 0
+        → IfOk all (λ digest. (set : ℕ) (trace : Recorded) (gate : G) (workers : ℕ) → 0 < workers
+        → ArePromised set trace gate workers threads
+        → IsDigestBetween set trace 0 (cut trace.last workers (length threads)) digest)
     AreJoined-all threads (Ok digest) rest was none = λ set trace gate workers some are. (
         let e : was.done ≡ length threads = omega (arith, was.count, none) in
         subst (λ n. IsDigestBetween set trace 0 (cut trace.last workers n) digest) e (was.digest set trace gate workers some are))
     AreJoined-all threads (Err e) rest was none = tt
 
     -- the shares of all workers are all ticks
-    pub IsDigestBetween-whole : (threads : List (PromisedHandle T (DigestOf G))) (all : Result (Option Summary) E) (set : ℕ) (trace : Recorded) (gate : G) (workers : ℕ) → 0 < workers → length threads ≡ workers → ArePromised set trace gate workers threads
-        → IfOk all (λ digest. (set : ℕ) (trace : Recorded) (gate : G) (workers : ℕ) → 0 < workers → ArePromised set trace gate workers threads → IsDigestBetween set trace 0 (cut trace.last workers (length threads)) digest)
-        → IfOk all (IsDigestBetween set trace 0 trace.last)
+    pub IsDigestBetween-whole : (threads : List (PromisedHandle T (DigestOf G))) (all : Result (Option Summary) E)
+        (set : ℕ) (trace : Recorded) (gate : G) (workers : ℕ) → 0 < workers → length threads ≡ workers
+        → ArePromised set trace gate workers threads
+        → IfOk all (λ digest. (set : ℕ) (trace : Recorded) (gate : G) (workers : ℕ) → 0 < workers
+        → ArePromised set trace gate workers threads → IsDigestBetween set trace 0
+        (cut trace.last workers (length threads)) digest) → IfOk all (IsDigestBetween set trace 0 trace.last)
     IsDigestBetween-whole threads (Ok digest) set trace gate workers some count are joined =
         subst (λ n. IsDigestBetween set trace 0 n digest) (ap (cut trace.last workers) count ∙ cut_all trace.last workers some) (joined set trace gate workers some are)
     IsDigestBetween-whole threads (Err e) set trace gate workers some count are joined = tt

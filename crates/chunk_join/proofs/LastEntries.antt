@@ -15,8 +15,9 @@ more (x ∷ xs) [] p d l e = absurd (let n : suc (length xs) ≡ 0 = e in omega 
 more (x ∷ xs) (y ∷ ys) zero d l e = ap (λ zs. later_of x y ∷ zs) (sym (later_each-nil xs))
 more (x ∷ xs) (y ∷ ys) (suc p) d l e = ap (λ zs. later_of x y ∷ zs) (more xs ys p d (let n : suc p < suc (length xs) = l in omega (arith, n)) (let n : suc (length xs) ≡ suc (length ys) = e in omega (arith, n)))
 
-pub later_each-more : (xs ys : List (Option Place)) (p : ℕ) (zs : List (Option Place)) (v d : Option Place) → p < length xs → length xs ≡ length ys → zs ≡ later_each xs (take p ys) → v ≡ later_of (get_or zs p d) (get_or ys p d)
-    → set zs p v ≡ later_each xs (take (p + 1) ys)
+pub later_each-more : (xs ys : List (Option Place)) (p : ℕ) (zs : List (Option Place)) (v d : Option Place)
+    → p < length xs → length xs ≡ length ys → zs ≡ later_each xs (take p ys)
+    → v ≡ later_of (get_or zs p d) (get_or ys p d) → set zs p v ≡ later_each xs (take (p + 1) ys)
 later_each-more xs ys p zs v d l e f g = rw (add-one, g, f) (more xs ys p d l e)
 
 -- if no place has a Receive, and if one is set

@@ -160,7 +160,8 @@ IsLastMissed-from_last set t m high (Some r) message place end undelivered below
   until = l.until
 
 -- so it is what a summary keeps of the message
-pub IsLastMissed-summary : (set : ℕ) (t : Recorded) → IsTrace t → (s : Summary) → AreLastReceives set t 0 t.last s.last → (m : Message) → IsSent set t 0 t.last m → IsLastMissed set t m (missed s.last m)
+pub IsLastMissed-summary : (set : ℕ) (t : Recorded) → IsTrace t → (s : Summary) → AreLastReceives set t 0 t.last s.last
+    → (m : Message) → IsSent set t 0 t.last m → IsLastMissed set t m (missed s.last m)
 IsLastMissed-summary set t sound s a m sent = go m.fate sent.fate where
   inside : (y : ℕ) → IsMiss set t (record { sent = m.sent.no; missed = y }) → tick_of t y < t.last + 1
   inside y i = let l = (sound.time.inside y _ i.receive.step).1 in omega (arith, l)
@@ -209,7 +210,8 @@ IsListed-message set t sound s a x b m =
     record { place = at.0; message = own; at = at.1; no = refl; tick = refl }
 
 -- numbers rise as the places do
-numbers_rise : (set : ℕ) (t : Recorded) → IsTrace t → (s : Summary) → Suffices set t s → (i j : ℕ) (x y : Message) → slice_get s.sent i ≡ Some x → slice_get s.sent j ≡ Some y → i < j → x.sent.no < y.sent.no
+numbers_rise : (set : ℕ) (t : Recorded) → IsTrace t → (s : Summary) → Suffices set t s → (i j : ℕ) (x y : Message)
+    → slice_get s.sent i ≡ Some x → slice_get s.sent j ≡ Some y → i < j → x.sent.no < y.sent.no
 numbers_rise set t sound s a i j x y h k l = elim (Rises-slices SentBefore s.sent i j x y a.sent_rising h k l) [
   | inr e ↦ e.1
   | inl e ↦ (
@@ -226,7 +228,8 @@ number_after set t sound s a (suc n) j y h l = go (slice_get s.sent n) refl wher
   go None e = (step_at_within t.steps y.sent.no _ (a.sent_sound y (Contains-slice_get s.sent j y h)).message.sent).0
   go (Some x) e = numbers_rise set t sound s a n j x y e h (omega (arith, l))
 
-number_until : (set : ℕ) (t : Recorded) → IsTrace t → (s : Summary) → Suffices set t s → (n j : ℕ) (y : Message) → slice_get s.sent j ≡ Some y → n ≤ length s.sent → j < n → y.sent.no ≤ number_at s.sent n
+number_until : (set : ℕ) (t : Recorded) → IsTrace t → (s : Summary) → Suffices set t s → (n j : ℕ) (y : Message)
+    → slice_get s.sent j ≡ Some y → n ≤ length s.sent → j < n → y.sent.no ≤ number_at s.sent n
 number_until set t sound s a zero j y h long l = absurd (omega (arith, l))
 number_until set t sound s a (suc n) j y h long l =
     let at = slice_get-get_or s.sent n y (omega (arith, long)) in
@@ -243,8 +246,10 @@ number_until set t sound s a (suc n) j y h long l =
 up_to-inside : (end x : ℕ) → x ≤ end → up_to end x ≡ x
 up_to-inside end x l = grind (arith, l)
 
-with_missed-lowered : (set : ℕ) (t : Recorded) (end : ℕ) (m : Message) (level : Level) (o : Option Place) → end ≡ t.last → tick_of t m.sent.no ≡ m.sent.tick → 1 ≤ m.sent.no → KnowsMissesAfter set t m.sent.no level.delta level.miss → IsLastMissed set t m o
-    → KnowsMissesAfter set t (m.sent.no - 1) (with_missed end level m o).delta (with_missed end level m o).miss
+with_missed-lowered : (set : ℕ) (t : Recorded) (end : ℕ) (m : Message) (level : Level) (o : Option Place) → end ≡ t.last
+    → tick_of t m.sent.no ≡ m.sent.tick → 1 ≤ m.sent.no → KnowsMissesAfter set t m.sent.no level.delta level.miss
+    → IsLastMissed set t m o → KnowsMissesAfter set t (m.sent.no - 1) (with_missed end level m o).delta
+    (with_missed end level m o).miss
 with_missed-lowered set t end m level None last place low known is =
     let miss : Miss = record { sent = m.sent.no; missed = 0 } in
     let positive = after_positive set t m.sent.no level.delta level.miss known.named in
@@ -259,7 +264,8 @@ with_missed-lowered set t end m level (Some r) last place low known is =
     subst (λ n. KnowsMissesAfter set t (m.sent.no - 1) (with_miss level miss n).delta (with_miss level miss n).miss) long
     (MissesLowered-with_miss set t m.sent.no r.no level low known is.last).misses
 
-pub HasMissesFrom-back : (part : Summary) (j : ℕ) (m : Message) (level : Level) → slice_get part.sent j ≡ Some m → HasMissesFrom part (suc j) level → HasMissesFrom part j (with_missed part.to level m (missed part.last m))
+pub HasMissesFrom-back : (part : Summary) (j : ℕ) (m : Message) (level : Level) → slice_get part.sent j ≡ Some m
+    → HasMissesFrom part (suc j) level → HasMissesFrom part j (with_missed part.to level m (missed part.last m))
 HasMissesFrom-back part j m level at h = λ set t sound a.
     (let sent = a.sent_sound m (Contains-slice_get part.sent j m at) in
     let known = subst (λ o. KnowsMissesAfter set t (number_of o) level.delta level.miss) at (h set t sound a) in
@@ -301,8 +307,10 @@ HasMissesFrom-all part level d o set t sound a = rw (d, o) (record {
 })
 
 -- If the messages that are left are those before a tick, the misses are those from the tick on.
-pub KnowsMisses-from_left : (part : Summary) (g left : ℕ) (level : Level) → left ≤ length part.sent → SentFrom part.sent g left → ((x : Message) → last_at part.sent left ≡ Some x → x.sent.tick < g) → HasMissesFrom part left level
-    → (set : ℕ) (t : Recorded) → IsTrace t → Suffices set t part → KnowsMisses set t g level.delta level.miss
+pub KnowsMisses-from_left : (part : Summary) (g left : ℕ) (level : Level) → left ≤ length part.sent
+    → SentFrom part.sent g left → ((x : Message) → last_at part.sent left ≡ Some x → x.sent.tick < g)
+    → HasMissesFrom part left level → (set : ℕ) (t : Recorded) → IsTrace t → Suffices set t part
+    → KnowsMisses set t g level.delta level.miss
 KnowsMisses-from_left part g left level long sent_later earlier h set t sound a = KnowsMisses-from_number set t (number_at part.sent left) g level.delta level.miss to from
     (λ m n i j l. ticks_rise t sound.time m.sent n.sent _ _ i.message.sent j.message.sent l) (h set t sound a) where
       known : KnowsMissesAfter set t (number_at part.sent left) level.delta level.miss

@@ -18,7 +18,8 @@ map_kept f [] h = refl
 map_kept f (x ∷ xs) h = ap₂ (λ y ys. y ∷ ys) (sym (h 0 x (omega arith))) (map_kept f xs (λ i d l. h (suc i) d (omega (arith, l))))
 
 -- a function that changes one place at most
-pub map_at : {X : Type 0} (f : X → X) (xs : List X) (k : ℕ) (v : X) → k < length xs → ((d : X) → v ≡ f (get_or xs k d)) → ((i : ℕ) (d : X) → i < length xs → (i ≡ k → ⊥) → f (get_or xs i d) ≡ get_or xs i d) → set xs k v ≡ map f xs
+pub map_at : {X : Type 0} (f : X → X) (xs : List X) (k : ℕ) (v : X) → k < length xs → ((d : X) → v ≡ f (get_or xs k d))
+    → ((i : ℕ) (d : X) → i < length xs → (i ≡ k → ⊥) → f (get_or xs i d) ≡ get_or xs i d) → set xs k v ≡ map f xs
 map_at f [] k v l e h = absurd (let n : k < 0 = l in omega (arith, n))
 map_at f (x ∷ xs) zero v l e h = ap₂ (λ y ys. y ∷ ys) (e x) (map_kept f xs (λ i d n. h (suc i) d (omega (arith, n)) (λ z. omega (arith, z))))
 map_at f (x ∷ xs) (suc k) v l e h = ap₂ (λ y ys. y ∷ ys) (sym (h 0 x (omega arith) (λ z. omega (arith, z))))

@@ -19,7 +19,10 @@ ends_no_later a b h = grind (arith, h)
 pub parted_by_end : (silent : List Gap) (seam : ℕ) → Rises EndsBefore silent → IsPartitionedBy (λ w. nat_lt w.to seam) silent
 parted_by_end silent seam r i j d l h e = elim (cases_eq i j) [
   | inl same ↦ subst (λ k. nat_lt (get_or silent k d).to seam ≡ true) (sym same) e
-  | inr other ↦ lt-ltb (get_or silent i d).to seam (let a = ends_no_later (get_or silent i d) (get_or silent j d) (Rises-at EndsBefore silent i j d r (omega (arith, l, other)) h) in omega (arith, a, ltb-true (get_or silent j d).to seam e))
+  | inr other ↦ lt-ltb (get_or silent i d).to seam
+      (let a = ends_no_later (get_or silent i d) (get_or silent j d)
+      (Rises-at EndsBefore silent i j d r (omega (arith, l, other)) h) in
+      omega (arith, a, ltb-true (get_or silent j d).to seam e))
 ]
 
 -- one that ended before doesn't go on
@@ -53,5 +56,7 @@ join_from seam n left tail right joined h e f =
     let whole = take-append-drop n left in
     let kept = filter_past seam right (take n left) (drop n left) h in
     let reached = map_reach_past seam (take n left) (drop n left) right h in
-    let g : joined ≡ (take n left ++ filter (stops seam right) (drop n left)) ++ map (reach_back seam (drop n left)) right = subst (λ t. joined ≡ (take n left ++ filter (stops seam right) t) ++ map (reach_back seam t) right) e f in
+    let g : joined ≡ (take n left ++ filter (stops seam right) (drop n left))
+    ++ map (reach_back seam (drop n left)) right =
+    subst (λ t. joined ≡ (take n left ++ filter (stops seam right) t) ++ map (reach_back seam t) right) e f in
     g ∙ ap₂ (λ a b. a ++ b) (sym kept ∙ ap (λ xs. filter (stops seam right) xs) whole) (sym reached ∙ ap (λ xs. map (reach_back seam xs) right) whole)

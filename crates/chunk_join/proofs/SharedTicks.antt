@@ -171,7 +171,8 @@ IsDigestUpTo-cut set t cut k (Some d) sound is at h = λ w. (
     (omega (arith, at.last, own.0), omega arith, (own.2.0, IsSummary-cut set t cut k own.2.0 sound is at own.1 own.2.1, own.2.2)))
 
 -- the digest of ticks before the one that was last
-pub IsDigestUpTo-extended : (set : ℕ) (t seen : Recorded) (k : ℕ) (digest : Option Summary) → IsTrace seen → Extends t seen → k ≤ seen.last - 1 → IsDigestUpTo set seen k digest → IsDigestUpTo set t k digest
+pub IsDigestUpTo-extended : (set : ℕ) (t seen : Recorded) (k : ℕ) (digest : Option Summary) → IsTrace seen
+    → Extends t seen → k ≤ seen.last - 1 → IsDigestUpTo set seen k digest → IsDigestUpTo set t k digest
 IsDigestUpTo-extended set t seen k None w e l h = λ sound. h w
 IsDigestUpTo-extended set t seen k (Some d) w e l h = λ sound. extended sound (h w) where
   extended : (sound : IsTrace t) → IsDigestOf (record { set = set; trace = seen; sound = w }) 0 k (Some d) → IsDigestOf (record { set = set; trace = t; sound = sound }) 0 k (Some d)
@@ -203,21 +204,30 @@ Extends-with_last seen tick forward = record {
   later = λ k y past at. (let end = (step_at_within seen.steps k y at).1 in absurd (omega (arith, end, past)));
 }
 
-closed_by : (set : ℕ) (t seen : Recorded) (k : ℕ) (digest : Option Summary) → IsTrace seen → Extends t seen → k ≤ seen.last - 1 → IsDigestUpTo set seen k digest → (k ≤ t.last - 1) × IsDigestUpTo set t k digest
+closed_by : (set : ℕ) (t seen : Recorded) (k : ℕ) (digest : Option Summary) → IsTrace seen → Extends t seen
+    → k ≤ seen.last - 1 → IsDigestUpTo set seen k digest → (k ≤ t.last - 1) × IsDigestUpTo set t k digest
 closed_by set t seen k digest w e l h = (omega (arith, e.last, l), IsDigestUpTo-extended set t seen k digest w e l h)
 
 -- what is known of a digest of closed ticks, once a step was pushed, or refused
-pub closed-pushed : {A E : Type 0} (set : ℕ) (seen new : Recorded) (k tick : ℕ) (x : Step) (digest : Option Summary) (r : Result A E) → IsTrace seen → OnOk r (new ≡ with_step seen tick x) → OnOk r (refusal_in seen tick x ≡ None) → OnErr r (new ≡ seen)
-    → k ≤ seen.last - 1 → IsDigestUpTo set seen k digest → (k ≤ new.last - 1) × IsDigestUpTo set new k digest
-closed-pushed set seen new k tick x digest (Ok a) w pushed none err l h = rw pushed (closed_by set (with_step seen tick x) seen k digest w (Extends-with_step seen tick x w.time (CanAppend-from_none seen tick x w none).forward) l h)
+pub closed-pushed : {A E : Type 0} (set : ℕ) (seen new : Recorded) (k tick : ℕ) (x : Step) (digest : Option Summary)
+    (r : Result A E) → IsTrace seen → OnOk r (new ≡ with_step seen tick x) → OnOk r (refusal_in seen tick x ≡ None)
+    → OnErr r (new ≡ seen) → k ≤ seen.last - 1 → IsDigestUpTo set seen k digest
+    → (k ≤ new.last - 1) × IsDigestUpTo set new k digest
+closed-pushed set seen new k tick x digest (Ok a) w pushed none err l h =
+    rw pushed (closed_by set (with_step seen tick x) seen k digest w
+    (Extends-with_step seen tick x w.time (CanAppend-from_none seen tick x w none).forward) l h)
 closed-pushed set seen new k tick x digest (Err e) w pushed none err l h = rw err (l, h)
 
 -- and once ticks passed, or not
-pub closed-passed : {A E : Type 0} (set : ℕ) (seen new : Recorded) (k tick : ℕ) (digest : Option Summary) (r : Result A E) → IsTrace seen → OnOk r (new ≡ with_last seen tick) → OnOk r ((seen.last ≤ tick) × (tick ≤ MAX_TICKS)) → OnErr r (new ≡ seen)
-    → k ≤ seen.last - 1 → IsDigestUpTo set seen k digest → (k ≤ new.last - 1) × IsDigestUpTo set new k digest
+pub closed-passed : {A E : Type 0} (set : ℕ) (seen new : Recorded) (k tick : ℕ) (digest : Option Summary)
+    (r : Result A E) → IsTrace seen → OnOk r (new ≡ with_last seen tick)
+    → OnOk r ((seen.last ≤ tick) × (tick ≤ MAX_TICKS)) → OnErr r (new ≡ seen) → k ≤ seen.last - 1
+    → IsDigestUpTo set seen k digest → (k ≤ new.last - 1) × IsDigestUpTo set new k digest
 closed-passed set seen new k tick digest (Ok a) w passed ok err l h = rw passed (closed_by set (with_last seen tick) seen k digest w (Extends-with_last seen tick ok.0) l h)
 closed-passed set seen new k tick digest (Err e) w passed ok err l h = rw err (l, h)
 
 -- the digests of ticks and of those that follow make one
-pub IsDigestUpTo-joined : (set : ℕ) (t : Recorded) (k l : ℕ) (left right : Option Summary) → IsDigestUpTo set t k left → ((sound : IsTrace t) → IsDigestOf (record { set = set; trace = t; sound = sound }) k l right) → IsDigestUpTo set t l (joined_digests left right)
+pub IsDigestUpTo-joined : (set : ℕ) (t : Recorded) (k l : ℕ) (left right : Option Summary) → IsDigestUpTo set t k left
+    → ((sound : IsTrace t) → IsDigestOf (record { set = set; trace = t; sound = sound }) k l right)
+    → IsDigestUpTo set t l (joined_digests left right)
 IsDigestUpTo-joined set t k l left right h more = λ sound. digests_join.part (record { set = set; trace = t; sound = sound }) 0 k l left right (h sound) (more sound)

@@ -92,7 +92,8 @@ ends_later v w (inr (inl l)) = (omega (arith, l), λ e. absurd (omega (arith, e,
 ends_later v w (inr (inr e)) = (omega (arith, e.0), λ f. omega (arith, e.1))
 
 -- A gap from tick g on is within the last silence that begins by then, or no longer than a later one.
-topped : (set : ℕ) (t : Recorded) (s : Summary) → Suffices set t s → (n g f : ℕ) (o : Option Gap) → n ≤ length s.silent → BeginAfter s.silent g n → KnowsGaps set t (g + 1) f o → (u : Gap) → IsGap set t u → u.from ≡ g
+topped : (set : ℕ) (t : Recorded) (s : Summary) → Suffices set t s → (n g f : ℕ) (o : Option Gap) → n ≤ length s.silent
+    → BeginAfter s.silent g n → KnowsGaps set t (g + 1) f o → (u : Gap) → IsGap set t u → u.from ≡ g
     → ((w : Gap) × (last_at s.silent n ≡ Some w) × IsTopped w u) ⊎ (u.to + 1 < g + f)
 topped set t s a n g f o long later known u gap from = elim (cases_lt g c.by.from) [
   | inl beyond ↦ inr (
@@ -138,8 +139,9 @@ topped set t s a n g f o long later known u gap from = elim (cases_lt g c.by.fro
       )
 
 -- The last silence that begins by tick g has the longest gap from g on, or that gap is no longer than a later one.
-IsLongestOver-top : (set : ℕ) (t : Recorded) (s : Summary) → Suffices set t s → (n g f : ℕ) (o : Option Gap) (w : Gap) → 1 ≤ g → n ≤ length s.silent → BeginAfter s.silent g n → KnowsGaps set t (g + 1) f o → last_at s.silent n ≡ Some w → w.from ≤ g
-    → IsLongestOver set t g f w.proc (w.to + 1)
+IsLongestOver-top : (set : ℕ) (t : Recorded) (s : Summary) → Suffices set t s → (n g f : ℕ) (o : Option Gap) (w : Gap)
+    → 1 ≤ g → n ≤ length s.silent → BeginAfter s.silent g n → KnowsGaps set t (g + 1) f o → last_at s.silent n ≡ Some w
+    → w.from ≤ g → IsLongestOver set t g f w.proc (w.to + 1)
 IsLongestOver-top set t s a n g f o w start long later known top from = record {
   gap = λ l. record {
     member = own.gap.member;
@@ -164,7 +166,9 @@ IsLongestOver-top set t s a n g f o w start long later known top from = record {
   is u h = subst (λ v. IsTopped v u) (same_Some h.0 w (sym h.1 ∙ top)) h.2
 
 -- If no silence begins by then, each gap from g on is shorter than that.
-IsLongestOver-none : (set : ℕ) (t : Recorded) (s : Summary) → Suffices set t s → (n g f : ℕ) (o : Option Gap) → n ≤ length s.silent → BeginAfter s.silent g n → KnowsGaps set t (g + 1) f o → last_at s.silent n ≡ None → IsLongestOver set t g f 0 g
+IsLongestOver-none : (set : ℕ) (t : Recorded) (s : Summary) → Suffices set t s → (n g f : ℕ) (o : Option Gap)
+    → n ≤ length s.silent → BeginAfter s.silent g n → KnowsGaps set t (g + 1) f o → last_at s.silent n ≡ None
+    → IsLongestOver set t g f 0 g
 IsLongestOver-none set t s a n g f o long later known top = record {
   gap = λ l. absurd (omega (arith, l));
   longest = λ u i e. elim (topped set t s a n g f o long later known u i e) [
@@ -182,5 +186,7 @@ pub GapsLowered-with_silence : (set : ℕ) (t : Recorded) (s : Summary) → Suff
     → ((w : Gap) → last_at s.silent n ≡ Some w → w.from ≤ g) → KnowsGaps set t (g + 1) level.phi level.gap → GapsLowered set t g level (with_silence level g (last_at s.silent n))
 GapsLowered-with_silence set t s a n g level start positive long later begun known = go (last_at s.silent n) refl where
   go : (o : Option Gap) → last_at s.silent n ≡ o → GapsLowered set t g level (with_silence level g o)
-  go None e = subst (λ (l : Level). GapsLowered set t g level l) (with_gap-none level 0 g positive) (GapsLowered-with_over set t g 0 g level (IsLongestOver-none set t s a n g level.phi level.gap long later known e) known)
+  go None e = subst (λ (l : Level). GapsLowered set t g level l) (with_gap-none level 0 g positive)
+      (GapsLowered-with_over set t g 0 g level
+      (IsLongestOver-none set t s a n g level.phi level.gap long later known e) known)
   go (Some w) e = GapsLowered-with_over set t g w.proc (w.to + 1) level (IsLongestOver-top set t s a n g level.phi level.gap w start long later known e (begun w e)) known

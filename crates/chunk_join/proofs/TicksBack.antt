@@ -17,7 +17,8 @@ use Rattle.chunk_join.proofs.MessagesBack.{StandsBefore-through, HasMissesFrom-a
 use Rattle.chunk_join.proofs.SilencesBack.{StandsBefore-with_silence, GapsLowered-with_silence}
 
 -- Before any tick is scanned there is no level.
-pub IsGoneOver-none : (part : Summary) (level : Level) → level.delta ≡ 1 → level.miss ≡ None → level.phi ≡ 1 → level.gap ≡ None → IsGoneOver part (part.to + 1) (length part.sent) (length part.silent) level []
+pub IsGoneOver-none : (part : Summary) (level : Level) → level.delta ≡ 1 → level.miss ≡ None → level.phi ≡ 1
+    → level.gap ≡ None → IsGoneOver part (part.to + 1) (length part.sent) (length part.silent) level []
 IsGoneOver-none part level d m f w = record {
   count = let e : 0 + (part.to + 1) ≡ part.to + 1 = omega arith in e;
   messages_within = omega arith;
@@ -97,7 +98,9 @@ with_silence-short level g None positive h = refl
 with_silence-short level g (Some w) positive h = let short = h w refl in grind (arith, short, positive)
 
 -- if it is quiet, the level of the next tick is that of the tick
-pub IsGoneOver-quiet : (part : Summary) (x low m s : ℕ) (level : Level) (levels : List Level) → low ≤ x → IsGoneOver part (x + 1) m s level levels → IsQuietFrom part low m s level.phi → IsGoneOver part x m s level (level ∷ levels)
+pub IsGoneOver-quiet : (part : Summary) (x low m s : ℕ) (level : Level) (levels : List Level) → low ≤ x
+    → IsGoneOver part (x + 1) m s level levels → IsQuietFrom part low m s level.phi
+    → IsGoneOver part x m s level (level ∷ levels)
 IsGoneOver-quiet part x low m s level levels above known quiet =
     let start = quiet.start in
     subst (λ (l : Level). IsGoneOver part x m s l (l ∷ levels))
@@ -117,7 +120,9 @@ IsGoneOver-quiet part x low m s level levels above known quiet =
     })).known
 
 -- so the levels of ticks down to which it is quiet are that of the tick after them
-pub IsGoneOver-repeated : (part : Summary) (k low m s : ℕ) (level : Level) (levels : List Level) → IsGoneOver part (low + k) m s level (level ∷ levels) → IsQuietFrom part low m s level.phi → IsGoneOver part low m s level (repeated k (level ∷ levels))
+pub IsGoneOver-repeated : (part : Summary) (k low m s : ℕ) (level : Level) (levels : List Level)
+    → IsGoneOver part (low + k) m s level (level ∷ levels) → IsQuietFrom part low m s level.phi
+    → IsGoneOver part low m s level (repeated k (level ∷ levels))
 IsGoneOver-repeated part k low m s level levels known quiet = down k low (omega arith) known where
   down : (n x : ℕ) → low ≤ x → IsGoneOver part (x + n) m s level (level ∷ levels) → IsGoneOver part x m s level (replicate n level ++ level ∷ levels)
   down zero x above here = let same : x + 0 ≡ x = omega arith in rw same at here

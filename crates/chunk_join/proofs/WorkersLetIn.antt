@@ -32,7 +32,8 @@ on_held (Ok x) P Q h p = tt
 on_held (Err e) P Q h p = λ is. h (p is)
 
 -- a thread that wasn't started holds nobody back: one of the others was held
-pub unstarted_held : {X : Type 0} (others : Result X Stop) (stop : Stop) (P : Type 0) → (stop ≡ stopped.Start) ⊎ (others ≡ Err stop) → IfErr others (λ s. s ≡ stopped.Held → P) → stop ≡ stopped.Held → P
+pub unstarted_held : {X : Type 0} (others : Result X Stop) (stop : Stop) (P : Type 0)
+    → (stop ≡ stopped.Start) ⊎ (others ≡ Err stop) → IfErr others (λ s. s ≡ stopped.Held → P) → stop ≡ stopped.Held → P
 unstarted_held others stop P cause held is = elim cause [
   | inl start ↦ absurd (held_is_no_start (sym is ∙ start))
   | inr own ↦ (let before : stop ≡ stopped.Held → P = subst (λ x. IfErr x (λ s. s ≡ stopped.Held → P)) own held in before is)
@@ -132,7 +133,9 @@ module _ {T G : Type 0} (lets : G → ℕ → Bool → Type 0) where
       held = more_held threads all right more thread rest was kept cause;
     }
 
-    pub AreHeard-all : (threads : List (PromisedHandle T (DigestOf G))) (all : Result X Stop) (rest : List (PromisedHandle T (DigestOf G))) → AreHeard threads all rest → length rest ≡ 0 → OnOk all (AreAnswered lets threads)
+    pub AreHeard-all : (threads : List (PromisedHandle T (DigestOf G))) (all : Result X Stop)
+        (rest : List (PromisedHandle T (DigestOf G))) → AreHeard threads all rest → length rest ≡ 0
+        → OnOk all (AreAnswered lets threads)
     AreHeard-all threads (Ok a) rest was none = λ k thread at.
         (let e : was.done ≡ length threads = omega (arith, was.count, none) in
         was.entered k (subst (λ n. k < n) (sym e) (slice_get_within threads k thread at)) thread at)

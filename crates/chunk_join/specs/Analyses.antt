@@ -1,5 +1,6 @@
 -- A trace that several workers summarise, each its share of the ticks (own).
-use Rattle.std.specs.Prelude.{ℕ, ◌≡◌, ◌+◌, ◌-◌, ◌*◌, ◌/◌, ◌<◌, ◌≤◌, ◌⊎◌, Bool, true, false, List, Option, slice_get, Some, Result, Ok, Err}
+use Rattle.std.specs.Prelude.{ℕ, ◌≡◌, ◌+◌, ◌-◌, ◌*◌, ◌/◌, ◌<◌, ◌≤◌, ◌⊎◌, Bool, true}
+use Rattle.std.specs.Prelude.{false, List, Option, slice_get, Some, Result, Ok, Err}
 use Rattle.std.specs.declared.thread.PromisedHandle.{PromisedHandle}
 use Rattle.step_trace.specs.Traces.{Recorded}
 use Rattle.step_trace.specs.Ticks.{IsTrace}
@@ -23,7 +24,8 @@ cut ticks workers w = w * ticks / workers
 
 -- the digest of this set and trace from cut i to cut j
 abbrev pub IsDigestBetween : ℕ → Recorded → ℕ → ℕ → Option Summary → Type 0
-IsDigestBetween set trace i j digest = (sound : IsTrace trace) → IsDigestOf (record { set = set; trace = trace; sound = sound }) i j digest
+IsDigestBetween set trace i j digest = (sound : IsTrace trace)
+    → IsDigestOf (record { set = set; trace = trace; sound = sound }) i j digest
 
 -- the share of worker w, of so many ticks and workers: those from the one after the share before
 pub record IsShare (ticks workers w : ℕ) (share : Share) : Type 0 where
@@ -49,7 +51,8 @@ was_let_in (Err stopped.Start) = true
 was_let_in (Err stopped.Memory) = true
 
 -- worker w promises the digest of its share of the trace, and what the gate answers it
-pub record IsPromised {G : Type 0} (set : ℕ) (trace : Recorded) (gate : G) (workers w : ℕ) (promise : DigestOf G) : Type 0 where
+pub record IsPromised {G : Type 0} (set : ℕ) (trace : Recorded) (gate : G) (workers w : ℕ)
+    (promise : DigestOf G) : Type 0 where
   pub members : promise.set ≡ set
   pub trace_is : promise.trace.value ≡ trace
   pub share : IsShare trace.last workers w promise.share
@@ -58,7 +61,8 @@ pub record IsPromised {G : Type 0} (set : ℕ) (trace : Recorded) (gate : G) (wo
 
 -- these threads promise the digests of the workers from the first on, in their order
 abbrev pub ArePromised : {T G : Type 0} → ℕ → Recorded → G → ℕ → List (PromisedHandle T (DigestOf G)) → Type 0
-ArePromised set trace gate workers threads = (k : ℕ) (thread : PromisedHandle _ (DigestOf _)) → slice_get threads k ≡ Some thread → IsPromised set trace gate workers (k + 1) thread.promise
+ArePromised set trace gate workers threads = (k : ℕ) (thread : PromisedHandle _ (DigestOf _))
+    → slice_get threads k ≡ Some thread → IsPromised set trace gate workers (k + 1) thread.promise
 
 -- the gate may answer the worker of a thread so
 abbrev pub IsAnswered : {T G : Type 0} → (G → ℕ → Bool → Type 0) → PromisedHandle T (DigestOf G) → Bool → Type 0
@@ -66,10 +70,12 @@ IsAnswered lets thread answer = lets thread.promise.gate.value thread.promise.wo
 
 -- it may let in each of these threads' workers
 abbrev pub AreAnswered : {T G : Type 0} → (G → ℕ → Bool → Type 0) → List (PromisedHandle T (DigestOf G)) → Type 0
-AreAnswered lets threads = (k : ℕ) (thread : PromisedHandle _ (DigestOf _)) → slice_get threads k ≡ Some thread → IsAnswered lets thread true
+AreAnswered lets threads = (k : ℕ) (thread : PromisedHandle _ (DigestOf _)) → slice_get threads k ≡ Some thread
+    → IsAnswered lets thread true
 
 -- It may hold the worker of one of these threads back.
-pub record IsOneHeld {T G : Type 0} (lets : G → ℕ → Bool → Type 0) (threads : List (PromisedHandle T (DigestOf G))) : Type 0 where
+pub record IsOneHeld {T G : Type 0} (lets : G → ℕ → Bool → Type 0)
+    (threads : List (PromisedHandle T (DigestOf G))) : Type 0 where
   pub place : ℕ
   pub thread : PromisedHandle T (DigestOf G)
   pub at : slice_get threads place ≡ Some thread

@@ -1,6 +1,7 @@
 -- What passes over the steps of a block of ticks have found so far (own). The block begins after cut i; a pass by
 -- rising numbers has scanned the steps up to number k.
-use Rattle.std.specs.Prelude.{ℕ, ◌≡◌, ◌+◌, ◌-◌, ◌<◌, ◌≤◌, ◌⊎◌, List, [], Option, Some, None, Contains, length, slice_index_or, IsTrue, false, Bool, find, map, ◌==◌, if◌then◌else◌}
+use Rattle.std.specs.Prelude.{ℕ, ◌≡◌, ◌+◌, ◌-◌, ◌<◌, ◌≤◌, ◌⊎◌, List, [], Option, Some, None, Contains, length}
+use Rattle.std.specs.Prelude.{slice_index_or, IsTrue, false, Bool, find, map, ◌==◌, if◌then◌else◌}
 use Rattle.step_trace.specs.declared.processors.TheConstants.{MAX_MEMBER}
 use Rattle.step_trace.specs.declared.rows.Gap.{Gap}
 use Rattle.step_trace.specs.declared.steps.Step.{Step}
@@ -15,7 +16,8 @@ use Rattle.chunk_join.specs.declared.summaries.Fate.TheVariants.{Open, Taken}
 use Rattle.chunk_join.specs.declared.summaries.Fate.{Fate}
 use Rattle.chunk_join.specs.declared.summaries.Message.{Message}
 use Rattle.chunk_join.specs.declared.summaries.Take.{Take}
-use Rattle.chunk_join.specs.Summaries.{IsPlace, IsAnyTake, IsLongest, IsListing, SentBefore, TakenBefore, EndsBefore, last_of}
+use Rattle.chunk_join.specs.Summaries.{IsPlace, IsAnyTake, IsLongest, IsListing, SentBefore}
+use Rattle.chunk_join.specs.Summaries.{TakenBefore, EndsBefore, last_of}
 use Rattle.chunk_join.specs.Parts.{after}
 
 -- a message between members that is sent after cut i by a step up to k, without its fate
@@ -45,14 +47,16 @@ fate_after t s f = if takes_no s t then Taken (after t.sent t.before) else f
 
 -- the list has the fates of the messages after number `before`, by these takes
 pub record AreFates (before : ℕ) (taken : List Take) (fates : List Fate) : Type 0 where
-  pub each : (s : ℕ) → before < s → s - before - 1 < length fates → slice_index_or fates (s - before - 1) Open ≡ fate_by (find (takes_no s) taken)
+  pub each : (s : ℕ) → before < s → s - before - 1 < length fates
+      → slice_index_or fates (s - before - 1) Open ≡ fate_by (find (takes_no s) taken)
 
 -- a message with the fate that the list has for it
 abbrev pub fated : ℕ → List Fate → Message → Message
 fated before fates m = record { sent = m.sent; to = m.to; fate = slice_index_or fates (m.sent.no - before - 1) Open }
 
 -- the messages up to k with these fates
-pub record AreFated (set : ℕ) (trace : Recorded) (i before k : ℕ) (fates : List Fate) (sent : List Message) : Type 0 where
+pub record AreFated (set : ℕ) (trace : Recorded) (i before k : ℕ) (fates : List Fate)
+    (sent : List Message) : Type 0 where
   pub opens : List Message
   pub listing : AreOpenBy set trace i k opens
   pub same : sent ≡ map (fated before fates) opens
@@ -94,7 +98,8 @@ ids_at steps k = ids_of (step_at steps k)
 
 -- the take of message s by this Receive of p
 abbrev pub take_of : Recorded → Place → ℕ → Option Place → ℕ → Take
-take_of trace at p before s = record { at = at; by = p; sent = record { no = s; tick = tick_of trace s }; before = before }
+take_of trace at p before s =
+    record { at = at; by = p; sent = record { no = s; tick = tick_of trace s }; before = before }
 
 -- the member whose step this is, or none
 abbrev pub IsMemberAt : ℕ → List Step → ℕ → Option ℕ → Type 0

@@ -8,7 +8,8 @@ use Rattle.chunk_join.specs.declared.summaries.Place.{Place}
 use Rattle.chunk_join.specs.declared.summaries.Fate.{Fate}
 use Rattle.chunk_join.specs.declared.summaries.Fate.TheVariants.{Open, Taken}
 use Rattle.chunk_join.specs.declared.summaries.Message.{Message}
-use Rattle.chunk_join.specs.Summaries.{Summary, IsSummary, Whole, IsPartBy, IsListing, IsSent, IsLongest, SentBefore, EndsBefore}
+use Rattle.chunk_join.specs.Summaries.{Summary, IsSummary, Whole, IsPartBy, IsListing}
+use Rattle.chunk_join.specs.Summaries.{IsSent, IsLongest, SentBefore, EndsBefore}
 use Rattle.chunk_join.specs.Parts.{joined_parts, joined_by}
 use Rattle.chunk_join.specs.Thinning.{thinned, IsUndominated}
 
@@ -67,7 +68,8 @@ joined_digests = joined_by (λ l r. digest (joined_parts l r))
 -- undominated ones.
 pub record HasUndominated (set : ℕ) (trace : Recorded) (i j : ℕ) (d : Summary) : Type 0 where
   pub sent : IsListing SentBefore (IsUndominated SentBefore is_open miss_long (IsSent set trace i j)) d.sent
-  pub silent : IsListing EndsBefore (IsUndominated EndsBefore (reaches_edge (i + 1) j) gap_long (IsLongest set trace i j)) d.silent
+  pub silent : IsListing EndsBefore
+      (IsUndominated EndsBefore (reaches_edge (i + 1) j) gap_long (IsLongest set trace i j)) d.silent
 
 -- so of a part that may be empty
 abbrev pub KeepsUndominated : ℕ → Recorded → ℕ → ℕ → Option Summary → Type 0

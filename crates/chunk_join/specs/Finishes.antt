@@ -1,6 +1,7 @@
 -- The level of a tick from that of the next one, by what a summary keeps (own). A part's lists are scanned from the
 -- back, with a number of entries left.
-use Rattle.std.specs.Prelude.{ℕ, ◌≡◌, ◌+◌, ◌-◌, ◌<◌, ◌≤◌, List, length, Option, Some, None, slice_get, suc, zero, if◌then◌else◌, nat_le}
+use Rattle.std.specs.Prelude.{ℕ, ◌≡◌, ◌+◌, ◌-◌, ◌<◌, ◌≤◌, List, length, Option, Some}
+use Rattle.std.specs.Prelude.{None, slice_get, suc, zero, if◌then◌else◌, nat_le}
 use Rattle.step_trace.specs.declared.rows.Gap.{Gap}
 use Rattle.step_trace.specs.Ticks.{IsTrace}
 use Rattle.step_trace.specs.Traces.{Recorded}
@@ -23,7 +24,8 @@ BeginsWithFirst (Some s) = s.from ≡ 1
 
 -- these are the levels of the trace as if it ended at tick k
 abbrev pub AreLevelsUntil : Whole → ℕ → List Level → Type 0
-AreLevelsUntil whole k levels = (cut : Recorded) → IsTrace cut → IsCutAt whole.trace k cut → AreLevels whole.set cut levels
+AreLevelsUntil whole k levels = (cut : Recorded) → IsTrace cut → IsCutAt whole.trace k cut
+    → AreLevels whole.set cut levels
 
 -- the last of the first n
 abbrev pub last_at : {X : Type 0} → List X → ℕ → Option X
@@ -45,7 +47,8 @@ up_to end x = if nat_le x end then x else end
 -- the level, with this miss of the message; no miss ends after the part
 abbrev pub with_missed : ℕ → Level → Message → Option Place → Level
 with_missed end level m None = level
-with_missed end level m (Some r) = with_miss level (record { sent = m.sent.no; missed = r.no }) (up_to end r.tick - m.sent.tick)
+with_missed end level m (Some r) = with_miss level (record { sent = m.sent.no; missed = r.no })
+    (up_to end r.tick - m.sent.tick)
 
 -- the level, with the gap that this silence has from tick g on
 abbrev pub with_silence : Level → ℕ → Option Gap → Level
@@ -70,7 +73,8 @@ BeginAfter silent g left = (k : ℕ) (w : Gap) → left ≤ k → slice_get sile
 
 -- If the part is a whole trace, the level's misses are those of its messages from number `left` on.
 abbrev pub HasMissesFrom : Summary → ℕ → Level → Type 0
-HasMissesFrom part left level = (set : ℕ) (trace : Recorded) → IsTrace trace → Suffices set trace part → KnowsMissesAfter set trace (number_at part.sent left) level.delta level.miss
+HasMissesFrom part left level = (set : ℕ) (trace : Recorded) → IsTrace trace → Suffices set trace part
+    → KnowsMissesAfter set trace (number_at part.sent left) level.delta level.miss
 
 -- going from so many messages left to fewer keeps that
 abbrev pub KeepsMisses : Summary → ℕ → Level → ℕ → Level → Type 0
@@ -78,7 +82,8 @@ KeepsMisses part count old left new = HasMissesFrom part count old → HasMisses
 
 -- If it is a whole trace, the level's gaps and the levels so far are those from tick g on.
 pub record HasTicksFrom (part : Summary) (g : ℕ) (level : Level) (levels : List Level) : Type 0 where
-  pub gaps : (set : ℕ) (trace : Recorded) → IsTrace trace → Suffices set trace part → KnowsGaps set trace g level.phi level.gap
+  pub gaps : (set : ℕ) (trace : Recorded) → IsTrace trace → Suffices set trace part
+      → KnowsGaps set trace g level.phi level.gap
   pub each : (set : ℕ) (trace : Recorded) → IsTrace trace → Suffices set trace part → AreLevelsFrom set trace g levels
 
 -- From tick g on, down to which this level goes, neither the messages nor the silences that are left give another.

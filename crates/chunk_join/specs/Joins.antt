@@ -5,7 +5,8 @@ use Rattle.chunk_join.specs.declared.joins.Why.{Why}
 use Rattle.chunk_join.specs.declared.joins.Why.TheVariants.{NotAdjacent, OtherSet, Memory}
 
 -- What joining keeps. `refusal` is the first reason against joining two values.
-pub record JoinedLaws {M W : Type 0} (IsPart : W → ℕ → ℕ → M → Type 0) (empty : M) (refusal : M → M → Option Why) (joined : M → M → M) : Type 0 where
+pub record JoinedLaws {M W : Type 0} (IsPart : W → ℕ → ℕ → M → Type 0) (empty : M) (refusal : M → M → Option Why)
+    (joined : M → M → M) : Type 0 where
   -- the empty value changes nothing
   pub left_unit : (x : M) → joined empty x ≡ x
   pub right_unit : (x : M) → joined x empty ≡ x
@@ -43,4 +44,5 @@ IsRefusal OtherSet first = first ≡ Some OtherSet
 -- the answer is a refusal to join one of them to those before it, which fit
 abbrev pub RefusesAfter : {M : Type 0} → (M → M → Option Why) → (M → M → M) → Why → M → List M → Type 0
 RefusesAfter refusal joined why all [] = ⊥
-RefusesAfter refusal joined why all (x ∷ xs) = IsRefusal why (refusal all x) ⊎ ((refusal all x ≡ None) × RefusesAfter refusal joined why (joined all x) xs)
+RefusesAfter refusal joined why all (x ∷ xs) = IsRefusal why (refusal all x)
+    ⊎ ((refusal all x ≡ None) × RefusesAfter refusal joined why (joined all x) xs)

@@ -1,5 +1,6 @@
 -- The summary of two parts that follow one another, from the summaries of both (own).
-use Rattle.std.specs.Prelude.{ℕ, ◌+◌, List, [], ◌∷◌, ◌++◌, Option, Some, None, Bool, not, ◌==◌, ◌&&◌, map, filter, find, nat_lt, if◌then◌else◌}
+use Rattle.std.specs.Prelude.{ℕ, ◌+◌, List, [], ◌∷◌, ◌++◌, Option, Some, None, Bool, not}
+use Rattle.std.specs.Prelude.{◌==◌, ◌&&◌, map, filter, find, nat_lt, if◌then◌else◌}
 use Rattle.std.specs.List.{list_any}
 use Rattle.step_trace.specs.declared.rows.Gap.{Gap}
 use Rattle.chunk_join.specs.declared.joins.Why.{Why}
@@ -27,7 +28,8 @@ comes_before a b = if a.tick == b.tick then nat_lt a.no b.no else nat_lt a.tick 
 -- the fate of a message of the left part, if the right part takes it like this or not at all
 abbrev pub settled_by : List (Option Place) → Message → Option Take → Message
 settled_by last m None = m
-settled_by last m (Some t) = record { sent = m.sent; to = m.to; fate = Taken (after m.sent (later_of (last_of last t.by) t.before)) }
+settled_by last m (Some t) =
+    record { sent = m.sent; to = m.to; fate = Taken (after m.sent (later_of (last_of last t.by) t.before)) }
 
 abbrev pub takes_of : Message → Take → Bool
 takes_of m t = t.sent.no == m.sent.no && t.sent.tick == m.sent.tick

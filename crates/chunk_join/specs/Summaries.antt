@@ -1,7 +1,8 @@
 -- The summary of a part of a trace, for a set of processors that count as correct (own). The part from cut i to cut j
 -- has the ticks x with i < x ≤ j. The summaries of adjacent parts are enough to find the summary of the part that they
 -- make up together.
-use Rattle.std.specs.Prelude.{ℕ, ◌≡◌, ◌+◌, ◌-◌, ◌<◌, ◌≤◌, ◌⊎◌, List, [], ◌∷◌, Option, Some, None, Contains, length, slice_index_or, IsTrue, false}
+use Rattle.std.specs.Prelude.{ℕ, ◌≡◌, ◌+◌, ◌-◌, ◌<◌, ◌≤◌, ◌⊎◌, List, [], ◌∷◌, Option, Some}
+use Rattle.std.specs.Prelude.{None, Contains, length, slice_index_or, IsTrue, false}
 use Rattle.step_trace.specs.declared.processors.TheConstants.{MAX_MEMBER}
 use Rattle.step_trace.specs.declared.traces.TheConstants.{MAX_TICKS}
 use Rattle.step_trace.specs.declared.rows.Gap.{Gap}
@@ -30,14 +31,16 @@ pub record IsLatestReceive (trace : Recorded) (q low high : ℕ) (r : Place) : T
 
 -- that Receive, or none if there is none
 abbrev pub IsLastReceive : Recorded → ℕ → ℕ → ℕ → Option Place → Type 0
-IsLastReceive trace q low high None = (y : ℕ) → IsReceiveOf trace.steps y q → low < tick_of trace y → tick_of trace y < high → ⊥
+IsLastReceive trace q low high None = (y : ℕ) → IsReceiveOf trace.steps y q → low < tick_of trace y
+    → tick_of trace y < high → ⊥
 IsLastReceive trace q low high (Some r) = IsLatestReceive trace q low high r
 
 -- Up to tick j message s to q is open if no Receive up to j takes it. If a Receive x takes it, the last miss is
 -- the last Receive of q after the Send and before x.
 abbrev pub IsFate : Recorded → Place → ℕ → ℕ → Fate → Type 0
 IsFate trace s q j Open = (x : ℕ) → TakesAt trace.steps x s.no → j < tick_of trace x
-IsFate trace s q j (Taken missed) = (x : ℕ) × TakesAt trace.steps x s.no × (tick_of trace x ≤ j) × IsLastReceive trace q s.tick (tick_of trace x) missed
+IsFate trace s q j (Taken missed) = (x : ℕ) × TakesAt trace.steps x s.no × (tick_of trace x ≤ j)
+    × IsLastReceive trace q s.tick (tick_of trace x) missed
 
 -- a message between members that is sent in the part, and its fate up to the part's end
 pub record IsSent (set : ℕ) (trace : Recorded) (i j : ℕ) (m : Message) : Type 0 where

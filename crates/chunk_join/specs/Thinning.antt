@@ -19,7 +19,8 @@ stays pending weight top x = pending x || nat_lt top (weight x)
 abbrev pub thinned : {X : Type 0} → (X → Bool) → (X → ℕ) → List X → List X
 thinned pending weight [] = []
 thinned pending weight (x ∷ xs) =
-    if stays pending weight (heaviest pending weight xs) x then x ∷ thinned pending weight xs else thinned pending weight xs
+    if stays pending weight (heaviest pending weight xs) x then x
+    ∷ thinned pending weight xs else thinned pending weight xs
 
 -- what is left after an element is looked at, with what is kept of the later ones
 abbrev pub kept_with : {X : Type 0} → (X → Bool) → (X → ℕ) → ℕ → X → List X → List X
@@ -27,6 +28,8 @@ kept_with pending weight top x rest = if stays pending weight top x then x ∷ r
 
 -- An element is undominated: it is meant, and is pending, or heavier than nothing and than each settled one that is
 -- meant and comes later.
-pub record IsUndominated {X : Type 0} (Before : X → X → Type 0) (pending : X → Bool) (weight : X → ℕ) (Is : X → Type 0) (x : X) : Type 0 where
+pub record IsUndominated {X : Type 0} (Before : X → X → Type 0) (pending : X → Bool) (weight : X → ℕ) (Is : X → Type 0)
+    (x : X) : Type 0 where
   pub meant : Is x
-  pub heavy : (pending x ≡ true) ⊎ ((0 < weight x) × ((y : X) → Is y → Before x y → pending y ≡ false → weight y < weight x))
+  pub heavy : (pending x ≡ true)
+      ⊎ ((0 < weight x) × ((y : X) → Is y → Before x y → pending y ≡ false → weight y < weight x))

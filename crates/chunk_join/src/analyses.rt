@@ -1,6 +1,7 @@
 //! The bounds of a trace, found by several threads.
 
-ghost use Rattle.std.specs.Prelude.{◌≡◌, ◌↔◌, ◌+◌, ◌-◌, ◌<◌, ◌≤◌, ◌⊎◌, ℕ, length, slice_get, Some, Err, IfOk, OnOk, IfErr, IsOk};
+ghost use Rattle.std.specs.Prelude.{◌≡◌, ◌↔◌, ◌+◌, ◌-◌, ◌<◌, ◌≤◌, ◌⊎◌, ℕ, length, slice_get};
+ghost use Rattle.std.specs.Prelude.{Some, Err, IfOk, OnOk, IfErr, IsOk};
 ghost use Rattle.step_trace.specs.declared.traces.TheConstants.{MAX_TICKS};
 ghost use Rattle.step_trace.specs.Ticks.{IsTrace};
 ghost use Rattle.step_trace.specs.Processors.{IsWithin};
@@ -9,7 +10,8 @@ ghost use Rattle.suffix_staircase.specs.Analysis.{AreLevels};
 ghost use Rattle.chunk_join.specs.declared.analyses.Share.{Share};
 ghost use Rattle.chunk_join.specs.declared.analyses.AnalyseError.{AnalyseError};
 ghost use Rattle.chunk_join.specs.declared.analyses.Stop.{Stop};
-ghost use Rattle.chunk_join.specs.Analyses.{AreAnswered, AreBadWorkers, AreLetIn, ArePromised, IsDigestBetween, IsHeldBack, IsOneHeld, IsShare, cut, error_of, gravity, was_let_in};
+ghost use Rattle.chunk_join.specs.Analyses.{AreAnswered, AreBadWorkers, AreLetIn, ArePromised, IsDigestBetween};
+ghost use Rattle.chunk_join.specs.Analyses.{IsHeldBack, IsOneHeld, IsShare, cut, error_of, gravity, was_let_in};
 
 use crate::digests::Digest;
 use crate::joins::Joined;
@@ -67,7 +69,9 @@ impl<G: Gate> Promise<Result<Digest, Stop>> for DigestOf<G> {
     ghost use Rattle.std.specs.Prelude.{◌-◌, IfOk};
     ghost use Rattle.chunk_join.specs.Analyses.{IsDigestBetween, was_let_in};
 
-    ghost kept_by = { λ promise result. IfOk result (λ digest. IsDigestBetween promise.set promise.trace.value (promise.share.from - 1) promise.share.to digest)
+    ghost kept_by = { λ promise result. IfOk result
+        (λ digest. IsDigestBetween promise.set promise.trace.value
+        (promise.share.from - 1) promise.share.to digest)
         × G.lets promise.gate.value promise.worker (was_let_in result) };
 }
 
@@ -87,9 +91,11 @@ pub fn analyse<R: Threads + Wait + Sync, G: Gate>(
     requires { IsWithin set trace.now.config.n }
     ensures stairs { IfOk result (λ stairs. AreLevels set trace.now stairs) }
     ensures ok { OnOk result (¬ AreBadWorkers workers) }
-    ensures workers { IfErr result (λ why. (why ≡ AnalyseError.BadWorkers) ↔ AreBadWorkers workers) }
+    ensures workers { IfErr result
+        (λ why. (why ≡ AnalyseError.BadWorkers) ↔ AreBadWorkers workers) }
     ensures entered { OnOk result (AreLetIn (G.lets gate.now) workers) }
-    ensures held { IfErr result (λ why. why ≡ AnalyseError.Held → IsHeldBack (G.lets gate.now) workers) }
+    ensures held { IfErr result (λ why. why ≡ AnalyseError.Held
+        → IsHeldBack (G.lets gate.now) workers) }
 {
     if workers == 0 || workers > MAX_WORKERS {
         return Err(AnalyseError::BadWorkers);
@@ -140,7 +146,8 @@ fn digest_of_all<R: Threads + Wait + Sync, G: Gate>(
     requires few { workers ≤ MAX_WORKERS }
     requires ticks { ticks ≡ trace.now.last }
     requires limit { ticks ≤ MAX_TICKS }
-    ensures digest { IfOk result (λ digest. IsDigestBetween set.now trace.now 0 trace.now.last digest) }
+    ensures digest { IfOk result
+        (λ digest. IsDigestBetween set.now trace.now 0 trace.now.last digest) }
     ensures entered { OnOk result (AreLetIn (G.lets gate.now) workers) }
     ensures held { IfErr result (λ stop. stop ≡ Stop.Held → IsHeldBack (G.lets gate.now) workers) }
 {
@@ -152,9 +159,12 @@ fn digest_of_all<R: Threads + Wait + Sync, G: Gate>(
             requires few { workers ≤ MAX_WORKERS }
             requires ticks { ticks ≡ trace.now.last }
             requires limit { ticks ≤ MAX_TICKS }
-            ensures digest { IfOk result (λ digest. IsDigestBetween set.entry.now trace.entry.now 0 trace.entry.now.last digest) }
+            ensures digest { IfOk result
+                (λ digest. IsDigestBetween set.entry.now trace.entry.now 0
+                trace.entry.now.last digest) }
             ensures entered { OnOk result (AreLetIn (G.lets gate.entry.now) workers) }
-            ensures held { IfErr result (λ stop. stop ≡ Stop.Held → IsHeldBack (G.lets gate.entry.now) workers) }
+            ensures held { IfErr result (λ stop. stop ≡ Stop.Held
+                → IsHeldBack (G.lets gate.entry.now) workers) }
         {
             let Ok(mut threads) = Vec::with_capacity(alloc, workers as usize) else {
                 return Err(Stop::Memory);
@@ -174,7 +184,9 @@ fn digest_of_all<R: Threads + Wait + Sync, G: Gate>(
                     requires low { 1 ≤ share.from }
                     requires order { share.from ≤ share.to + 1 }
                     requires high { share.to ≤ trace.now.last }
-                    ensures digest { IfOk result (λ digest. IsDigestBetween set.entry.now trace.entry.now (share.from - 1) share.to digest) }
+                    ensures digest { IfOk result
+                        (λ digest. IsDigestBetween set.entry.now trace.entry.now
+                        (share.from - 1) share.to digest) }
                     ensures entered { G.lets gate.entry.now worker (was_let_in result) }
                 { digest_of(alloc, trace, *set, share, gate, worker) };
                 let Ok(thread) = scope.spawn_with(promise, work) else {
@@ -217,7 +229,8 @@ fn digest_of<G: Gate>(
     requires low { 1 ≤ share.from }
     requires order { share.from ≤ share.to + 1 }
     requires high { share.to ≤ trace.now.last }
-    ensures digest { IfOk result (λ digest. IsDigestBetween set trace.now (share.from - 1) share.to digest) }
+    ensures digest { IfOk result
+        (λ digest. IsDigestBetween set trace.now (share.from - 1) share.to digest) }
     ensures entered { G.lets gate.now worker (was_let_in result) }
 {
     if !gate.enter(worker) {
@@ -234,7 +247,9 @@ fn joined<R: Threads, G: Gate>(
     rt: &R,
     threads: Vec<PromisedHandle<Result<Digest, Stop>, DigestOf<G>>>,
 ) -> Result<Digest, Stop>
-    ensures digest { IfOk result (λ digest. (set : ℕ) (trace : Recorded) (gate : G) (workers : ℕ) → 0 < workers → ArePromised set trace gate workers threads.items → IsDigestBetween set trace 0 (cut trace.last workers (length threads.items)) digest) }
+    ensures digest { IfOk result (λ digest. (set : ℕ) (trace : Recorded) (gate : G) (workers : ℕ)
+        → 0 < workers → ArePromised set trace gate workers threads.items
+        → IsDigestBetween set trace 0 (cut trace.last workers (length threads.items)) digest) }
     ensures entered { OnOk result (AreAnswered G.lets threads.items) }
     ensures held { IfErr result (λ stop. stop ≡ Stop.Held → IsOneHeld G.lets threads.items) }
 {
@@ -247,13 +262,16 @@ fn joined<R: Threads, G: Gate>(
 
 /// Two digests joined, or the gravest reason against it.
 fn both(left: Result<Digest, Stop>, right: Result<Digest, Stop>) -> Result<Digest, Stop>
-    ensures digest { IfOk result (λ digest. (set : ℕ) (trace : Recorded) (i j k : ℕ) → IfOk left (IsDigestBetween set trace i j) → IfOk right (IsDigestBetween set trace j k) → IsDigestBetween set trace i k digest) }
+    ensures digest { IfOk result (λ digest. (set : ℕ) (trace : Recorded) (i j k : ℕ)
+        → IfOk left (IsDigestBetween set trace i j) → IfOk right (IsDigestBetween set trace j k)
+        → IsDigestBetween set trace i k digest) }
     ensures ok { OnOk result (IsOk left × IsOk right) }
     ensures left { IfErr result (λ stop. IfErr left (λ one. gravity one ≤ gravity stop)) }
     ensures right { IfErr result (λ stop. IfErr right (λ other. gravity other ≤ gravity stop)) }
 
     // If both are digests, their join fails only if out of memory.
-    ensures cause { IfErr result (λ stop. (left ≡ Err stop) ⊎ (right ≡ Err stop) ⊎ (stop ≡ Stop.Memory)) }
+    ensures cause { IfErr result
+        (λ stop. (left ≡ Err stop) ⊎ (right ≡ Err stop) ⊎ (stop ≡ Stop.Memory)) }
 {
     match (left, right) {
         (Ok(left), Ok(right)) => match left.join(right) {

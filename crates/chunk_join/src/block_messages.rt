@@ -1,6 +1,7 @@
 //! The messages of a block of ticks that follow one another: what members send and take, by passes over its steps.
 
-ghost use Rattle.std.specs.Prelude.{◌≡◌, ◌-◌, ◌<◌, ◌≤◌, ℕ, slice_index_or, ◌++◌, length, map, filter, All, IfOk, OnOk, []};
+ghost use Rattle.std.specs.Prelude.{◌≡◌, ◌-◌, ◌<◌, ◌≤◌, ℕ, slice_index_or, ◌++◌};
+ghost use Rattle.std.specs.Prelude.{length, map, filter, All, IfOk, OnOk, []};
 ghost use Rattle.step_trace.specs.Ticks.{IsTrace, IsTimed};
 ghost use Rattle.chunk_join.specs.declared.summaries.Fate.TheVariants.{Open};
 ghost use Rattle.chunk_join.specs.TickSteps.{AreStepsBefore};
@@ -28,7 +29,8 @@ pub(crate) fn sent_in(
     requires order { before ≤ end }
     requires within { end ≤ length trace.now.steps }
     requires long { length fates.now ≡ end - before }
-    ensures { IfOk result (λ sent. AreFated set trace.now (from - 1) before end fates.now sent.items) }
+    ensures { IfOk result
+        (λ sent. AreFated set trace.now (from - 1) before end fates.now sent.items) }
 {
     let mut sent = Vec::new(alloc);
     for no in before..end {
@@ -64,7 +66,9 @@ pub(crate) fn fates_by(
 /// Notes a take of a message that has a place in this list.
 fn note_fate(fates: &mut Vec<Fate>, take: Take, before: u64)
     ensures long { length fates.new.items ≡ length fates.old.items }
-    ensures noted { (s : ℕ) → before < s → s - before - 1 < length fates.old.items → slice_index_or fates.new.items (s - before - 1) Open ≡ fate_after take s (slice_index_or fates.old.items (s - before - 1) Open) }
+    ensures noted { (s : ℕ) → before < s → s - before - 1 < length fates.old.items
+        → slice_index_or fates.new.items (s - before - 1) Open ≡ fate_after take s
+        (slice_index_or fates.old.items (s - before - 1) Open) }
 {
     let sent = u64::from(take.sent.no);
     if sent <= before {
@@ -122,7 +126,8 @@ fn append_takes(
     by: u64,
     before: Option<Place>,
 ) -> Result<(), AllocError>
-    ensures { OnOk result (taken.new.items ≡ taken.old.items ++ map (take_of trace.now at by before) (ids_at trace.now.steps at.no)) }
+    ensures { OnOk result (taken.new.items ≡ taken.old.items
+        ++ map (take_of trace.now at by before) (ids_at trace.now.steps at.no)) }
 {
     if let Some(step) = trace.step(u64::from(at.no)) {
         append_ids(taken, trace, at, by, before, step.act.ids())?;
@@ -141,7 +146,8 @@ fn append_ids(
 ) -> Result<(), AllocError>
     requires low { All (λ s. 1 ≤ s) ids.now }
     requires high { All (λ s. s ≤ length trace.now.steps) ids.now }
-    ensures { OnOk result (taken.new.items ≡ taken.old.items ++ map (take_of trace.now at by before) ids.now) }
+    ensures { OnOk result (taken.new.items ≡ taken.old.items
+        ++ map (take_of trace.now at by before) ids.now) }
 {
     for id in ids {
         taken.push(Take {

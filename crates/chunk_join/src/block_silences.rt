@@ -24,7 +24,8 @@ pub(crate) fn silences_in(
     requires order { from ≤ to }
     requires high { to ≤ trace.now.last }
     requires first { AreStepsBefore trace.now from before }
-    ensures { IfOk result (λ silent. IsListing EndsBefore (IsLongest set trace.now (from - 1) to) silent.items) }
+    ensures { IfOk result
+        (λ silent. IsListing EndsBefore (IsLongest set trace.now (from - 1) to) silent.items) }
 {
     let mut silent = Vec::new(alloc);
     let mut begun = vec![in alloc; from; MAX_MEMBER as usize + 1]?;
@@ -53,7 +54,9 @@ fn end_silences(
     requires high { span.tick ≤ trace.now.last }
     requires steps { AreStepsOf trace.now span.tick span.before span.end }
     ensures long { length begun.new.items ≡ MAX_MEMBER + 1 }
-    ensures ended { OnOk result ((i : ℕ) → i < span.tick → AreEnded set trace.now i span.tick span.end silent.old.items begun.old.items → AreEnded set trace.now i span.tick span.before silent.new.items begun.new.items) }
+    ensures ended { OnOk result ((i : ℕ) → i < span.tick
+        → AreEnded set trace.now i span.tick span.end silent.old.items begun.old.items
+        → AreEnded set trace.now i span.tick span.before silent.new.items begun.new.items) }
 {
     for no in (span.before..span.end).rev() {
         if let Some(proc) = member_at(trace, set, no + 1) {
@@ -92,7 +95,9 @@ fn append_tails(
     requires sound { IsTrace trace.now }
     requires long { length begun.now ≡ MAX_MEMBER + 1 }
     requires high { to ≤ trace.now.last }
-    ensures { OnOk result ((i : ℕ) → i < to → AreEnded set trace.now i (to + 1) (length trace.now.steps) silent.old.items begun.now → IsListing EndsBefore (IsLongest set trace.now i to) silent.new.items) }
+    ensures { OnOk result ((i : ℕ) → i < to
+        → AreEnded set trace.now i (to + 1) (length trace.now.steps) silent.old.items begun.now
+        → IsListing EndsBefore (IsLongest set trace.now i to) silent.new.items) }
 {
     for p in (1..MAX_MEMBER + 1).rev() {
         if set.contains(p) {

@@ -116,8 +116,11 @@ impl Digest {
         requires order { from ≤ to + 1 }
         requires high { to ≤ trace.now.last }
         ensures some { OnErr result (from ≤ to) }
-        ensures digest { IfOk result (λ digest. (sound : IsTrace trace.now) → IsDigestOf (record { set = set; trace = trace.now; sound = sound }) (from - 1) to digest) }
-        ensures keeps { IfOk result (λ digest. IsTrace trace.now → KeepsUndominated set trace.now (from - 1) to digest) }
+        ensures digest { IfOk result (λ digest. (sound : IsTrace trace.now)
+            → IsDigestOf (record { set = set; trace = trace.now; sound = sound })
+            (from - 1) to digest) }
+        ensures keeps { IfOk result (λ digest. IsTrace trace.now
+            → KeepsUndominated set trace.now (from - 1) to digest) }
     {
         let mut whole = Digest::unit();
         let mut next = from;
@@ -145,7 +148,9 @@ impl Digest {
     /// The stairs of a digest that begins with tick 1: those of `Stairs::of_trace`, if it is of the whole trace. The
     /// unit has no levels.
     pub(crate) fn finish(&self, alloc: Global) -> Result<Stairs, FinishError>
-        ensures whole { IfOk result (λ stairs. (whole : Whole) → IsDigestOf whole 0 whole.trace.last self.now → AreLevels whole.set whole.trace stairs) }
+        ensures whole { IfOk result (λ stairs. (whole : Whole)
+            → IsDigestOf whole 0 whole.trace.last self.now
+            → AreLevels whole.set whole.trace stairs) }
         ensures begins { OnOk result (BeginsWithFirst self.now) }
         ensures not_whole { IfErr result (λ why. (why ≡ NotWhole) ↔ ¬ BeginsWithFirst self.now) }
         ensures some { OnErr result (¬ (self.now ≡ None)) }
@@ -167,7 +172,9 @@ impl Digest {
     /// The levels from tick `from` on, of a digest of the ticks of a whole trace.
     pub(crate) fn last_stairs(&self, alloc: Global, from: u64) -> Result<Stairs, AllocError>
         requires { 1 ≤ from }
-        ensures { IfOk result (λ stairs. (whole : Whole) → IsDigestOf whole 0 whole.trace.last self.now → from ≤ whole.trace.last + 1 → AreLevelsFrom whole.set whole.trace from stairs) }
+        ensures { IfOk result (λ stairs. (whole : Whole)
+            → IsDigestOf whole 0 whole.trace.last self.now → from ≤ whole.trace.last + 1
+            → AreLevelsFrom whole.set whole.trace from stairs) }
     {
         match &self.part {
             None => Ok(StairBuilder::new(alloc).build()),
@@ -191,7 +198,8 @@ fn block_end(next: u64, to: u64) -> u64
 
 /// The digest of ticks and of those that follow.
 fn followed_by(left: Digest, right: Part) -> Result<Digest, AllocError>
-    ensures { IfOk result (λ both. (whole : Whole) (i j k : ℕ) → IsDigestOf whole i j left → IsDigestOf whole j k (Some right) → IsDigestOf whole i k both) }
+    ensures { IfOk result (λ both. (whole : Whole) (i j k : ℕ) → IsDigestOf whole i j left
+        → IsDigestOf whole j k (Some right) → IsDigestOf whole i k both) }
 {
     match left.join(Digest { part: Some(right) }) {
         Ok(both) => Ok(both),

@@ -1,6 +1,7 @@
 //! The stairs of a piece that begins with tick 1.
 
-ghost use Rattle.std.specs.Prelude.{◌≡◌, ◌+◌, ◌<◌, ◌≤◌, ◌↔◌, ℕ, length, Some, None, slice_get, IfOk, OnOk, OnErr, IfErr};
+ghost use Rattle.std.specs.Prelude.{◌≡◌, ◌+◌, ◌<◌, ◌≤◌, ◌↔◌, ℕ, length, Some, None};
+ghost use Rattle.std.specs.Prelude.{slice_get, IfOk, OnOk, OnErr, IfErr};
 ghost use Rattle.step_trace.specs.declared.rows.Gap.{Gap};
 ghost use Rattle.step_trace.specs.declared.traces.TheConstants.{MAX_TICKS};
 ghost use Rattle.step_trace.specs.Ticks.{IsTrace};
@@ -11,7 +12,8 @@ ghost use Rattle.chunk_join.specs.declared.summaries.Message.{Message};
 ghost use Rattle.chunk_join.specs.declared.finishes.FinishError.TheVariants.{NotWhole};
 ghost use Rattle.chunk_join.specs.Summaries.{Whole, IsPiece};
 ghost use Rattle.chunk_join.specs.Sufficient.{Suffices};
-ghost use Rattle.chunk_join.specs.Finishes.{BeginsWithFirst, AreLevelsUntil, last_at, missed, with_missed, with_silence, KeepsMisses, IsGoneOver, IsQuietFrom};
+ghost use Rattle.chunk_join.specs.Finishes.{BeginsWithFirst, AreLevelsUntil, last_at, missed, with_missed};
+ghost use Rattle.chunk_join.specs.Finishes.{with_silence, KeepsMisses, IsGoneOver, IsQuietFrom};
 
 use crate::parts::Part;
 use crate::pieces::Piece;
@@ -36,8 +38,10 @@ impl Piece {
     /// It takes time that grows with the piece's ticks, messages and silences. Of pieces that were joined though they
     /// are not of one trace it gives some stairs.
     pub fn finish(&self, alloc: Global) -> Result<Stairs, FinishError>
-        ensures stairs { IfOk result (λ stairs. (whole : Whole) (k : ℕ) → IsPiece whole 0 k self.now → AreLevelsUntil whole k stairs) }
-        ensures whole { IfOk result (λ stairs. (whole : Whole) → IsPiece whole 0 whole.trace.last self.now → AreLevels whole.set whole.trace stairs) }
+        ensures stairs { IfOk result (λ stairs. (whole : Whole) (k : ℕ) → IsPiece whole 0 k self.now
+            → AreLevelsUntil whole k stairs) }
+        ensures whole { IfOk result (λ stairs. (whole : Whole)
+            → IsPiece whole 0 whole.trace.last self.now → AreLevels whole.set whole.trace stairs) }
         ensures begins { OnOk result (BeginsWithFirst self.now) }
         ensures not_whole { IfErr result (λ why. (why ≡ NotWhole) ↔ ¬ BeginsWithFirst self.now) }
         ensures some { OnErr result (¬ (self.now ≡ None)) }
@@ -61,7 +65,9 @@ impl Piece {
 /// silences are scanned from the last ones back.
 pub(crate) fn stairs_of(alloc: Global, part: &Part, from: u64) -> Result<Stairs, AllocError>
     requires { 1 ≤ from }
-    ensures { IfOk result (λ stairs. (set : ℕ) (trace : Recorded) → IsTrace trace → Suffices set trace part.now → from ≤ trace.last + 1 → AreLevelsFrom set trace from stairs) }
+    ensures { IfOk result (λ stairs. (set : ℕ) (trace : Recorded) → IsTrace trace
+        → Suffices set trace part.now → from ≤ trace.last + 1
+        → AreLevelsFrom set trace from stairs) }
 {
     let mut builder = StairBuilder::new(alloc);
     let mut level = Level {
@@ -131,7 +137,8 @@ fn note_messages(level: &mut Level, part: &Part, count: usize, g: u64) -> usize
     ensures falling { StandsBefore level.new level.old }
     ensures phi { level.new.phi ≡ level.old.phi }
     ensures gap { level.new.gap ≡ level.old.gap }
-    ensures later { (k : ℕ) (m : Message) → result ≤ k → k < count → slice_get part.now.sent k ≡ Some m → g ≤ m.sent.tick }
+    ensures later { (k : ℕ) (m : Message) → result ≤ k → k < count
+        → slice_get part.now.sent k ≡ Some m → g ≤ m.sent.tick }
     ensures earlier { (m : Message) → last_at part.now.sent result ≡ Some m → m.sent.tick < g }
     ensures misses { KeepsMisses part.now count level.old result level.new }
 {
@@ -177,7 +184,8 @@ fn note_message(level: &mut Level, message: &Message, missed: Option<Place>, end
 fn begun_by(silent: &[Gap], count: usize, g: u64) -> usize
     requires { count ≤ length silent.now }
     ensures within { result ≤ count }
-    ensures later { (k : ℕ) (w : Gap) → result ≤ k → k < count → slice_get silent.now k ≡ Some w → g < w.from }
+    ensures later { (k : ℕ) (w : Gap) → result ≤ k → k < count → slice_get silent.now k ≡ Some w
+        → g < w.from }
     ensures begun { (w : Gap) → last_at silent.now result ≡ Some w → w.from ≤ g }
 {
     for k in (0..count).rev() {

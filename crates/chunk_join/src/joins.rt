@@ -69,9 +69,12 @@ pub trait Joined: Drop {
 pub fn join_all<J: Joined>(parts: Vec<J>) -> Result<J, Why>
     ensures ok { OnOk result (FitAfter J.refusal J.joined J.empty parts.items) }
     ensures value { IfOk result (λ whole. whole ≡ join_after J.joined J.empty parts.items) }
-    ensures part { IfOk result (λ x. (whole : J.Whole) (i k : ℕ) → AreParts J.IsPart J.empty whole i parts.items k → J.IsPart whole i k x) }
-    ensures refused { IfErr result (λ why. RefusesAfter J.refusal J.joined why J.empty parts.items) }
-    ensures fitting { IfErr result (λ why. (whole : J.Whole) (i k : ℕ) → AreParts J.IsPart J.empty whole i parts.items k → why ≡ Why.Memory) }
+    ensures part { IfOk result (λ x. (whole : J.Whole) (i k : ℕ)
+        → AreParts J.IsPart J.empty whole i parts.items k → J.IsPart whole i k x) }
+    ensures refused { IfErr result
+        (λ why. RefusesAfter J.refusal J.joined why J.empty parts.items) }
+    ensures fitting { IfErr result (λ why. (whole : J.Whole) (i k : ℕ)
+        → AreParts J.IsPart J.empty whole i parts.items k → why ≡ Why.Memory) }
 {
     let mut all = J::unit();
     for part in parts {

@@ -28,7 +28,9 @@ impl<G: Gate> Promise<Result<Stairs, Stop>> for StairsOf<G> {
     ghost use Rattle.suffix_staircase.specs.Analysis.{AreLevels};
     ghost use Rattle.chunk_join.specs.Analyses.{was_let_in};
 
-    ghost kept_by = { λ promise result. IfOk result (λ stairs. AreLevels promise.set promise.trace.value stairs) × G.lets promise.gate.value 1 (was_let_in result) };
+    ghost kept_by = { λ promise result. IfOk result
+        (λ stairs. AreLevels promise.set promise.trace.value stairs)
+        × G.lets promise.gate.value 1 (was_let_in result) };
 }
 
 /// The stairs of a trace, from one worker in a thread of its own.
@@ -49,7 +51,8 @@ pub(crate) fn stairs_by_one<R: Threads + Wait + Sync, G: Gate>(
         rt,
         |scope| -> Result<Stairs, Stop>
             requires { IsWithin set.now trace.now.config.n }
-            ensures stairs { IfOk result (λ stairs. AreLevels set.entry.now trace.entry.now stairs) }
+            ensures stairs { IfOk result
+                (λ stairs. AreLevels set.entry.now trace.entry.now stairs) }
             ensures entered { OnOk result (G.lets gate.entry.now 1 true) }
             ensures held { IfErr result (λ stop. stop ≡ Stop.Held → G.lets gate.entry.now 1 false) }
         {
@@ -60,7 +63,8 @@ pub(crate) fn stairs_by_one<R: Threads + Wait + Sync, G: Gate>(
             };
             let work = move || -> Result<Stairs, Stop>
                 requires { IsWithin set.now trace.now.config.n }
-                ensures stairs { IfOk result (λ stairs. AreLevels set.entry.now trace.entry.now stairs) }
+                ensures stairs { IfOk result
+                    (λ stairs. AreLevels set.entry.now trace.entry.now stairs) }
                 ensures entered { G.lets gate.entry.now 1 (was_let_in result) }
             { stairs_of(alloc, trace, *set, gate) };
             let Ok(thread) = scope.spawn_with(promise, work) else {

@@ -44,7 +44,8 @@ fn put_message(
     ensures low { k ≤ result }
     ensures high { result ≤ start }
     ensures front { take k sent.new ≡ take k sent.old }
-    ensures kept { drop result sent.new ≡ kept_with is_open miss_long longest message (drop start sent.old) }
+    ensures kept { drop result sent.new ≡ kept_with is_open miss_long longest message
+        (drop start sent.old) }
 {
     if !stays(longest, &message) {
         return start;

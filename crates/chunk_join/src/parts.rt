@@ -1,6 +1,7 @@
 //! The summary of a part of a trace that has at least one tick, and two that are joined.
 
-ghost use Rattle.std.specs.Prelude.{◌≡◌, ◌+◌, ◌++◌, ◌≤◌, ◌<◌, length, map, filter, drop, vec_len, vec_capacity, None, OnOk, IfOk, IfErr};
+ghost use Rattle.std.specs.Prelude.{◌≡◌, ◌+◌, ◌++◌, ◌≤◌, ◌<◌, length, map, filter, drop};
+ghost use Rattle.std.specs.Prelude.{vec_len, vec_capacity, None, OnOk, IfOk, IfErr};
 ghost use Rattle.chunk_join.specs.Joins.{IsRefusal};
 ghost use Rattle.chunk_join.specs.Parts.{parts_refusal, joined_parts, is_older, reach_take, later_each};
 
@@ -33,9 +34,27 @@ impl Model for Part {
 
     ghost Value = { Summary };
 
-    ghost view = { λ a. record { set = a.set; from = a.from; to = a.to; sent = a.sent.items; taken = a.taken.items; last = a.last.items; silent = a.silent.items } };
+    ghost view = { λ a.
+        record {
+          set = a.set;
+          from = a.from;
+          to = a.to;
+          sent = a.sent.items;
+          taken = a.taken.items;
+          last = a.last.items;
+          silent = a.silent.items;
+        } };
 
-    ghost invariant = { λ a. IsConsistent (record { set = a.set; from = a.from; to = a.to; sent = a.sent.items; taken = a.taken.items; last = a.last.items; silent = a.silent.items }) };
+    ghost invariant = { λ a. IsConsistent
+        (record {
+          set = a.set;
+          from = a.from;
+          to = a.to;
+          sent = a.sent.items;
+          taken = a.taken.items;
+          last = a.last.items;
+          silent = a.silent.items;
+        }) };
 }
 
 impl Part {
@@ -116,9 +135,12 @@ fn make_room(
     ensures taken { taken.new.items ≡ taken.old.items }
     ensures silent { silent.new.items ≡ silent.old.items }
     ensures tail { IfOk result (λ tail. tail.items ≡ drop start silent.old.items) }
-    ensures sent_room { OnOk result (vec_len sent.new + length right.now.sent ≤ vec_capacity sent.new) }
-    ensures taken_room { OnOk result (vec_len taken.new + length right.now.taken ≤ vec_capacity taken.new) }
-    ensures silent_room { OnOk result (vec_len silent.new + length right.now.silent ≤ vec_capacity silent.new) }
+    ensures sent_room { OnOk result
+        (vec_len sent.new + length right.now.sent ≤ vec_capacity sent.new) }
+    ensures taken_room { OnOk result
+        (vec_len taken.new + length right.now.taken ≤ vec_capacity taken.new) }
+    ensures silent_room { OnOk result
+        (vec_len silent.new + length right.now.silent ≤ vec_capacity silent.new) }
 {
     sent.reserve(right.sent.len())?;
     taken.reserve(right.taken.len())?;
@@ -129,7 +151,8 @@ fn make_room(
 /// Appends what was sent before tick `from`, each with the last Receive before it in either part.
 fn append_older(taken: &mut Vec<Take>, from: u64, more: &[Take], last: &[Option<Place>])
     requires { vec_len taken.old + length more.now ≤ vec_capacity taken.old }
-    ensures { taken.new.items ≡ taken.old.items ++ map (reach_take last.now) (filter (is_older from) more.now) }
+    ensures { taken.new.items ≡ taken.old.items
+        ++ map (reach_take last.now) (filter (is_older from) more.now) }
 {
     for take in more {
         if u64::from(take.sent.tick) < from {

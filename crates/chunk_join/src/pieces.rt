@@ -96,7 +96,9 @@ impl Piece {
         requires order { from ≤ to + 1 }
         requires high { to ≤ trace.now.last }
         ensures some { OnErr result (from ≤ to) }
-        ensures piece { IfOk result (λ piece. (sound : IsTrace trace.now) → IsPiece (record { set = set; trace = trace.now; sound = sound }) (from - 1) to piece) }
+        ensures piece { IfOk result (λ piece. (sound : IsTrace trace.now)
+            → IsPiece (record { set = set; trace = trace.now; sound = sound })
+            (from - 1) to piece) }
     {
         if to < from {
             return Ok(Piece::unit());

@@ -33,7 +33,8 @@ impl<'a> Model for PrefixAnalyst<'a> {
 
     ghost view = { λ a. record { set = a.set; seen = a.trace.now } };
 
-    ghost invariant = { λ a. (a.to ≤ a.trace.now.last) × IsDigestUpTo a.set a.trace.now a.to a.digest };
+    ghost invariant = { λ a. (a.to ≤ a.trace.now.last)
+        × IsDigestUpTo a.set a.trace.now a.to a.digest };
 }
 
 impl<'a> PrefixAnalyst<'a> {
@@ -71,7 +72,8 @@ impl<'a> PrefixAnalyst<'a> {
         requires low { 1 ≤ from }
         requires order { from ≤ to + 1 }
         requires high { to ≤ self.old.seen.last }
-        ensures stairs { IfOk result (λ stairs. (cut : Recorded) → IsTrace cut → IsCutAt self.old.seen to cut → AreLevelsFrom self.old.set cut from stairs) }
+        ensures stairs { IfOk result (λ stairs. (cut : Recorded) → IsTrace cut
+            → IsCutAt self.old.seen to cut → AreLevelsFrom self.old.set cut from stairs) }
         ensures same { self.new ≡ self.old }
         ensures sound { IsTrace self.old.seen }
     {
@@ -87,7 +89,8 @@ impl<'a> PrefixAnalyst<'a> {
 
 /// How far a digest of the first ticks goes that is to go on to tick `to`. If it goes further, it begins anew.
 fn begun(digest: &mut Digest, so_far: u64, to: u64) -> u64
-    ensures before { (set : ℕ) (trace : Recorded) → IsDigestUpTo set trace so_far digest.old → IsDigestUpTo set trace result digest.new }
+    ensures before { (set : ℕ) (trace : Recorded) → IsDigestUpTo set trace so_far digest.old
+        → IsDigestUpTo set trace result digest.new }
     ensures within { result ≤ to }
     ensures inside { result ≤ so_far }
 {

@@ -47,7 +47,8 @@ fn put_silence(
     ensures low { k ≤ result }
     ensures high { result ≤ start }
     ensures front { take k silent.new ≡ take k silent.old }
-    ensures kept { drop result silent.new ≡ kept_with (reaches_edge from to) gap_long longest silence (drop start silent.old) }
+    ensures kept { drop result silent.new ≡ kept_with
+        (reaches_edge from to) gap_long longest silence (drop start silent.old) }
 {
     if !stays(from, to, longest, &silence) {
         return start;

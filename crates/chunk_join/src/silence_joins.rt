@@ -1,6 +1,7 @@
 //! The silences of two parts that follow one another.
 
-ghost use Rattle.std.specs.Prelude.{◌≡◌, ◌+◌, ◌++◌, ◌≤◌, ◌<◌, length, map, filter, find, take, drop, vec_len, vec_capacity, Contains};
+ghost use Rattle.std.specs.Prelude.{◌≡◌, ◌+◌, ◌++◌, ◌≤◌, ◌<◌, length, map, filter, find};
+ghost use Rattle.std.specs.Prelude.{take, drop, vec_len, vec_capacity, Contains};
 ghost use Rattle.step_trace.specs.declared.rows.Gap.{Gap};
 ghost use Rattle.step_trace.specs.declared.traces.TheConstants.{MAX_TICKS};
 ghost use Rattle.chunk_join.specs.Summaries.{Rises, EndsBefore};
@@ -31,7 +32,8 @@ pub(crate) fn join_silences(
     requires tail { tail.now ≡ drop start left.old.items }
     requires ended { (w : Gap) → Contains (take start left.old.items) w → w.to < seam }
     requires limit { seam ≤ MAX_TICKS }
-    ensures { left.new.items ≡ filter (stops seam right.now) left.old.items ++ map (reach_back seam left.old.items) right.now }
+    ensures { left.new.items ≡ filter (stops seam right.now) left.old.items
+        ++ map (reach_back seam left.old.items) right.now }
 {
     left.truncate(start);
     append_stopping(left, tail, seam, right);

@@ -131,15 +131,18 @@ needs-through needs (suc k) i j a h =
 -- right offsets meet the needs that follow
 through-met : (n : ℕ) (needs : Needs) (y : ℕ → ℤ) (k i j : ℕ) (a : ℤ) → AreRight n needs y → k ≤ n → i < n → j < n → through needs k i j ≡ Some a → (y i +ℤ a) ≤ℤ y j
 through-met n needs y zero i j a r l li lj h = r i j a li lj h
-through-met n needs y (suc k) i j a r l li lj h = go (greater-either (through needs k i j) (plus (through needs k i k) (through needs k k j)) a h) (λ p q c lp lq e. through-met n needs y k p q c r (omega arith) lp lq e) where
-  go : (through needs k i j ≡ Some a) ⊎ (plus (through needs k i k) (through needs k k j) ≡ Some a) → ((p q : ℕ) (c : ℤ) → p < n → q < n → through needs k p q ≡ Some c → (y p +ℤ c) ≤ℤ y q) → (y i +ℤ a) ≤ℤ y j
-  go (inl e) rest = rest i j a li lj e
-  go (inr e) rest =
-      let p = plus-parts (through needs k i k) (through needs k k j) a e in
-      let u = rest i k p.0 li (omega arith) p.2 in
-      let v = rest k j p.1 (omega arith) lj p.3 in
-      let s = p.4 in
-      omega (arith, ints)
+through-met n needs y (suc k) i j a r l li lj h =
+    go (greater-either (through needs k i j) (plus (through needs k i k) (through needs k k j)) a h)
+    (λ p q c lp lq e. through-met n needs y k p q c r (omega arith) lp lq e) where
+      go : (through needs k i j ≡ Some a) ⊎ (plus (through needs k i k) (through needs k k j) ≡ Some a)
+          → ((p q : ℕ) (c : ℤ) → p < n → q < n → through needs k p q ≡ Some c → (y p +ℤ c) ≤ℤ y q) → (y i +ℤ a) ≤ℤ y j
+      go (inl e) rest = rest i j a li lj e
+      go (inr e) rest =
+          let p = plus-parts (through needs k i k) (through needs k k j) a e in
+          let u = rest i k p.0 li (omega arith) p.2 in
+          let v = rest k j p.1 (omega arith) lj p.3 in
+          let s = p.4 in
+          omega (arith, ints)
 
 -- so if a clock is to be ahead of itself, none are right
 pub cycle-none : (n k : ℕ) (needs : Needs) (x : ℕ → ℤ) → k < n → IsCycleAt needs k → ¬ AreRight n needs x
@@ -170,7 +173,8 @@ best-some f (suc n) = go (f n) refl (best-some f n) where
   more (inl e) = inl e
   more (inr r) = inr (r.0, (let b = r.1 in omega arith), r.2)
 
-  go : (o : Option ℤ) → f n ≡ o → (best_of f n ≡ pos 0) ⊎ ((i : ℕ) × (i < n) × (f i ≡ Some (best_of f n))) → (best_with (best_of f n) o ≡ pos 0) ⊎ ((i : ℕ) × (i < suc n) × (f i ≡ Some (best_with (best_of f n) o)))
+  go : (o : Option ℤ) → f n ≡ o → (best_of f n ≡ pos 0) ⊎ ((i : ℕ) × (i < n) × (f i ≡ Some (best_of f n)))
+      → (best_with (best_of f n) o ≡ pos 0) ⊎ ((i : ℕ) × (i < suc n) × (f i ≡ Some (best_with (best_of f n) o)))
   go None h rest = more rest
   go (Some a) h rest = which (max-either (best_of f n) a) where
     which : (int_max (best_of f n) a ≡ best_of f n) ⊎ (int_max (best_of f n) a ≡ a) → (int_max (best_of f n) a ≡ pos 0) ⊎ ((i : ℕ) × (i < suc n) × (f i ≡ Some (int_max (best_of f n) a)))

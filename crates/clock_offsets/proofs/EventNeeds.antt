@@ -1,5 +1,7 @@
 -- What messages need of the clocks is met exactly if each is received later than it is sent.
-use Rattle.std.proofs.Common.{ℕ, zero, suc, ◌≡◌, ◌+◌, ◌<◌, ◌≤◌, ◌⊎◌, inl, inr, Bool, true, false, cond, List, [], ◌∷◌, length, fold, Option, Some, None, refl, sym, ap, ap₂, ◌∙◌, subst, arith, ℤ, ◌-ℤ◌, ◌≤ℤ◌, eqb-true, eq-eqb}
+use Rattle.std.proofs.Common.{ℕ, zero, suc, ◌≡◌, ◌+◌, ◌<◌, ◌≤◌, ◌⊎◌, inl, inr, Bool, true, false, cond, List, [], ◌∷◌}
+use Rattle.std.proofs.Common.{length, fold, Option, Some, None, refl, sym, ap, ap₂, ◌∙◌, subst, arith, ℤ, ◌-ℤ◌, ◌≤ℤ◌}
+use Rattle.std.proofs.Common.{eqb-true, eq-eqb}
 use Rattle.std.specs.Prelude.{All, ◌&&◌, ◌==◌, nat_lt}
 use Rattle.std.specs.List.{flat_map, range_with_len}
 use Rattle.std.proofs.lemmas.Bool.Decides.{leb_tells}
@@ -91,7 +93,11 @@ module _ (events : List Event) where
   needs-met x i j [] a = All-nil (IsMet i j (x j -ℤ x i))
   needs-met x i j (h ∷ hs) a =
       All-cons (IsMet i j (x j -ℤ x i)) h hs
-      (λ t. one (eqb-true (clock_at events h.message) i (both-left (clock_at events h.message == i) (clock_at events h.event == j) t)) (eqb-true (clock_at events h.event) j (both-right (clock_at events h.message == i) (clock_at events h.event == j) t)))
+      (λ t.
+      one (eqb-true (clock_at events h.message) i
+      (both-left (clock_at events h.message == i) (clock_at events h.event == j) t))
+      (eqb-true (clock_at events h.event) j
+      (both-right (clock_at events h.message == i) (clock_at events h.event == j) t)))
       (needs-met x i j hs (All-tail (IsInOrder events x) h hs a)) where
         one : clock_at events h.message ≡ i → clock_at events h.event ≡ j → need_of events h ≤ℤ (x j -ℤ x i)
         one e f =
@@ -122,7 +128,9 @@ module _ (n : ℕ) (events : List Event) (meant : AreMeant events n) where
   hop-within i l None = All-nil (IsWithin events n)
   hop-within i l (Some s) = go (leb_tells (suc s) (length events)) where
     go : ((nat_lt s (length events) ≡ true) × (suc s ≤ length events)) ⊎ ((nat_lt s (length events) ≡ false) × (length events < suc s)) → All (IsWithin events n) (hop_in (length events) i (Some s))
-    go (inl h) = subst (λ b. All (IsWithin events n) (cond b (record { event = i; message = s } ∷ []) [])) (sym h.0) (All-cons (IsWithin events n) (record { event = i; message = s }) [] (clock-within s (omega (arith, h.1)), clock-within i l) (All-nil (IsWithin events n)))
+    go (inl h) = subst (λ b. All (IsWithin events n) (cond b (record { event = i; message = s } ∷ []) [])) (sym h.0)
+        (All-cons (IsWithin events n) (record { event = i; message = s }) []
+        (clock-within s (omega (arith, h.1)), clock-within i l) (All-nil (IsWithin events n)))
     go (inr h) = subst (λ b. All (IsWithin events n) (cond b (record { event = i; message = s } ∷ []) [])) (sym h.0) (All-nil (IsWithin events n))
 
   hops-at-within : (i : ℕ) → i < length events → (ms : List (Option ℕ)) → All (λ m. All (IsWithin events n) (hop_in (length events) i m)) ms
@@ -131,7 +139,9 @@ module _ (n : ℕ) (events : List Event) (meant : AreMeant events n) where
 
   each-within : (a k : ℕ) → a + k ≤ length events → All (λ i. All (IsWithin events n) (hops_at events i)) (range_with_len a k)
   each-within a zero l = All-nil (λ i. All (IsWithin events n) (hops_at events i))
-  each-within a (suc k) l = All-cons (λ i. All (IsWithin events n) (hops_at events i)) a (range_with_len (a + 1) k) (flat-all (IsWithin events n) (hop_in (length events) a) (messages_at events a) (hops-at-within a (omega arith) (messages_at events a))) (each-within (a + 1) k (omega arith))
+  each-within a (suc k) l = All-cons (λ i. All (IsWithin events n) (hops_at events i)) a (range_with_len (a + 1) k)
+      (flat-all (IsWithin events n) (hop_in (length events) a) (messages_at events a)
+      (hops-at-within a (omega arith) (messages_at events a))) (each-within (a + 1) k (omega arith))
 
   pub hops-within : All (IsWithin events n) (hops_of events)
   hops-within = flat-all (IsWithin events n) (hops_at events) (range_with_len 0 (length events)) (each-within 0 (length events) (omega arith))
@@ -160,10 +170,14 @@ module _ (n : ℕ) (events : List Event) (most : n ≤ 64) (needs : List (Option
   refused-list TooFar c = tt
   refused-list Memory c = tt
 
-pub offsets-of-needs : (n : ℕ) (events : List Event) → AreMeant events n → n ≤ 64 → (hops read : List Hop) (needs seen : List (Option ℤ)) (offsets : List ℤ) → hops ≡ hops_of events → read ≡ hops → seen ≡ needs
-    → AreNeedsAmong events read needs → AreOffsetsOf n seen offsets → AreClockOffsets n events offsets
-offsets-of-needs n events meant most hops read needs seen offsets e f g h o = least-list n events most seen (subst (λ hs. AreNeedsAmong events hs seen) (f ∙ e) (subst (AreNeedsAmong events read) (sym g) h)) offsets meant o
+pub offsets-of-needs : (n : ℕ) (events : List Event) → AreMeant events n → n ≤ 64
+    → (hops read : List Hop) (needs seen : List (Option ℤ)) (offsets : List ℤ) → hops ≡ hops_of events → read ≡ hops
+    → seen ≡ needs → AreNeedsAmong events read needs → AreOffsetsOf n seen offsets → AreClockOffsets n events offsets
+offsets-of-needs n events meant most hops read needs seen offsets e f g h o =
+    least-list n events most seen
+    (subst (λ hs. AreNeedsAmong events hs seen) (f ∙ e) (subst (AreNeedsAmong events read) (sym g) h)) offsets meant o
 
-pub refusal-of-needs : (n : ℕ) (events : List Event) (read : List Hop) (needs seen : List (Option ℤ)) (why : OffsetError) → n ≤ 64 → {hops : List Hop} → hops ≡ hops_of events → read ≡ hops → seen ≡ needs
+pub refusal-of-needs : (n : ℕ) (events : List Event) (read : List Hop) (needs seen : List (Option ℤ))
+    (why : OffsetError) → n ≤ 64 → {hops : List Hop} → hops ≡ hops_of events → read ≡ hops → seen ≡ needs
     → AreNeedsAmong events read needs → IsOffsetRefusal n seen why → IsClockRefusal events why
 refusal-of-needs n events read needs seen why most e f g h o = refused-list n events most seen (subst (λ hs. AreNeedsAmong events hs seen) (f ∙ e) (subst (AreNeedsAmong events read) (sym g) h)) why o

@@ -1,5 +1,6 @@
 -- Needs of 64 clocks in a list.
-use Rattle.std.proofs.Common.{ℕ, zero, suc, ◌≡◌, ◌+◌, ◌*◌, ◌/◌, ◌%◌, ◌<◌, ◌≤◌, ◌⊎◌, inl, inr, List, [], ◌∷◌, ◌++◌, length, Option, Some, None, refl, sym, ap, ◌∙◌, subst, arith, ℤ, pos, ◌+ℤ◌, ◌≤ℤ◌, ◌<ℤ◌}
+use Rattle.std.proofs.Common.{ℕ, zero, suc, ◌≡◌, ◌+◌, ◌*◌, ◌/◌, ◌%◌, ◌<◌, ◌≤◌, ◌⊎◌, inl, inr, List, [], ◌∷◌, ◌++◌}
+use Rattle.std.proofs.Common.{length, Option, Some, None, refl, sym, ap, ◌∙◌, subst, arith, ℤ, pos, ◌+ℤ◌, ◌≤ℤ◌, ◌<ℤ◌}
 use Rattle.std.specs.Prelude.{slice_index_or}
 use Rattle.std.proofs.lemmas.Bool.{cases_lt}
 use Rattle.std.proofs.lemmas.List.{length_push}
@@ -21,7 +22,9 @@ pushed-other [] x d k l = absurd (omega arith)
 pushed-other (y ∷ xs) x d zero l = refl
 pushed-other (y ∷ xs) x d (suc k) l = pushed-other xs x d k (omega arith)
 
-pub grown : {A : Type 0} (f : ℕ → A) (d : A) (xs ys : List A) (x : A) (n : ℕ) → length xs ≡ n → ((k : ℕ) → k < n → slice_index_or xs k d ≡ f k) → x ≡ f n → ys ≡ xs ++ x ∷ [] → (length ys ≡ n + 1) × ((k : ℕ) → k < n + 1 → slice_index_or ys k d ≡ f k)
+pub grown : {A : Type 0} (f : ℕ → A) (d : A) (xs ys : List A) (x : A) (n : ℕ) → length xs ≡ n
+    → ((k : ℕ) → k < n → slice_index_or xs k d ≡ f k) → x ≡ f n → ys ≡ xs ++ x ∷ []
+    → (length ys ≡ n + 1) × ((k : ℕ) → k < n + 1 → slice_index_or ys k d ≡ f k)
 grown f d xs ys x n l h e g = (ap length g ∙ (let p = length_push xs x in omega arith), λ k b. ap (λ zs. slice_index_or zs k d) g ∙ go k (cases_lt k n) b) where
   go : (k : ℕ) → (k < n) ⊎ (n ≤ k) → k < n + 1 → slice_index_or (xs ++ x ∷ []) k d ≡ f k
   go k (inl below) b = pushed-other xs x d k (omega arith) ∙ h k below
@@ -33,19 +36,29 @@ pub record IsThrough (needs : List (Option ℤ)) (k : ℕ) (items : List (Option
   pub each : (i j : ℕ) → i < 64 → j < 64 → needs_at items i j ≡ through (needs_at needs) k i j
   pub below : (m : ℕ) (by : ℤ) → m < k → through (needs_at needs) m m m ≡ Some by → by ≤ℤ pos 0
 
-pub through-more : (needs items read new : List (Option ℤ)) (k : ℕ) → k < 64 → IsThrough needs k items → read ≡ items → ((by : ℤ) → needs_at items k k ≡ Some by → by ≤ℤ pos 0) → AreNext read k new → IsThrough needs (k + 1) new
+pub through-more : (needs items read new : List (Option ℤ)) (k : ℕ) → k < 64 → IsThrough needs k items → read ≡ items
+    → ((by : ℤ) → needs_at items k k ≡ Some by → by ≤ℤ pos 0) → AreNext read k new → IsThrough needs (k + 1) new
 through-more needs items read new k lk h e diag n = record { long = n.long; each = each; below = below } where
   step : (i j : ℕ) → i < 64 → j < 64 → needs_at new i j ≡ greater (needs_at items i j) (plus (needs_at items i k) (needs_at items k j))
   step i j li lj =
       let x = n.each (i * 64 + j) (omega arith) in
       let q : (i * 64 + j) / 64 ≡ i = omega arith in
       let r : (i * 64 + j) % 64 ≡ j = omega arith in
-      x ∙ ap (λ xs. next_at xs k (i * 64 + j)) e ∙ ap (λ a. greater (needs_at items i j) (plus (slice_index_or items (a * 64 + k) None) (slice_index_or items (k * 64 + (i * 64 + j) % 64) None))) q ∙ ap (λ b. greater (needs_at items i j) (plus (needs_at items i k) (slice_index_or items (k * 64 + b) None))) r
+      x ∙ ap (λ xs. next_at xs k (i * 64 + j)) e
+      ∙ ap
+      (λ a. greater (needs_at items i j)
+      (plus (slice_index_or items (a * 64 + k) None) (slice_index_or items (k * 64 + (i * 64 + j) % 64) None)))
+      q
+      ∙ ap (λ b. greater (needs_at items i j) (plus (needs_at items i k) (slice_index_or items (k * 64 + b) None)))
+      r
 
   each : (i j : ℕ) → i < 64 → j < 64 → needs_at new i j ≡ through (needs_at needs) (k + 1) i j
   each i j li lj =
       let s : suc k ≡ k + 1 = omega arith in
-      step i j li lj ∙ ap (λ o. greater o (plus (needs_at items i k) (needs_at items k j))) (h.each i j li lj) ∙ ap (λ o. greater (through (needs_at needs) k i j) (plus o (needs_at items k j))) (h.each i k li lk) ∙ ap (λ o. greater (through (needs_at needs) k i j) (plus (through (needs_at needs) k i k) o)) (h.each k j lk lj) ∙ ap (λ m. through (needs_at needs) m i j) s
+      step i j li lj ∙ ap (λ o. greater o (plus (needs_at items i k) (needs_at items k j))) (h.each i j li lj)
+      ∙ ap (λ o. greater (through (needs_at needs) k i j) (plus o (needs_at items k j))) (h.each i k li lk)
+      ∙ ap (λ o. greater (through (needs_at needs) k i j) (plus (through (needs_at needs) k i k) o))
+      (h.each k j lk lj) ∙ ap (λ m. through (needs_at needs) m i j) s
 
   below : (m : ℕ) (by : ℤ) → m < k + 1 → through (needs_at needs) m m m ≡ Some by → by ≤ℤ pos 0
   below m by b t = go (cases_lt m k) where

@@ -23,7 +23,8 @@ changed-next f [] k d l = absurd (omega arith)
 changed-next f (y ∷ ys) zero d l = refl
 changed-next f (y ∷ ys) (suc k) d l = let e : suc k + 1 ≡ suc (k + 1) = omega arith in rw e (ap (λ zs. f y ∷ zs) (changed-next f ys k d (omega arith)))
 
-pub moved-next : (f : Event → Event) (ys items : List Event) (k : ℕ) (d new : Event) → items ≡ changed_to f ys k → k < length ys → new ≡ f (slice_index_or items k d) → slice_set items k new ≡ changed_to f ys (k + 1)
+pub moved-next : (f : Event → Event) (ys items : List Event) (k : ℕ) (d new : Event) → items ≡ changed_to f ys k
+    → k < length ys → new ≡ f (slice_index_or items k d) → slice_set items k new ≡ changed_to f ys (k + 1)
 moved-next f ys items k d new e l h =
     ap₂ (λ xs x. slice_set xs k x) e (h ∙ ap f (ap (λ xs. slice_index_or xs k d) e ∙ next-is f ys k d)) ∙ changed-next f ys k d l
 
@@ -35,4 +36,13 @@ some-at (y ∷ ys) (suc k) d l = some-at ys k d (omega arith)
 -- the next one is too late
 pub late-next : (offsets : List ℤ) (latest : ℤ) (ys items : List Event) (k : ℕ) (d : Event) → items ≡ changed_to (moved_event offsets) ys k → k < length ys
     → latest <ℤ ((slice_index_or items k d).time +ℤ offset_in offsets ((slice_index_or items k d).processor - 1)) → IsTooLate ys offsets latest
-late-next offsets latest ys items k d e l h = (k, l, subst (λ (o : Option Event). latest <ℤ (option_map_or (λ e. e.time) o (pos 0) +ℤ offset_in offsets (option_map_or (λ e. e.processor) o 0 - 1))) (sym (some-at ys k d l)) (subst (λ (x : Event). latest <ℤ (x.time +ℤ offset_in offsets (x.processor - 1))) (ap (λ xs. slice_index_or xs k d) e ∙ next-is (moved_event offsets) ys k d) h))
+late-next offsets latest ys items k d e l h = (
+  k,
+  l,
+  subst
+      (λ (o : Option Event).
+      latest <ℤ (option_map_or (λ e. e.time) o (pos 0) +ℤ offset_in offsets
+      (option_map_or (λ e. e.processor) o 0 - 1))) (sym (some-at ys k d l))
+      (subst (λ (x : Event). latest <ℤ (x.time +ℤ offset_in offsets (x.processor - 1)))
+      (ap (λ xs. slice_index_or xs k d) e ∙ next-is (moved_event offsets) ys k d) h),
+)

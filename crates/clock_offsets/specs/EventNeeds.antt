@@ -1,5 +1,6 @@
 -- What the messages of events need of the clocks of their processors (own).
-use Rattle.std.specs.Prelude.{ℕ, ◌-◌, ◌≡◌, ◌<◌, ◌==◌, ◌&&◌, Bool, List, length, fold, Option, Some, None, All, pos, slice_index_or, if◌then◌else◌}
+use Rattle.std.specs.Prelude.{ℕ, ◌-◌, ◌≡◌, ◌<◌, ◌==◌, ◌&&◌, Bool, List, length, fold, Option}
+use Rattle.std.specs.Prelude.{Some, None, All, pos, slice_index_or, if◌then◌else◌}
 use Rattle.std.proofs.Common.{ℤ, ◌+ℤ◌, ◌-ℤ◌, ◌≤ℤ◌, ◌<ℤ◌}
 use Rattle.timed_events.specs.declared.cause_cycles.Hop.{Hop}
 use Rattle.timed_events.specs.declared.events.Event.{Event}
@@ -37,7 +38,8 @@ pub record AreNeedsAmong (events : List Event) (hops : List Hop) (needs : List (
 
 -- a message is received later than it is sent, once each clock is moved
 abbrev pub IsInOrder : List Event → (ℕ → ℤ) → Hop → Type 0
-IsInOrder events x hop = (time_at events hop.message +ℤ x (clock_at events hop.message)) <ℤ (time_at events hop.event +ℤ x (clock_at events hop.event))
+IsInOrder events x hop = (time_at events hop.message +ℤ x (clock_at events hop.message)) <ℤ
+    (time_at events hop.event +ℤ x (clock_at events hop.event))
 
 -- each message that the events received is
 abbrev pub AreInOrder : List Event → (ℕ → ℤ) → Type 0
@@ -47,7 +49,8 @@ AreInOrder events x = All (IsInOrder events x) (hops_of events)
 abbrev pub offset_in : List ℤ → ℕ → ℤ
 offset_in offsets j = slice_index_or offsets j (pos 0)
 
--- Once each clock is moved by its offset, each message is received later than it is sent. No clock is moved back, and of
+-- Once each clock is moved by its offset, each message is received later than it is sent. No clock is moved back, and
+-- of
 -- all such offsets each is the least.
 pub record AreClockOffsets (n : ℕ) (events : List Event) (offsets : List ℤ) : Type 0 where
   pub long : length offsets ≡ n

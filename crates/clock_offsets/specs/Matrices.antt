@@ -10,7 +10,8 @@ abbrev pub needs_at : List (Option ℤ) → Needs
 needs_at xs i j = slice_index_or xs (i * 64 + j) None
 
 abbrev pub next_at : List (Option ℤ) → ℕ → ℕ → Option ℤ
-next_at xs k x = greater (slice_index_or xs x None) (plus (slice_index_or xs (x / 64 * 64 + k) None) (slice_index_or xs (k * 64 + x % 64) None))
+next_at xs k x = greater (slice_index_or xs x None)
+    (plus (slice_index_or xs (x / 64 * 64 + k) None) (slice_index_or xs (k * 64 + x % 64) None))
 
 -- the list has the needs by way of one clock more
 pub record AreNext (old : List (Option ℤ)) (k : ℕ) (new : List (Option ℤ)) : Type 0 where

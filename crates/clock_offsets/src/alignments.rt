@@ -1,6 +1,7 @@
 //! The least offsets of the clocks of events, and the events once their clocks are moved.
 
-ghost use Rattle.std.specs.Prelude.{◌≡◌, ◌≤◌, ◌+ℤ◌, ◌≤ℤ◌, ◌<ℤ◌, ◌-◌, ℕ, OnOk, IfErr, IfOk, length, map, pos, slice_index_or};
+ghost use Rattle.std.specs.Prelude.{◌≡◌, ◌≤◌, ◌+ℤ◌, ◌≤ℤ◌, ◌<ℤ◌, ◌-◌, ℕ, OnOk, IfErr};
+ghost use Rattle.std.specs.Prelude.{IfOk, length, map, pos, slice_index_or};
 ghost use Rattle.timed_events.specs.Checks.{AreMeant};
 ghost use Rattle.clock_offsets.specs.EventNeeds.{offset_in, AreClockOffsets, IsClockRefusal};
 ghost use Rattle.clock_offsets.specs.MovedClocks.{moved_event, IsTooLate};
@@ -92,7 +93,8 @@ pub fn moved_events(
 fn move_event(event: &mut Event, offsets: &Offsets, latest: i128) -> Result<(), TooLate>
     requires forward { (j : ℕ) → pos 0 ≤ℤ offset_in offsets.now j }
     ensures moved { OnOk result (event.new ≡ moved_event offsets.now event.old) }
-    ensures refused { IfErr result (λ why. latest <ℤ (event.old.time +ℤ offset_in offsets.now (event.old.processor - 1))) }
+    ensures refused { IfErr result
+        (λ why. latest <ℤ (event.old.time +ℤ offset_in offsets.now (event.old.processor - 1))) }
 {
     let offset = offsets.at(event.processor.saturating_sub(1) as usize);
     event.time = moved_time(event.time, offset, latest)?;

@@ -94,7 +94,8 @@ fn is_tighter(events: &[Event], hop: Hop, than: Option<Hop>) -> bool {
 
 /// How long a message took, if a number holds it.
 fn took(events: &[Event], hop: Hop) -> Option<i128>
-    ensures { IfSome result (λ took. took ≡ time_at events.now hop.event -ℤ time_at events.now hop.message) }
+    ensures { IfSome result
+        (λ took. took ≡ time_at events.now hop.event -ℤ time_at events.now hop.message) }
 {
     let received = time_at(events, hop.event as usize);
     let sent = time_at(events, hop.message as usize);

@@ -34,7 +34,9 @@ pub(crate) fn needs_among(
 fn note_need(events: &[Event], hop: Hop, needs: &mut Vec<Option<i128>>) -> Result<(), OffsetError>
     requires long { length needs.old.items ≡ 4096 }
     ensures long { OnOk result (length needs.new.items ≡ 4096) }
-    ensures each { OnOk result ((i j : ℕ) → i < 64 → j < 64 → needs_at needs.new.items i j ≡ with_need events.now i j (needs_at needs.old.items i j) hop) }
+    ensures each { OnOk result ((i j : ℕ) → i < 64 → j < 64
+        → needs_at needs.new.items i j ≡ with_need events.now i j
+        (needs_at needs.old.items i j) hop) }
     ensures refused { IfErr result (λ why. IsWant why) }
 {
     let from = clock_at(events, hop.message as usize);

@@ -4,7 +4,8 @@ ghost use Rattle.std.specs.Prelude.{ℕ, ◌≡◌, ◌<◌, ◌≤◌, None, So
 ghost use Rattle.std.proofs.Common.{ℤ, ◌≤ℤ◌, ◌<ℤ◌};
 ghost use Rattle.clock_offsets.specs.declared.refusals.OffsetError.TheVariants as refused;
 ghost use Rattle.clock_offsets.specs.ClockOffsets.{best_of, best_with, greater, plus};
-ghost use Rattle.clock_offsets.specs.Matrices.{needs_at, next_at, AreGreatest, AreNext, AreOffsetsOf, IsOffsetRefusal, IsWant};
+ghost use Rattle.clock_offsets.specs.Matrices.{needs_at, next_at, AreGreatest, AreNext};
+ghost use Rattle.clock_offsets.specs.Matrices.{AreOffsetsOf, IsOffsetRefusal, IsWant};
 
 use crate::refusals::OffsetError;
 use std::alloc::Global;

@@ -1,5 +1,6 @@
 -- The lines in which faults are reported (docs/FORMATS.md), without their line feeds.
-use Rattle.std.specs.Prelude.{ℕ, ◌-◌, List, [], ◌∷◌, ◌++◌, length, ◌==◌, if◌then◌else◌, slice_index, codes, decimal, string_bytes}
+use Rattle.std.specs.Prelude.{ℕ, ◌-◌, List, [], ◌∷◌, ◌++◌, length, ◌==◌, if◌then◌else◌}
+use Rattle.std.specs.Prelude.{slice_index, codes, decimal, string_bytes}
 use Rattle.trace_text.specs.RefusalTexts.{text_error_text}
 use Rattle.front.specs.RefusalTexts.{report_error_text}
 use Rattle.event_log.specs.RefusalTexts.{log_error_text}
@@ -11,7 +12,8 @@ use Rattle.command_faults.specs.declared.faults.PictureOption.{PictureOption}
 use Rattle.command_faults.specs.declared.faults.PictureOption.TheVariants as option
 use Rattle.command_faults.specs.declared.faults.ListedField.{ListedField}
 use Rattle.command_faults.specs.declared.faults.ListedField.TheVariants as field
-use Rattle.command_faults.specs.Hints.{certificate_hint, decisions_hint, due_hint, file_hint, formula_hint, listed_hint, picture_hint, run_list_hint, table_hint, trace_hint}
+use Rattle.command_faults.specs.Hints.{certificate_hint, decisions_hint, due_hint, file_hint, formula_hint}
+use Rattle.command_faults.specs.Hints.{listed_hint, picture_hint, run_list_hint, table_hint, trace_hint}
 use Rattle.command_faults.specs.LogFaultLines.{help_line, import_option_words, length_hint, log_lead}
 use Rattle.command_faults.specs.OutsideLines.{member_line, report_option_words, set_option_words, tick_line}
 
@@ -34,10 +36,13 @@ listed_field_words field.Start = codes "start"
 -- the line of a fault, with one more if something is known; that of a refused command line is in its reader's words
 abbrev pub fault_line : Fault → List ℕ
 fault_line (fault.Command words) = string_bytes words
-fault_line (fault.Set option o) = codes "synchrony: no such processor in " ++ (set_option_words option ++ member_line option o)
+fault_line (fault.Set option o) = codes "synchrony: no such processor in "
+    ++ (set_option_words option ++ member_line option o)
 fault_line (fault.Trace reason) = codes "synchrony: trace: " ++ (text_error_text reason ++ trace_hint reason)
-fault_line (fault.Certificate reason) = codes "synchrony: certificate: " ++ (report_error_text reason ++ certificate_hint reason)
-fault_line (fault.Decisions reason) = codes "synchrony: decisions: " ++ (decisions_error_text reason ++ decisions_hint reason)
+fault_line (fault.Certificate reason) = codes "synchrony: certificate: "
+    ++ (report_error_text reason ++ certificate_hint reason)
+fault_line (fault.Decisions reason) = codes "synchrony: decisions: "
+    ++ (decisions_error_text reason ++ decisions_hint reason)
 fault_line (fault.Runs reason) = codes "synchrony: runs: " ++ (run_list_error_text reason ++ run_list_hint reason)
 fault_line (fault.Table reason) = codes "synchrony: table: " ++ (table_error_text reason ++ table_hint reason)
 fault_line (fault.Listed field) = codes "synchrony: bad " ++ (listed_field_words field ++ listed_hint field)
@@ -52,7 +57,8 @@ fault_line (fault.Picture option) = codes "synchrony: bad " ++ (option_words opt
 fault_line (fault.Report option o) = codes "synchrony: bad " ++ (report_option_words option ++ tick_line option o)
 fault_line (fault.Log reason) = codes "synchrony: " ++ (log_lead reason ++ (log_error_text reason ++ help_line reason))
 fault_line (fault.Import option) = codes "synchrony: bad " ++ import_option_words option
-fault_line (fault.Length option given) = codes "synchrony: bad " ++ (import_option_words option ++ length_hint option (string_bytes given))
+fault_line (fault.Length option given) = codes "synchrony: bad "
+    ++ (import_option_words option ++ length_hint option (string_bytes given))
 
 -- the text, with a line feed added unless it ends with one
 abbrev pub ended_line : List ℕ → List ℕ

@@ -1,6 +1,7 @@
 -- The lines after that of a fault (docs/FORMATS.md): each begins with a line feed, and there is none if nothing is
 -- known.
-use Rattle.std.specs.Prelude.{ℕ, ◌+◌, ◌-◌, ◌^◌, min, List, [], ◌∷◌, ◌++◌, codes, decimal, Option, Some, None, ◌==◌, if◌then◌else◌}
+use Rattle.std.specs.Prelude.{ℕ, ◌+◌, ◌-◌, ◌^◌, min, List, [], ◌∷◌, ◌++◌, codes}
+use Rattle.std.specs.Prelude.{decimal, Option, Some, None, ◌==◌, if◌then◌else◌}
 use Rattle.trace_text.specs.declared.refusals.TextError.{TextError}
 use Rattle.trace_text.specs.declared.refusals.TextError.TheVariants as why
 use Rattle.front.specs.declared.refusals.ReportError.{ReportError}
@@ -46,7 +47,8 @@ trace_hint e = []
 
 -- likewise of a certificate
 abbrev pub certificate_hint : ReportError → List ℕ
-certificate_hint uncertified.BadHeader = hint (codes "a certificate begins with gst,delta,phi,sent,missed,proc,from,to; the trace comes before it")
+certificate_hint uncertified.BadHeader =
+    hint (codes "a certificate begins with gst,delta,phi,sent,missed,proc,from,to; the trace comes before it")
 certificate_hint e = []
 
 -- likewise of decisions
@@ -62,21 +64,31 @@ run_list_hint e = []
 -- where the table of a trace comes from
 abbrev pub table_hint : TableError → List ℕ
 table_hint untabled.TooLarge = []
-table_hint e = hint (codes "import LOG --table prints the table of a trace, by the options by which import LOG printed the trace")
+table_hint e =
+    hint (codes "import LOG --table prints the table of a trace, by the options by which import LOG printed the trace")
 
 -- what a field of a run in a list takes
 abbrev pub listed_hint : ListedField → List ℕ
 listed_hint field.Trace = hint (codes "trace takes the path of a file, in UTF-8")
-listed_hint field.Decisions = hint (codes "decisions takes the path of a file, in UTF-8, or nothing for those of the replay")
+listed_hint field.Decisions =
+    hint (codes "decisions takes the path of a file, in UTF-8, or nothing for those of the replay")
 listed_hint field.Correct = hint (codes "correct takes all, none, or numbers from 1 to 64 with one comma between them")
 listed_hint field.Start = hint (codes "start takes a tick, or nothing")
 
 -- why a text is no formula: what is at which operand, counted from 1
 abbrev pub formula_hint : BadFormula → List ℕ
-formula_hint (unread.Operand operand) = hint (codes "operand " ++ (decimal operand ++ codes " of the formula is no number and none of delta, phi, n, t"))
-formula_hint (unread.Divisor operand) = hint (codes "operand " ++ (decimal operand ++ codes " of the formula divides: it has to be a number from 1 on, and all divisors together, multiplied, at most 4294967295"))
-formula_hint (unread.Sign operand) = hint (codes "after operand " ++ (decimal operand ++ codes " of the formula a sign is missing, or a parenthesis or comma doesn't fit"))
-formula_hint (unread.Depth operand) = hint (codes "before operand " ++ (decimal operand ++ codes " of the formula more than 32 parentheses are open"))
+formula_hint (unread.Operand operand) =
+    hint (codes "operand " ++ (decimal operand ++ codes " of the formula is no number and none of delta, phi, n, t"))
+formula_hint (unread.Divisor operand) =
+    hint
+    (codes "operand "
+    ++ (decimal operand
+    ++ codes " of the formula divides: it has to be a number from 1 on, and all divisors together, multiplied, at most 4294967295"))
+formula_hint (unread.Sign operand) =
+    hint (codes "after operand "
+    ++ (decimal operand ++ codes " of the formula a sign is missing, or a parenthesis or comma doesn't fit"))
+formula_hint (unread.Depth operand) =
+    hint (codes "before operand " ++ (decimal operand ++ codes " of the formula more than 32 parentheses are open"))
 
 -- what a processor had to do in place of a step that is none of a run
 abbrev pub due_words : DueStep → List ℕ
@@ -98,9 +110,18 @@ ticks_words last = if last == 0 then codes "no ticks" else codes "ticks 1 to " +
 
 -- what an option of a picture says, and what it has to fit: a last tick is at most 999 after the first one
 abbrev pub picture_hint : PictureOption → List ℕ
-picture_hint (option.NameCount given processors) = hint (codes "--names has " ++ (count_words given ++ (codes ", and the trace has " ++ (decimal processors ++ codes " processors"))))
-picture_hint (option.BadName place) = hint (codes "name " ++ (decimal place ++ codes " of --names has to be 1 to 64 bytes of text with no control character"))
-picture_hint (option.SameName place) = hint (codes "name " ++ (decimal place ++ codes " of --names is the same as an earlier one"))
-picture_hint (option.NoLane place) = hint (codes "lane " ++ (decimal place ++ codes " of --lanes is neither one of --names nor a number from 1 to 64"))
-picture_hint (option.From from last) = hint (codes "--from is " ++ (decimal from ++ (codes ", and the trace has " ++ ticks_words last)))
-picture_hint (option.To to from) = hint (codes "--to is " ++ (decimal to ++ (codes ", and has to be from " ++ (decimal from ++ (codes " to " ++ decimal (min (from + 999) (2 ^ 64 - 1)))))))
+picture_hint (option.NameCount given processors) =
+    hint (codes "--names has "
+    ++ (count_words given ++ (codes ", and the trace has " ++ (decimal processors ++ codes " processors"))))
+picture_hint (option.BadName place) = hint
+    (codes "name " ++ (decimal place ++ codes " of --names has to be 1 to 64 bytes of text with no control character"))
+picture_hint (option.SameName place) =
+    hint (codes "name " ++ (decimal place ++ codes " of --names is the same as an earlier one"))
+picture_hint (option.NoLane place) =
+    hint (codes "lane " ++ (decimal place ++ codes " of --lanes is neither one of --names nor a number from 1 to 64"))
+picture_hint (option.From from last) =
+    hint (codes "--from is " ++ (decimal from ++ (codes ", and the trace has " ++ ticks_words last)))
+picture_hint (option.To to from) = hint
+    (codes "--to is "
+    ++ (decimal to ++ (codes ", and has to be from "
+    ++ (decimal from ++ (codes " to " ++ decimal (min (from + 999) (2 ^ 64 - 1)))))))

@@ -9,7 +9,9 @@ use Rattle.command_faults.specs.declared.faults.ImportOption.{ImportOption}
 use Rattle.command_faults.specs.declared.faults.ImportOption.TheVariants as import_option
 use Rattle.command_faults.specs.Hints.{hint}
 use Rattle.event_log.specs.declared.refusals.LogError.{LogError}
-use Rattle.event_log.specs.declared.refusals.LogError.TheVariants.{BadNode, BadTime, FromUnfit, TickUnfit, UntilUnfit, IdleUnfit, TooManyTicks, TooManySteps, NotLater, SecondEvent, Cycle, NoOffsets}
+use Rattle.event_log.specs.declared.refusals.LogError.TheVariants.{BadNode, BadTime, FromUnfit, TickUnfit, UntilUnfit}
+use Rattle.event_log.specs.declared.refusals.LogError.TheVariants.{IdleUnfit, TooManyTicks, TooManySteps, NotLater}
+use Rattle.event_log.specs.declared.refusals.LogError.TheVariants.{SecondEvent, Cycle, NoOffsets}
 
 -- what comes before the reason of a refused log: nothing if it begins with an option that doesn't fit
 abbrev pub log_lead : LogError → List ℕ
@@ -32,11 +34,16 @@ help_line FromUnfit = 10 ∷ codes "synchrony: --from is a time like those of th
 help_line TooManySteps = 10 ∷ codes "synchrony: a greater --tick or a shorter --idle makes fewer"
 help_line (NotLater number message hint) = hint_line hint
 help_line (SecondEvent number node tick hint) = hint_line hint
-help_line (Cycle number lines) = lines_text lines ++ 10 ∷ codes "synchrony: no clocks make this right: the records of a node are out of order, or a message is named wrongly"
+help_line (Cycle number lines) = lines_text lines
+    ++ 10
+    ∷ codes "synchrony: no clocks make this right: the records of a node are out of order, or a message is named wrongly"
 help_line (NoOffsets lines) = lines_text lines
-help_line (BadTime number) = 10 ∷ codes "synchrony: a time is a whole number, decimal seconds like 1700000000.123456, or a time stamp like 2026-11-22T10:00:00.250Z; all are of the kind of record 2's, and with --unit whole numbers"
-help_line (BadNode number None) = 10 ∷ codes "synchrony: the name of a node is text with no control character or semicolon, and not empty"
-help_line (BadNode number (Some name)) = 10 ∷ (codes "synchrony: \"" ++ (printed name ++ codes "\" is not among --nodes"))
+help_line (BadTime number) = 10
+    ∷ codes "synchrony: a time is a whole number, decimal seconds like 1700000000.123456, or a time stamp like 2026-11-22T10:00:00.250Z; all are of the kind of record 2's, and with --unit whole numbers"
+help_line (BadNode number None) =
+    10 ∷ codes "synchrony: the name of a node is text with no control character or semicolon, and not empty"
+help_line (BadNode number (Some name)) =
+    10 ∷ (codes "synchrony: \"" ++ (printed name ++ codes "\" is not among --nodes"))
 help_line why = []
 
 -- an option of a log, as the command line has it
@@ -50,4 +57,7 @@ import_option_words import_option.Idle = codes "--idle"
 
 -- what an option has that gives no length of time, and what it takes
 abbrev pub length_hint : ImportOption → List ℕ → List ℕ
-length_hint option given = hint (import_option_words option ++ (codes " is \"" ++ (given ++ codes "\", and takes a number above 0 in the unit of the times (ns for decimal seconds and time stamps), or a duration above 0 such as 250us, 5ms, 1m 30s or 2h, unless the times are whole numbers without --unit")))
+length_hint option given = hint (import_option_words option
+    ++ (codes " is \""
+    ++ (given
+    ++ codes "\", and takes a number above 0 in the unit of the times (ns for decimal seconds and time stamps), or a duration above 0 such as 250us, 5ms, 1m 30s or 2h, unless the times are whole numbers without --unit")))

@@ -37,4 +37,5 @@ report_option_words report_option.Start = codes "--start"
 
 -- which tick is asked for, and which there are
 abbrev pub tick_line : ReportOption → TickOutside → List ℕ
-tick_line option o = hint (report_option_words option ++ (codes " is " ++ (decimal o.tick ++ (codes ", and the trace has " ++ ticks_words o.last))))
+tick_line option o = hint (report_option_words option
+    ++ (codes " is " ++ (decimal o.tick ++ (codes ", and the trace has " ++ ticks_words o.last))))

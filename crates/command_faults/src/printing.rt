@@ -18,10 +18,13 @@ use trace_text::{Counting, write_text};
 /// Refuses only Write, with the number of bytes that went out before: the writer answered a fault, or
 /// took no byte.
 pub fn print<W: Write>(text: &str, writer: &mut Counting<W>) -> Result<(), Fault>
-    ensures whole { OnOk result (Appends (W.contents (inner_of writer.old)) (W.contents (inner_of writer.new)) text.now) }
+    ensures whole { OnOk result
+        (Appends (W.contents (inner_of writer.old)) (W.contents (inner_of writer.new)) text.now) }
     ensures flushed { OnOk result (IsTrue (is_flushed writer.new)) }
     ensures faultless { OnOk result (WasFaultless writer.old writer.new) }
-    ensures part { IfErr result (λ why. IsUnprinted why text.now (W.contents (inner_of writer.old)) (W.contents (inner_of writer.new))) }
+    ensures part { IfErr result
+        (λ why. IsUnprinted why text.now (W.contents (inner_of writer.old))
+        (W.contents (inner_of writer.new))) }
     ensures cause { IfErr result (IsWriteFault writer.old writer.new) }
 {
     Ok(write_text(text.as_bytes(), writer)?)
@@ -42,9 +45,12 @@ pub fn print_notes<W: Write>(text: &str, writer: &mut Counting<W>)
 /// Refuses Memory if the line can't be allocated, and then nothing is printed; and Write as `print`
 /// does.
 pub fn tell<W: Write>(alloc: Global, fault: &Fault, writer: &mut Counting<W>) -> Result<(), Fault>
-    ensures told { OnOk result (Appends (W.contents (inner_of writer.old)) (W.contents (inner_of writer.new)) (ended_line (fault_line fault.now))) }
+    ensures told { OnOk result (Appends (W.contents (inner_of writer.old))
+        (W.contents (inner_of writer.new)) (ended_line (fault_line fault.now))) }
     ensures flushed { OnOk result (IsTrue (is_flushed writer.new)) }
-    ensures part { IfErr result (λ why. IsUntold why (ended_line (fault_line fault.now)) (W.contents (inner_of writer.old)) (W.contents (inner_of writer.new))) }
+    ensures part { IfErr result
+        (λ why. IsUntold why (ended_line (fault_line fault.now)) (W.contents (inner_of writer.old))
+        (W.contents (inner_of writer.new))) }
     ensures cause { IfErr result (IsWriteFault writer.old writer.new) }
 {
     let line = told_line(alloc, fault)?;

@@ -36,7 +36,9 @@ plain_check name file certificate list plain_file plain_certificate plain_list =
     (after_word _ _ _ (codes "--correct") _ _ refl refl (after_value _ _ list _ _ plain_list refl refl refl refl (at_end _ _)))))
     refl refl refl refl tt (λ given h. h)
 
-pub plain_draw : (name file list : Text) → is_flag file ≡ false → is_flag list ≡ false → IsPlain (draw_line name file list) (IsDraw file list None None None None None None) (IsDrawFault file list None None)
+pub plain_draw : (name file list : Text) → is_flag file ≡ false → is_flag list ≡ false
+    → IsPlain (draw_line name file list) (IsDraw file list None None None None None None)
+    (IsDrawFault file list None None)
 unfolding clap_on_literals
 plain_draw name file list plain_file plain_list = plain_line (codes "draw") (file ∷ codes "--correct" ∷ list ∷ []) _ _ _ _
     (after_value _ _ file _ _ plain_file refl refl refl refl (after_word _ _ _ (codes "--correct") _ _ refl refl (after_value _ _ list _ _ plain_list refl refl refl refl (at_end _ _))))

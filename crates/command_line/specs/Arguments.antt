@@ -1,5 +1,6 @@
 -- The arguments that several commands take, what the words of a command line give for them, and why they are refused.
-use Rattle.std.specs.Prelude.{ℕ, ◌≡◌, ◌-◌, ◌^◌, ◌++◌, Bool, false, true, ◌==◌, if◌then◌else◌, List, [], ◌∷◌, Option, Some, None, codes, option_and_then, option_map, string_bytes, ⊤}
+use Rattle.std.specs.Prelude.{ℕ, ◌≡◌, ◌-◌, ◌^◌, ◌++◌, Bool, false, true, ◌==◌, if◌then◌else◌, List, [], ◌∷◌}
+use Rattle.std.specs.Prelude.{Option, Some, None, codes, option_and_then, option_map, string_bytes, ⊤}
 use Rattle.std.specs.Str.{bytes_eq}
 use Rattle.std.specs.Str.Parse.{digits_value, without_leading_plus}
 use Rattle.clap.specs.ValueTests.{is_unsigned_in}
@@ -76,7 +77,8 @@ correct_rule = option_rule (codes "correct")
 
 -- the number that the reader of 64-bit numbers reads in a text, if it is within these bounds
 abbrev pub number_of : ℕ → ℕ → Text → Option ℕ
-number_of least most text = if is_unsigned_in least most text then Some (digits_value 10 (without_leading_plus text)) else None
+number_of least most text = if is_unsigned_in least most text then Some
+    (digits_value 10 (without_leading_plus text)) else None
 
 -- the number of this name in the rows
 abbrev pub number_in : List Row → Text → ℕ → ℕ → Option ℕ
@@ -100,7 +102,8 @@ tick_in rows name = tick_of (first_of name rows)
 
 -- whether a flag was given, as its text says
 abbrev pub flag_of : Text → Option Bool
-flag_of text = if bytes_eq text (codes "true") then Some true else (if bytes_eq text (codes "false") then Some false else None)
+flag_of text = if bytes_eq text (codes "true") then Some true
+    else (if bytes_eq text (codes "false") then Some false else None)
 
 abbrev pub flag_in : List Row → Text → Option Bool
 flag_in rows name = option_and_then flag_of (first_of name rows)

@@ -39,7 +39,8 @@ and-none true = refl
 and-none false = refl
 
 -- a step that ends no round
-pub AreRounds-stays : (c : Setup) (steps : List Step) (k : ℕ) (x : Step) (rounds : List ℕ) → step_at steps k ≡ Some x → act_ends x.act ≡ false → AreRounds c steps k rounds → AreRounds c steps (k + 1) rounds
+pub AreRounds-stays : (c : Setup) (steps : List Step) (k : ℕ) (x : Step) (rounds : List ℕ) → step_at steps k ≡ Some x
+    → act_ends x.act ≡ false → AreRounds c steps k rounds → AreRounds c steps (k + 1) rounds
 AreRounds-stays c steps k x rounds h none are = record {
   count = are.count;
   each = λ p is. are.each p is ∙ sym (round_at-stays steps k x p h (ap (λ b. x.proc == p && b) none ∙ and-none (x.proc == p)));

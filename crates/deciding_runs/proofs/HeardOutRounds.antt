@@ -3,7 +3,10 @@ use Rattle.std.proofs.Common.{ℕ, zero, suc, ◌≡◌, ◌<◌, ◌≤◌, ◌
 use Rattle.std.specs.Prelude.{Contains}
 use Rattle.std.proofs.lemmas.Bool.{cases_lt}
 use Rattle.std.proofs.lemmas.Option.{slice_get_within, get_or_from_slice_get}
-use Rattle.deciding_runs.proofs.Common.{Step, Setup, IsSetup, has_proc, Contains-from_filter, Body, deciding_round, HaveDecided, IsSend, IsRun, node_at, sent_before, AreTogether, IsTakenInTime, may_hear, IsTakenAt, IsTakenBefore, HasHeardOf, TakesInOrder, IsHeardOut, HearOut}
+use Rattle.deciding_runs.proofs.Common.{Step, Setup, IsSetup, has_proc, Contains-from_filter, Body, deciding_round}
+use Rattle.deciding_runs.proofs.Common.{HaveDecided, IsSend, IsRun, node_at, sent_before, AreTogether, IsTakenInTime}
+use Rattle.deciding_runs.proofs.Common.{may_hear, IsTakenAt, IsTakenBefore, HasHeardOf, TakesInOrder, IsHeardOut}
+use Rattle.deciding_runs.proofs.Common.{HearOut}
 use Rattle.lock_phases.specs.NodeFunctions.{out}
 use Rattle.round_model.specs.RoundStates.{processors, state_after}
 use Rattle.step_buffers.specs.HeardTables.{passed, before, round_at, heard_table}
@@ -29,7 +32,8 @@ sender-may_hear : (c : Setup) (steps : List Step) (p q rounds s : ℕ) → IsRun
 sender-may_hear c steps p q rounds s run sent round =
     go (out c (state_after c (heard_table steps) rounds q) q (suc rounds) p) refl (said-of_sent c steps q p rounds s run sent round)
   where
-    go : (o : Option Body) → out c (state_after c (heard_table steps) rounds q) q (suc rounds) p ≡ o → is_some o ≡ true → may_hear c (state_after c (heard_table steps) rounds p) (suc rounds) p q ≡ true
+    go : (o : Option Body) → out c (state_after c (heard_table steps) rounds q) q (suc rounds) p ≡ o → is_some o ≡ true
+        → may_hear c (state_after c (heard_table steps) rounds p) (suc rounds) p q ≡ true
     go None e h = cc
     go (Some body) e h = tells-may_hear c (heard_table steps) rounds p q body e
 

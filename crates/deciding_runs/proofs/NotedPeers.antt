@@ -1,9 +1,14 @@
 -- What a pace notes is heard in the trace; so who ends a round because it is complete has heard all that it may hear.
-use Rattle.std.proofs.Common.{ℕ, ◌≡◌, ◌≢◌, ◌+◌, ◌-◌, ◌<◌, ◌≤◌, ◌⊎◌, inl, inr, List, [], ◌∷◌, ◌++◌, length, take, drop, map, Bool, true, false, ◌&&◌, ◌||◌, ◌==◌, not, cond, refl, sym, ap, subst, ◌∙◌, arith}
+use Rattle.std.proofs.Common.{ℕ, ◌≡◌, ◌≢◌, ◌+◌, ◌-◌, ◌<◌, ◌≤◌, ◌⊎◌, inl, inr, List, [], ◌∷◌, ◌++◌, length, take, drop}
+use Rattle.std.proofs.Common.{map, Bool, true, false, ◌&&◌, ◌||◌, ◌==◌, not, cond, refl, sym, ap, subst, ◌∙◌, arith}
 use Rattle.std.specs.Prelude.{Contains, count_by, slice_set}
 use Rattle.std.proofs.lemmas.Bool.{cases_lt, cases_eq, eqb-true, leb-true, and_parts}
 use Rattle.std.proofs.lemmas.List.{length-append, length-take-le, take-append-drop, get_or-set_same, get_or-set_other, get_or-map, get_or_past, length-map}
-use Rattle.deciding_runs.proofs.Common.{Step, Setup, IsProc, step_at_within, State, Contains-nil, processors, Contains-processors, step_at-prefix_old, round_at-prefix, Peer, has_proc, IsWithin, member-positive, node_before, may_hear, HasHeardOf, IsHeardOut, peer_of, unheard, after_hearing, after_phase, is_heard_of, is_awaited, awaited_count, Paced, is_complete, WereHeard, EndsComplete}
+use Rattle.deciding_runs.proofs.Common.{Step, Setup, IsProc, step_at_within, State, Contains-nil, processors}
+use Rattle.deciding_runs.proofs.Common.{Contains-processors, step_at-prefix_old, round_at-prefix, Peer, has_proc}
+use Rattle.deciding_runs.proofs.Common.{IsWithin, member-positive, node_before, may_hear, HasHeardOf, IsHeardOut}
+use Rattle.deciding_runs.proofs.Common.{peer_of, unheard, after_hearing, after_phase, is_heard_of, is_awaited}
+use Rattle.deciding_runs.proofs.Common.{awaited_count, Paced, is_complete, WereHeard, EndsComplete}
 use Rattle.lock_phases.proofs.Membership.{Contains-cons_cases}
 use Rattle.std.proofs.lemmas.List.Sums.{sum_by-cons}
 

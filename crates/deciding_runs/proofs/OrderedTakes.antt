@@ -2,7 +2,10 @@
 use Rattle.std.proofs.Common.{ℕ, ◌≡◌, ◌-◌, ◌<◌, ◌≤◌, List, ◌++◌, length, drop, Some, Bool, true, false, refl, sym, ap, subst, ◌∙◌, arith, eq-eqb}
 use Rattle.std.specs.Prelude.{Contains}
 use Rattle.std.proofs.lemmas.List.{take-append-drop, length-take-le}
-use Rattle.deciding_runs.proofs.Common.{Act, Step, Setup, step_at, IsWellFormed, act_ids, step_at_within, Contains-filter, before, numbers, buffer, waits_for, IsSend, step_at-prefix, IsWellFormed-prefix, Contains-numbers, IsTakenAt, IsTakenBefore, TakesInOrder, TakesAll}
+use Rattle.deciding_runs.proofs.Common.{Act, Step, Setup, step_at, IsWellFormed, act_ids, step_at_within}
+use Rattle.deciding_runs.proofs.Common.{Contains-filter, before, numbers, buffer, waits_for, IsSend, step_at-prefix}
+use Rattle.deciding_runs.proofs.Common.{IsWellFormed-prefix, Contains-numbers, IsTakenAt, IsTakenBefore, TakesInOrder}
+use Rattle.deciding_runs.proofs.Common.{TakesAll}
 use Rattle.step_trace.specs.declared.steps.Act.TheVariants.{Send, Receive}
 use Rattle.step_trace.specs.PushRefusals.{is_taken}
 use Rattle.step_buffers.proofs.KeptInboxes.{IsTakenBy-receiver}

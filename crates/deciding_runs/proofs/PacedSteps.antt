@@ -5,7 +5,11 @@ use Rattle.std.proofs.lemmas.Bool.{cases_lt}
 use Rattle.std.proofs.lemmas.List.{length-append, length-set}
 use Rattle.std.proofs.lemmas.Option.{same_Some}
 use Rattle.step_trace.specs.declared.steps.Act.TheVariants as act
-use Rattle.deciding_runs.proofs.Common.{Step, Setup, IsProc, step_at, IsWellFormed, step_at_within, step_at_last, Contains-head, Contains-rest, part_of, passed, round_at, IsSend, buffer, next_send, step_of, step_at-prefix_old, round_at-prefix, Peer, HasHeardOf, Paced, WereHeard, heard_message, heard_waiting, ends_round, paced_move, after_receive, after_move}
+use Rattle.deciding_runs.proofs.Common.{Step, Setup, IsProc, step_at, IsWellFormed, step_at_within, step_at_last}
+use Rattle.deciding_runs.proofs.Common.{Contains-head, Contains-rest, part_of, passed, round_at, IsSend, buffer}
+use Rattle.deciding_runs.proofs.Common.{next_send, step_of, step_at-prefix_old, round_at-prefix, Peer, HasHeardOf}
+use Rattle.deciding_runs.proofs.Common.{Paced, WereHeard, heard_message, heard_waiting, ends_round, paced_move}
+use Rattle.deciding_runs.proofs.Common.{after_receive, after_move}
 use Rattle.step_buffers.specs.Origins.{sender_of, round_ahead}
 use Rattle.step_buffers.proofs.BufferSteps.{IsWaiting-from_buffer}
 use Rattle.step_buffers.proofs.MessageOrigins.{sender_of-sent, round_ahead-ahead, round_ahead-past}

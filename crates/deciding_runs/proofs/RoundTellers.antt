@@ -57,7 +57,11 @@ owes-proposal c table rounds q o e owns owes = go (state_after c table (suc roun
     untold : (state_after c table (suc rounds) o).proposal ≡ None → (state_after c table (suc (suc rounds)) q).owes_ack ≡ false
     untold none = ap (λ (s : State). s.owes_ack) (state_after-next c table (suc rounds) q)
         ∙ (locking-untold c (state_after c table (suc rounds) q) q (suc (suc rounds)) (messages_heard c table (state_after c table (suc rounds)) q (suc (suc rounds))) second
-        (λ v told. let clash = sym (told-proposal c table (suc rounds) q o v (subst (λ j. IsToldToLock j (messages_heard c table (state_after c table (suc rounds)) q (suc (suc rounds))) v) (sym owns) told)) ∙ none in cc)).owes_ack
+        (λ v told. let clash = sym
+        (told-proposal c table (suc rounds) q o v
+        (subst
+        (λ j. IsToldToLock j (messages_heard c table (state_after c table (suc rounds)) q
+        (suc (suc rounds))) v) (sym owns) told)) ∙ none in cc)).owes_ack
         ∙ owes-none_listed c table rounds q e
 
     go : (proposal : Option ℕ) → (state_after c table (suc rounds) o).proposal ≡ proposal → is_some (state_after c table (suc (suc rounds)) o).proposal ≡ true

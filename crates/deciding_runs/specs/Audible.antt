@@ -1,7 +1,8 @@
 -- Whom a processor may hear in a round, as far as its own node knows (own; by the table of Algorithm 1).
 use Rattle.std.specs.Prelude.{ℕ, Bool, true, false, is_some, not, ◌==◌, ◌&&◌, ◌||◌}
 use Rattle.step_trace.specs.Configurations.{Setup}
-use Rattle.lock_phases.specs.Rounds.{phase_of, part_of, owner, Part, Listing, Locking, Acknowledging, Releasing, part_at}
+use Rattle.lock_phases.specs.Rounds.{phase_of, part_of, owner, Part, Listing, Locking}
+use Rattle.lock_phases.specs.Rounds.{Acknowledging, Releasing, part_at}
 use Rattle.lock_phases.specs.Nodes.{State}
 
 -- Whom p, with this node, may hear in each part of a phase. The owner may be sent lists, and acknowledgements if it

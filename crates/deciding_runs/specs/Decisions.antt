@@ -20,7 +20,8 @@ decision_after c steps rounds p = (state_after c (heard_table steps) rounds p).d
 
 -- what p decides if it ends its round with step k
 abbrev pub decision_of_round : Setup → List Step → ℕ → ℕ → Option Decision
-decision_of_round c steps p k = new_decision p k (decision_after c steps (round_at steps p k - 1) p) (decision_after c steps (round_at steps p k) p)
+decision_of_round c steps p k = new_decision p k (decision_after c steps (round_at steps p k - 1) p)
+    (decision_after c steps (round_at steps p k) p)
 
 -- what step k decides: nothing, unless it ends a round
 abbrev pub ended_decision : Setup → List Step → ℕ → ℕ → Bool → Option Decision
@@ -29,7 +30,8 @@ ended_decision c steps k p true = decision_of_round c steps p k
 
 -- what the step of this number decides, if it decides anything
 abbrev pub decision_at : Setup → List Step → ℕ → Option Decision
-decision_at c steps k = option_and_then (λ (x : Step). ended_decision c steps k x.proc (act_ends x.act)) (step_at steps k)
+decision_at c steps k = option_and_then (λ (x : Step). ended_decision c steps k x.proc (act_ends x.act))
+    (step_at steps k)
 
 -- the decisions of a run, in the order of their steps
 abbrev pub decisions : Setup → List Step → List Decision

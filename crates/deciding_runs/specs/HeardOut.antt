@@ -36,7 +36,8 @@ pub record IsTakenBefore (steps : List Step) (p k s : ℕ) : Type 0 where
 -- p takes what q sends to it in the order in which it was sent: with a message, or before it, each earlier one
 abbrev pub TakesInOrder : List Step → ℕ → ℕ → Type 0
 TakesInOrder steps p q =
-    (s later k : ℕ) → IsSend steps q p s → IsSend steps q p later → s < later → IsTakenAt steps p k later → IsTakenBefore steps p k s
+    (s later k : ℕ) → IsSend steps q p s → IsSend steps q p later → s < later → IsTakenAt steps p k later
+    → IsTakenBefore steps p k s
 
 -- When p ended this round, it had heard something of that round or a later one from each member that it may hear. So
 -- no patience ended it.
@@ -45,7 +46,8 @@ pub record IsHeardOut (c : Setup) (steps : List Step) (set p round : ℕ) : Type
   pub ids : List ℕ
   pub step : step_at steps place ≡ Some (record { proc = p; act = Receive true ids })
   pub round_is : round_at steps p place ≡ round
-  pub heard : (q : ℕ) → IsTrue (has_proc set q) → may_hear c (node_before c steps p place) round p q ≡ true → HasHeardOf steps p q round place
+  pub heard : (q : ℕ) → IsTrue (has_proc set q) → may_hear c (node_before c steps p place) round p q ≡ true
+      → HasHeardOf steps p q round place
 
 -- A set of at least N - t processors that take one another's messages in order. Each ends each of some rounds when it
 -- has heard all of the set that it may hear in it.
@@ -58,4 +60,5 @@ pub record HearOut (c : Setup) (steps : List Step) (set first last : ℕ) : Type
 
 -- each Receive of p takes all that waits for it
 abbrev pub TakesAll : List Step → ℕ → Type 0
-TakesAll steps p = (k : ℕ) (ids : List ℕ) (ends : Bool) → step_at steps k ≡ Some (record { proc = p; act = Receive ends ids }) → ids ≡ buffer (before steps k) p
+TakesAll steps p = (k : ℕ) (ids : List ℕ) (ends : Bool)
+    → step_at steps k ≡ Some (record { proc = p; act = Receive ends ids }) → ids ≡ buffer (before steps k) p

@@ -1,5 +1,6 @@
 -- The pace "heard out" (own): what a processor does next, and which of its Receives ends its round.
-use Rattle.std.specs.Prelude.{ℕ, ◌≡◌, ◌+◌, ◌<◌, ◌≤◌, ◌-◌, List, Some, Bool, true, false, IsTrue, is_some, is_none, not, nat_le, ◌==◌, ◌&&◌, ◌||◌, if◌then◌else◌, length, take, map, fold, replicate, slice_set}
+use Rattle.std.specs.Prelude.{ℕ, ◌≡◌, ◌+◌, ◌<◌, ◌≤◌, ◌-◌, List, Some, Bool, true, false, IsTrue, is_some, is_none, not}
+use Rattle.std.specs.Prelude.{nat_le, ◌==◌, ◌&&◌, ◌||◌, if◌then◌else◌, length, take, map, fold, replicate, slice_set}
 use Rattle.step_trace.specs.declared.steps.Act.TheVariants.{Receive}
 use Rattle.step_trace.specs.declared.steps.Step.{Step}
 use Rattle.step_trace.specs.Configurations.{Setup}
@@ -19,7 +20,8 @@ use Rattle.step_buffers.specs.Moves.{next_send}
 use Rattle.deciding_runs.specs.declared.peers.Peer.{Peer}
 use Rattle.deciding_runs.specs.Audible.{may_hear_all}
 use Rattle.deciding_runs.specs.HeardOut.{HasHeardOf, TakesAll}
-use Rattle.deciding_runs.specs.Peers.{unheard, peer_of, after_hearing, after_phase, is_left_behind, awaited_count, heard_count}
+use Rattle.deciding_runs.specs.Peers.{unheard, peer_of, after_hearing, after_phase}
+use Rattle.deciding_runs.specs.Peers.{is_left_behind, awaited_count, heard_count}
 
 -- what contracts see of a Pace: what was heard of each processor; of how many something must be heard if all may say
 -- something; how many Receives a round may take; and how many it may take still
@@ -31,12 +33,14 @@ pub record Paced : Type 0 where
 
 -- the pace before the first round
 abbrev pub opening_pace : Setup → ℕ → Paced
-opening_pace c patience = record { peers = replicate c.n unheard; quorum = c.n - c.t; patience = patience; left = patience }
+opening_pace c patience =
+    record { peers = replicate c.n unheard; quorum = c.n - c.t; patience = patience; left = patience }
 
 -- All has been heard that the round can bring: nobody is waited for, and if all may say something, a quorum has been
 -- heard of.
 abbrev pub is_complete : Setup → State → ℕ → ℕ → Paced → Bool
-is_complete c node round p x = awaited_count c node round p x.peers == 0 && (not (may_hear_all c node round p) || nat_le x.quorum (heard_count round x.peers))
+is_complete c node round p x = awaited_count c node round p x.peers == 0 &&
+    (not (may_hear_all c node round p) || nat_le x.quorum (heard_count round x.peers))
 
 -- The round is over: it is complete, or somebody is more than a phase ahead, or this is the last Receive that it may
 -- take.
@@ -71,11 +75,13 @@ paced_move c steps p x = if is_some (next_send c steps p) then move.Send else mo
 
 -- whether p has nothing to do until a message comes: nothing to send, and nothing that waits, and its round isn't over
 abbrev pub is_idle : Setup → List Step → ℕ → Paced → Bool
-is_idle c steps p x = is_none (next_send c steps p) && length (buffer steps p) == 0 && not (is_over c (node_at c steps p) (passed steps p + 1) p x)
+is_idle c steps p x = is_none (next_send c steps p) && length
+    (buffer steps p) == 0 && not (is_over c (node_at c steps p) (passed steps p + 1) p x)
 
 -- after a Receive that ended the round
 abbrev pub after_round : ℕ → Paced → Paced
-after_round round x = record x { peers = if part_of round == 4 then map (after_phase round) x.peers else x.peers; left = x.patience }
+after_round round x =
+    record x { peers = if part_of round == 4 then map (after_phase round) x.peers else x.peers; left = x.patience }
 
 -- after a Receive that didn't
 abbrev pub after_wait : Paced → Paced
@@ -88,11 +94,13 @@ after_receive ends round x = if ends then after_round round x else after_wait x
 -- the pace of p after its move
 abbrev pub after_move : Setup → List Step → ℕ → Paced → Paced
 after_move c steps p x =
-    if is_some (next_send c steps p) then x else after_receive (ends_round c steps p x) (passed steps p + 1) (heard_waiting steps p x)
+    if is_some (next_send c steps p) then x else after_receive (ends_round c steps p x) (passed steps p + 1)
+    (heard_waiting steps p x)
 
 -- What p has heard of the others it has heard in the trace: of whom it took a message of this round.
 abbrev pub WereHeard : List Step → ℕ → List Peer → Type 0
-WereHeard steps p peers = (q : ℕ) → 1 ≤ q → 0 < (peer_of peers q).latest → HasHeardOf steps p q (peer_of peers q).latest (length steps)
+WereHeard steps p peers = (q : ℕ) → 1 ≤ q → 0 < (peer_of peers q).latest
+    → HasHeardOf steps p q (peer_of peers q).latest (length steps)
 
 -- A round of p that its pace ended as complete, with the step that ended it. What was noted by then was heard, and p
 -- still waited for each member of the set. So no patience ended it, and p wasn't left behind.

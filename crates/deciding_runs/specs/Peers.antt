@@ -1,5 +1,6 @@
 -- What a processor has heard of each other one, and for whom it still waits in a round (own).
-use Rattle.std.specs.Prelude.{ℕ, ◌-◌, List, Bool, true, false, max, not, nat_lt, nat_le, ◌&&◌, ◌||◌, count_by, slice_index_or}
+use Rattle.std.specs.Prelude.{ℕ, ◌-◌, List, Bool, true, false, max, not, nat_lt}
+use Rattle.std.specs.Prelude.{nat_le, ◌&&◌, ◌||◌, count_by, slice_index_or}
 use Rattle.std.specs.List.{list_any}
 use Rattle.step_trace.specs.Configurations.{Setup}
 use Rattle.lock_phases.specs.Nodes.{State}
@@ -21,7 +22,11 @@ after_hearing round peer = record { latest = max peer.latest round; spoke = true
 
 -- after the last round of a phase: it is suspected if it said nothing in the phase, and isn't ahead
 abbrev pub after_phase : ℕ → Peer → Peer
-after_phase round peer = record { latest = peer.latest; spoke = false; suspected = peer.suspected || (not peer.spoke && nat_lt peer.latest round) }
+after_phase round peer = record {
+  latest = peer.latest;
+  spoke = false;
+  suspected = peer.suspected || (not peer.spoke && nat_lt peer.latest round);
+}
 
 -- a message of this round or of a later one was taken
 abbrev pub is_heard_of : ℕ → Peer → Bool

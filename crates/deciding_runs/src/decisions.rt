@@ -48,9 +48,11 @@ fn note_step(
     requires numbered { 1 ≤ no }
     requires within { no ≤ length world.now.trace.steps }
     requires rounds { AreRounds world.now.trace.config world.now.trace.steps no rounds.old }
-    ensures rounds { OnOk result (AreRounds world.now.trace.config world.now.trace.steps (no + 1) rounds.new) }
+    ensures rounds { OnOk result
+        (AreRounds world.now.trace.config world.now.trace.steps (no + 1) rounds.new) }
     ensures found { OnOk result (found.new.items
-        ≡ found.old.items ++ filter_map (decision_at world.now.trace.config world.now.trace.steps) (no ∷ [])) }
+        ≡ found.old.items ++ filter_map
+        (decision_at world.now.trace.config world.now.trace.steps) (no ∷ [])) }
 {
     let Some(step) = world.trace().step(no) else {
         return Ok(());
@@ -68,7 +70,8 @@ fn decided_with(world: &World, step: &Step, no: u64, rounds: &mut [u64]) -> Opti
     requires processor { IsProc world.now.trace.config step.now.proc }
     requires limit { length world.now.trace.steps ≤ MAX_STEPS }
     requires rounds { AreRounds world.now.trace.config world.now.trace.steps no rounds.old }
-    ensures decided { result ≡ ended_decision world.now.trace.config world.now.trace.steps no step.now.proc (act_ends step.now.act) }
+    ensures decided { result ≡ ended_decision world.now.trace.config world.now.trace.steps no
+        step.now.proc (act_ends step.now.act) }
     ensures rounds { AreRounds world.now.trace.config world.now.trace.steps (no + 1) rounds.new }
 {
     if !ends_round(&step.act) {

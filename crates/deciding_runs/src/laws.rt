@@ -19,7 +19,8 @@ ghost use Rattle.deciding_runs.specs.FilledTables.{filled};
 ghost use Rattle.deciding_runs.specs.Audible.{may_hear};
 ghost use Rattle.deciding_runs.specs.HeardOut.{HearOut, HasHeardOf, IsHeardOut, TakesAll, TakesInOrder};
 ghost use Rattle.deciding_runs.specs.Peers.{peer_of};
-ghost use Rattle.deciding_runs.specs.Paces.{Paced, WereHeard, EndsComplete, EndRoundsComplete, is_complete, paced_move, after_move};
+ghost use Rattle.deciding_runs.specs.Paces.{Paced, WereHeard, EndsComplete, EndRoundsComplete};
+ghost use Rattle.deciding_runs.specs.Paces.{is_complete, paced_move, after_move};
 
 /// If at least N - t processors pass some rounds and hear all that they say to one another in them, each of them
 /// decides (section 3 of the 1988 paper argues so of its rounds).
@@ -30,7 +31,8 @@ ghost use Rattle.deciding_runs.specs.Paces.{Paced, WereHeard, EndsComplete, EndR
 /// has sent all that it had to say in it (`sent`). To hear of somebody who has nothing to say changes no node
 /// (`silence`).
 pub fn deciding_laws()
-    ensures decided { (c : Setup) (steps : List TraceStep) (set first : ℕ) → IsSetup c → IsRun c steps
+    ensures decided { (c : Setup) (steps : List TraceStep) (set first : ℕ) → IsSetup c
+        → IsRun c steps
         → AreTogether c steps set first (deciding_round c first)
         → HaveDecided set (node_at c steps) }
     ensures by_tick { (trace cut : Recorded) (tick set first : ℕ) → IsSetup trace.config
@@ -39,8 +41,8 @@ pub fn deciding_laws()
         → HavePassedBy trace set (deciding_round trace.config first) tick
         → IsCutAt trace tick cut
         → HaveDecided set (node_at cut.config cut.steps) }
-    ensures sent { (c : Setup) (steps : List TraceStep) (rounds q to : ℕ) (body : SaidBody) → IsRun c steps
-        → rounds + 1 ≤ passed steps q → IsProc c to
+    ensures sent { (c : Setup) (steps : List TraceStep) (rounds q to : ℕ) (body : SaidBody)
+        → IsRun c steps → rounds + 1 ≤ passed steps q → IsProc c to
         → out c (state_after c (heard_table steps) rounds q) q (rounds + 1) to ≡ Some body
         → IsSentInRound steps q to (rounds + 1) }
     ensures silence { (c : Setup) (table : Table) (rounds p : ℕ)
@@ -59,8 +61,8 @@ pub fn heard_out_laws()
     ensures tellers { (c : Setup) (table : Table) (rounds p q : ℕ) (body : SaidBody)
         → out c (state_after c table rounds q) q (rounds + 1) p ≡ Some body
         → may_hear c (state_after c table rounds p) (rounds + 1) p q ≡ true }
-    ensures decided { (c : Setup) (steps : List TraceStep) (set first : ℕ) → IsSetup c → IsRun c steps
-        → HearOut c steps set first (deciding_round c first)
+    ensures decided { (c : Setup) (steps : List TraceStep) (set first : ℕ) → IsSetup c
+        → IsRun c steps → HearOut c steps set first (deciding_round c first)
         → HaveDecided set (node_at c steps) }
     ensures order { (c : Setup) (steps : List TraceStep) (p q : ℕ) → IsWellFormed c steps
         → TakesAll steps p → TakesInOrder steps p q }
@@ -80,12 +82,13 @@ pub fn pace_laws()
         → HasHeardOf steps p q round (length steps) }
     ensures heard_out { (c : Setup) (steps : List TraceStep) (set p round : ℕ) → IsWithin set c.n
         → 1 ≤ round → EndsComplete c steps set p round → IsHeardOut c steps set p round }
-    ensures decided { (c : Setup) (steps : List TraceStep) (set first : ℕ) → IsSetup c → IsRun c steps
-        → EndRoundsComplete c steps set first (deciding_round c first)
+    ensures decided { (c : Setup) (steps : List TraceStep) (set first : ℕ) → IsSetup c
+        → IsRun c steps → EndRoundsComplete c steps set first (deciding_round c first)
         → HaveDecided set (node_at c steps) }
     ensures grows { (steps more : List TraceStep) (p : ℕ) (x : Paced)
         → WereHeard steps p x.peers → WereHeard (steps ++ more) p x.peers }
-    ensures moved { (c : Setup) (steps : List TraceStep) (step : TraceStep) (p : ℕ) (x : Paced) → IsProc c p
-        → IsWellFormed c steps → length x.peers ≡ c.n → step_of c steps p (paced_move c steps p x) ≡ Some step
-        → WereHeard steps p x.peers → WereHeard (steps ++ step ∷ []) p (after_move c steps p x).peers }
+    ensures moved { (c : Setup) (steps : List TraceStep) (step : TraceStep) (p : ℕ) (x : Paced)
+        → IsProc c p → IsWellFormed c steps → length x.peers ≡ c.n
+        → step_of c steps p (paced_move c steps p x) ≡ Some step → WereHeard steps p x.peers
+        → WereHeard (steps ++ step ∷ []) p (after_move c steps p x).peers }
 {}

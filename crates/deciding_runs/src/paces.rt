@@ -4,7 +4,9 @@ ghost use Rattle.std.specs.Prelude.{◌≡◌, ◌≤◌, ◌+◌, All, Contains
 ghost use Rattle.step_trace.specs.Configurations.{IsProc};
 ghost use Rattle.step_buffers.specs.Buffers.{buffer};
 ghost use Rattle.step_buffers.specs.HeardTables.{passed};
-ghost use Rattle.deciding_runs.specs.Paces.{opening_pace, is_complete, is_over, heard_message, heard_ids, heard_waiting, ends_taking, is_idle, paced_move, after_round, after_wait, after_receive, after_move};
+ghost use Rattle.deciding_runs.specs.Paces.{opening_pace, is_complete, is_over, heard_message, heard_ids};
+ghost use Rattle.deciding_runs.specs.Paces.{heard_waiting, ends_taking, is_idle, paced_move, after_round, after_wait};
+ghost use Rattle.deciding_runs.specs.Paces.{after_receive, after_move};
 
 use crate::audible::may_hear_all;
 use crate::peers::{Peer, awaited, end_phase, hear, heard, is_left_behind};
@@ -74,8 +76,10 @@ impl Pace {
     pub fn next_move<'a>(&mut self, world: &World, p: u64) -> Move<'a>
         requires processor { IsProc world.now.trace.config p }
         requires peers { length self.old.peers ≡ world.now.trace.config.n }
-        ensures moved { result ≡ paced_move world.now.trace.config world.now.trace.steps p self.old }
-        ensures pace { self.new ≡ after_move world.now.trace.config world.now.trace.steps p self.old }
+        ensures moved { result ≡ paced_move world.now.trace.config
+            world.now.trace.steps p self.old }
+        ensures pace { self.new ≡ after_move world.now.trace.config
+            world.now.trace.steps p self.old }
         ensures peers { length self.new.peers ≡ length self.old.peers }
     {
         if world.next_destination(p).is_some() {
@@ -98,8 +102,10 @@ impl Pace {
         requires processor { IsProc world.now.trace.config p }
         requires peers { length self.old.peers ≡ world.now.trace.config.n }
         requires waiting { All (λ s. Contains (buffer world.now.trace.steps p) s) ids.now }
-        ensures ends { result ≡ ends_taking world.now.trace.config world.now.trace.steps p ids.now self.old }
-        ensures pace { self.new ≡ after_receive result (passed world.now.trace.steps p + 1) (heard_ids world.now.trace.steps p ids.now self.old) }
+        ensures ends { result ≡ ends_taking world.now.trace.config world.now.trace.steps p
+            ids.now self.old }
+        ensures pace { self.new ≡ after_receive result (passed world.now.trace.steps p + 1)
+            (heard_ids world.now.trace.steps p ids.now self.old) }
         ensures peers { length self.new.peers ≡ length self.old.peers }
     {
         self.hear_ids(world, p, ids);
@@ -204,7 +210,8 @@ impl Pace {
 fn hear_waiting(peers: &mut [Peer], world: &World, p: u64)
     requires processor { IsProc world.now.trace.config p }
     requires peers { length peers.old ≡ world.now.trace.config.n }
-    ensures { peers.new ≡ fold (heard_message world.now.trace.steps p) peers.old (buffer world.now.trace.steps p) }
+    ensures { peers.new ≡ fold (heard_message world.now.trace.steps p) peers.old
+        (buffer world.now.trace.steps p) }
 {
     for id in world.waiting(p) {
         let (from, round) = world.origin(p, *id);

@@ -2,7 +2,8 @@
 
 ghost use Rattle.std.specs.Prelude.{◌≡◌, ◌≤◌, ◌-◌, ◌&&◌, not, length, map, slice_set};
 ghost use Rattle.deciding_runs.specs.Audible.{may_hear};
-ghost use Rattle.deciding_runs.specs.Peers.{after_hearing, after_phase, is_heard_of, is_done_with, is_far_ahead, is_left_behind, awaited_count, heard_count, peer_of};
+ghost use Rattle.deciding_runs.specs.Peers.{after_hearing, after_phase, is_heard_of, is_done_with, is_far_ahead};
+ghost use Rattle.deciding_runs.specs.Peers.{is_left_behind, awaited_count, heard_count, peer_of};
 
 use crate::audible::may_hear;
 use lock_phases::Node;
@@ -63,7 +64,8 @@ impl Peer {
 pub(crate) fn hear(peers: &mut [Peer], from: u64, round: u64)
     requires low { 1 ≤ from }
     requires high { from ≤ length peers.old }
-    ensures { peers.new ≡ slice_set peers.old (from - 1) (after_hearing round (peer_of peers.old from)) }
+    ensures { peers.new ≡ slice_set peers.old (from - 1)
+        (after_hearing round (peer_of peers.old from)) }
 {
     peers[(from - 1) as usize].hear(round);
 }
@@ -80,7 +82,8 @@ pub(crate) fn end_phase(peers: &mut [Peer], round: u64)
 /// Whether p, with this node, waits for q in a round, of whom it heard this.
 fn is_awaited(config: &Config, node: &Node, round: u64, p: u64, q: u64, peer: &Peer) -> bool
     requires { 1 ≤ round }
-    ensures { result ≡ (may_hear config.now node.now round p q && not (is_done_with round peer.now)) }
+    ensures { result ≡ (may_hear config.now node.now round p q &&
+        not (is_done_with round peer.now)) }
 {
     may_hear(config, node, round, p, q) && !peer.is_done(round)
 }

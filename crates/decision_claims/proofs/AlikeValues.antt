@@ -118,7 +118,8 @@ module _ (R : ℕ → ℕ → ℕ → Type 0) (kept : IsKeptByFormulas R) (a b :
       (record { most = l.0.most; sum = l.0.sum; product = kept.product cap x.product y.product (whole f) (whole g) l.0.product (whole_alike cap f g h) }, l.1)
 
   -- the values of the same parts after what is alike
-  pub value_alike : (cap : ℕ) (parts : List Part) (s t : Tally) → AreAlike (cap * divisors parts) s.here t.here → AreAllAlike (cap * divisors parts) s.around t.around → R cap (value_from a s parts) (value_from b t parts)
+  pub value_alike : (cap : ℕ) (parts : List Part) (s t : Tally) → AreAlike (cap * divisors parts) s.here t.here
+      → AreAllAlike (cap * divisors parts) s.around t.around → R cap (value_from a s parts) (value_from b t parts)
   value_alike cap [] s t h l = whole_alike cap s.here t.here (subst (λ c. AreAlike c s.here t.here) (mul-one cap) h)
   value_alike cap (Value o ∷ parts) s t h l = value_alike cap parts (with_part a s (Value o)) (with_part b t (Value o))
       (record { most = h.most; sum = h.sum; product = kept.product (cap * divisors parts) s.here.product t.here.product (operand_value a o) (operand_value b o) h.product (operands (cap * divisors parts) o) }) l
@@ -195,8 +196,10 @@ divisors_less Comma rest = omega arith
 divisors_less Close rest = omega arith
 
 -- one part more was read, up to each cap
-pub near_next : (words : Words) (cap bound : ℕ) (part : Part) (rest : List Part) (old new : Tally) → cap * divisors (part ∷ rest) ≤ bound → ((c : ℕ) → c ≤ bound → IsNear c new (with_part words old part))
-    → (cap * divisors rest ≤ bound) × (min (value_from words new rest) cap ≡ min (value_from words old (part ∷ rest)) cap)
+pub near_next : (words : Words) (cap bound : ℕ) (part : Part) (rest : List Part) (old new : Tally)
+    → cap * divisors (part ∷ rest) ≤ bound → ((c : ℕ) → c ≤ bound → IsNear c new (with_part words old part))
+    → (cap * divisors rest ≤ bound)
+    × (min (value_from words new rest) cap ≡ min (value_from words old (part ∷ rest)) cap)
 near_next words cap bound part rest old new l near =
     let less : cap * divisors rest ≤ cap * divisors (part ∷ rest) = mul-le-mul_left cap (divisors_less part rest) in
     let room : cap * divisors rest ≤ bound = omega (arith, less, l) in

@@ -1,5 +1,6 @@
 -- What is read of a text stays within the limits.
-use Rattle.std.proofs.Common.{ℕ, ◌≡◌, ◌≢◌, ◌+◌, ◌-◌, ◌*◌, ◌/◌, ◌%◌, ◌^◌, ◌<◌, ◌≤◌, inl, inr, List, [], ◌∷◌, ◌++◌, max, Bool, true, false, ◌&&◌, ◌==◌, refl, sym, ap, subst, ◌∙◌, true≢false, suc, zero, arith}
+use Rattle.std.proofs.Common.{ℕ, ◌≡◌, ◌≢◌, ◌+◌, ◌-◌, ◌*◌, ◌/◌, ◌%◌, ◌^◌, ◌<◌, ◌≤◌, inl, inr, List, [], ◌∷◌, ◌++◌, max}
+use Rattle.std.proofs.Common.{Bool, true, false, ◌&&◌, ◌==◌, refl, sym, ap, subst, ◌∙◌, true≢false, suc, zero, arith}
 use Rattle.std.specs.Prelude.{Result, Ok, Err, Option, Some, None, is_ok, nat_lt, option_to_list, if◌then◌else◌}
 use Rattle.std.proofs.Math.Nat.{mul-one, one-mul, mul_assoc}
 use Rattle.std.proofs.Math.Pow.{pow_mono}
@@ -56,7 +57,17 @@ made-opened : (s : State) (kind : ℕ) (p : Part) (m : Move) → ((next : State)
 unfolding opened
 made-opened s kind p m is = go (nat_lt s.groups (2 ^ 32)) refl where
   go : (b : Bool) → nat_lt s.groups (2 ^ 32) ≡ b
-      → (if b then Ok (record { state = record { need = need.Operand; groups = s.groups * 2 + kind; divisors = s.divisors; operands = s.operands }; part = Some p }) else Err (bad.Depth (s.operands + 1))) ≡ okay m → IsMade s m
+      → (if b then Ok
+      (record {
+        state =
+            record {
+              need = need.Operand;
+              groups = s.groups * 2 + kind;
+              divisors = s.divisors;
+              operands = s.operands;
+            };
+        part = Some p;
+      }) else Err (bad.Depth (s.operands + 1))) ≡ okay m → IsMade s m
   go true t e = made s _ m e (is _ (record { room = grind (arith, nat_tests); groups = omega arith; divisors = refl }))
   go false t e = refused _ m e
 
@@ -64,7 +75,12 @@ made-divided : (s : State) (k : ℕ) (m : Move) → divided s k ≡ okay m → I
 unfolding divided
 made-divided s k m = go (nat_lt 0 (s.divisors * k)) (nat_lt (s.divisors * k) (2 ^ 32)) refl refl where
   go : (a b : Bool) → nat_lt 0 (s.divisors * k) ≡ a → nat_lt (s.divisors * k) (2 ^ 32) ≡ b
-      → (if (a && b) then Ok (record { state = record { need = need.Sign; groups = s.groups; divisors = s.divisors * k; operands = s.operands + 1 }; part = Some (Over k) }) else Err (bad.Divisor (s.operands + 1))) ≡ okay m → IsMade s m
+      → (if (a && b) then Ok
+      (record {
+        state =
+            record { need = need.Sign; groups = s.groups; divisors = s.divisors * k; operands = s.operands + 1 };
+        part = Some (Over k);
+      }) else Err (bad.Divisor (s.operands + 1))) ≡ okay m → IsMade s m
   go true true t u e = made s _ m e (refl, refl, grind (arith, nat_tests), grind (arith, nat_tests))
   go true false t u e = refused _ m e
   go false b t u e = refused _ m e
@@ -72,7 +88,13 @@ made-divided s k m = go (nat_lt 0 (s.divisors * k)) (nat_lt (s.divisors * k) (2 
 made-comma : (s : State) (m : Move) → next_of_max s ≡ okay m → IsMade s m
 unfolding next_of_max
 made-comma s m = go (nat_lt 1 s.groups && (s.groups % 2) == 1) where
-  go : (b : Bool) → (if b then Ok (record { state = record { need = need.Operand; groups = s.groups; divisors = s.divisors; operands = s.operands }; part = Some Comma }) else Err (bad.Sign s.operands)) ≡ okay m → IsMade s m
+  go : (b : Bool)
+      → (if b then Ok
+      (record {
+        state =
+            record { need = need.Operand; groups = s.groups; divisors = s.divisors; operands = s.operands };
+        part = Some Comma;
+      }) else Err (bad.Sign s.operands)) ≡ okay m → IsMade s m
   go true e = made s _ m e (refl, refl)
   go false e = refused _ m e
 
@@ -80,7 +102,12 @@ made-closed : (s : State) (m : Move) → after_group s ≡ okay m → IsMade s m
 unfolding after_group
 made-closed s m = go (nat_lt 1 s.groups) refl where
   go : (b : Bool) → nat_lt 1 s.groups ≡ b
-      → (if b then Ok (record { state = record { need = need.Sign; groups = s.groups / 2; divisors = s.divisors; operands = s.operands }; part = Some Close }) else Err (bad.Sign s.operands)) ≡ okay m → IsMade s m
+      → (if b then Ok
+      (record {
+        state =
+            record { need = need.Sign; groups = s.groups / 2; divisors = s.divisors; operands = s.operands };
+        part = Some Close;
+      }) else Err (bad.Sign s.operands)) ≡ okay m → IsMade s m
   go true t e =
       let whole = div-add-mod' s.groups 2 in
       let below = mod_below s.groups 2 (omega arith) in
@@ -224,7 +251,8 @@ shallower s next parts h sound = record {
       rw back (omega (arith, up, a))
 
 -- a divisor
-finer : (s next : State) (parts : List Part) (k : ℕ) → (next.groups ≡ s.groups) × (next.divisors ≡ s.divisors * k) × (0 < next.divisors) × (next.divisors < 2 ^ 32) → IsSound s parts → IsSound next (parts ++ Over k ∷ [])
+finer : (s next : State) (parts : List Part) (k : ℕ) → (next.groups ≡ s.groups) × (next.divisors ≡ s.divisors * k)
+    × (0 < next.divisors) × (next.divisors < 2 ^ 32) → IsSound s parts → IsSound next (parts ++ Over k ∷ [])
 finer s next parts k h sound = record {
   fits = Fits-append 0 parts (Over k ∷ []) sound.fits tt;
   depth = rw (depth_after-append 0 parts (Over k ∷ []), h.0) sound.depth;
@@ -246,13 +274,16 @@ sound-part s next parts (Some Open) h sound = deeper s next parts Open (λ d l. 
 sound-part s next parts (Some Greatest) h sound = deeper s next parts Greatest (λ d l. (l, tt)) (λ d. refl) refl h sound
 sound-part s next parts (Some Close) h sound = shallower s next parts h sound
 
-sound-moved : (s : State) (parts : List Part) (r : Result Move BadFormula) (read : Reading) → ((m : Move) → r ≡ okay m → IsMade s m) → IsSound s parts → moved parts r ≡ Ok read → IsSound read.state read.parts
+sound-moved : (s : State) (parts : List Part) (r : Result Move BadFormula) (read : Reading)
+    → ((m : Move) → r ≡ okay m → IsMade s m) → IsSound s parts → moved parts r ≡ Ok read → IsSound read.state read.parts
 sound-moved s parts (Err why) read made sound e = absurd (true≢false (sym (ap is_ok e)))
 sound-moved s parts (Ok m) read made sound e =
     let same : record { state = m.state; parts = parts ++ option_to_list m.part } ≡ read = cc in
     subst (λ (r : Reading). IsSound r.state r.parts) same (sound-part s m.state parts m.part (made m refl) sound)
 
-sound-read : (ls : List Lexeme) (r : Result Reading BadFormula) (read : Reading) → ((start : Reading) → r ≡ Ok start → IsSound start.state start.parts) → read_on r ls ≡ Ok read → IsSound read.state read.parts
+sound-read : (ls : List Lexeme) (r : Result Reading BadFormula) (read : Reading)
+    → ((start : Reading) → r ≡ Ok start → IsSound start.state start.parts) → read_on r ls ≡ Ok read
+    → IsSound read.state read.parts
 sound-read [] r read sound e = sound read e
 sound-read (l ∷ ls) (Err why) read sound e = absurd (true≢false (sym (ap is_ok (sym (read_on-refused why ls) ∙ e))))
 sound-read (l ∷ ls) (Ok start) read sound e = sound-read ls (taken (Ok start) l) read
@@ -261,5 +292,8 @@ sound-read (l ∷ ls) (Ok start) read sound e = sound-read ls (taken (Ok start) 
 -- so it makes a formula
 pub read_limits : (ls : List Lexeme) (read : Reading) → read_on (Ok begun) ls ≡ Ok read → IsWithinLimits read.parts
 read_limits ls read e =
-    let sound = sound-read ls (Ok begun) read (λ start is. (let same : begun ≡ start = cc in subst (λ (r : Reading). IsSound r.state r.parts) same (record { fits = tt; depth = omega arith; divisors = refl; few = omega arith }))) e in
+    let sound = sound-read ls (Ok begun) read
+    (λ start is. (let same : begun ≡ start = cc in
+    subst (λ (r : Reading). IsSound r.state r.parts) same
+    (record { fits = tt; depth = omega arith; divisors = refl; few = omega arith }))) e in
     record { groups = sound.fits; divisors = rw sound.divisors sound.few }

@@ -9,7 +9,9 @@ use Rattle.decision_claims.specs.declared.lexemes.Lexeme.TheVariants.{Plus, Time
 use Rattle.decision_claims.specs.declared.readings.BadFormula.{BadFormula}
 use Rattle.decision_claims.specs.declared.readings.Move.{Move}
 use Rattle.decision_claims.specs.declared.formula_texts.Reading.{Reading}
-use Rattle.decision_claims.specs.FormulaTexts.{IsPieceEnd, IsSecond, NeedsMemory, begun, counted, end_by, ended, finished, is_sign, lexemes, lexemes_of, moved, next_by, pieces, read_formula, read_on, sign_lexeme, taken, word_between}
+use Rattle.decision_claims.specs.FormulaTexts.{IsPieceEnd, IsSecond, NeedsMemory, begun, counted, end_by, ended}
+use Rattle.decision_claims.specs.FormulaTexts.{finished, is_sign, lexemes, lexemes_of, moved, next_by, pieces}
+use Rattle.decision_claims.specs.FormulaTexts.{read_formula, read_on, sign_lexeme, taken, word_between}
 use Rattle.decision_claims.proofs.FormulaPieces.{end_here, first_here, piece_here, sign_here}
 
 -- what was refused stays so
@@ -50,7 +52,9 @@ pub read_past : (before ls : List Lexeme) (r q : Reading) → read_on (Ok begun)
 read_past before ls r q read e = read_on-append (Ok begun) before ls ∙ ap (λ x. read_on x ls) read ∙ e
 
 -- some lexemes are refused, and so the text
-pub refused_at : (text : List ℕ) (before ls after : List Lexeme) (r : Reading) (why : BadFormula) → lexemes text ≡ before ++ (ls ++ after) → read_on (Ok begun) before ≡ Ok r → read_on (Ok r) ls ≡ Err why → read_formula text ≡ Err why
+pub refused_at : (text : List ℕ) (before ls after : List Lexeme) (r : Reading) (why : BadFormula)
+    → lexemes text ≡ before ++ (ls ++ after) → read_on (Ok begun) before ≡ Ok r → read_on (Ok r) ls ≡ Err why
+    → read_formula text ≡ Err why
 refused_at text before ls after r why whole read e =
     ap finished (ap (read_on (Ok begun)) whole ∙ read_on-append (Ok begun) before (ls ++ after) ∙ ap (λ x. read_on x (ls ++ after)) read ∙ read_on-append (Ok r) ls after
     ∙ ap (λ x. read_on x after) e ∙ read_on-refused why after)
@@ -67,8 +71,9 @@ memory_at text before ls after r whole read second = record {
 }
 
 -- the whole text was read
-pub read_whole : (text : List ℕ) (before : List Lexeme) (end : ℕ) (r : Reading) → lexemes text ≡ before ++ lexemes_of (pieces (drop end text)).rest → length text ≤ end → read_on (Ok begun) before ≡ Ok r
-    → read_formula text ≡ ended r.parts (end_by r.state.need r.state)
+pub read_whole : (text : List ℕ) (before : List Lexeme) (end : ℕ) (r : Reading)
+    → lexemes text ≡ before ++ lexemes_of (pieces (drop end text)).rest → length text ≤ end
+    → read_on (Ok begun) before ≡ Ok r → read_formula text ≡ ended r.parts (end_by r.state.need r.state)
 read_whole text before end r whole past read =
     let none : lexemes_of (pieces (drop end text)).rest ≡ [] = ap lexemes_of (end_here text end past) in
     ap finished (ap (read_on (Ok begun)) (whole ∙ ap (λ (ls : List Lexeme). before ++ ls) none ∙ append-nil before) ∙ read)

@@ -348,10 +348,24 @@ refused why m e = absurd (true≢false (sym (ap is_ok e)))
 goes : (what : Need) (parts : List Part) (l : Lexeme) (a m : Move) → okay a ≡ okay m → Goes what parts l a → Goes what parts l m
 goes what parts l a m e h = let same : a ≡ m = cc in subst (Goes what parts l) same h
 
-goes-opened : (what : Need) (s : State) (parts : List Part) (l : Lexeme) (k : Bool) (m : Move) → pending what ++ l ∷ [] ≡ marks (opener k ∷ []) → Waits s.groups parts → opened s (digit k) (opener k) ≡ okay m → Goes what parts l m
+goes-opened : (what : Need) (s : State) (parts : List Part) (l : Lexeme) (k : Bool) (m : Move) → pending what ++ l
+    ∷ [] ≡ marks (opener k ∷ []) → Waits s.groups parts → opened s (digit k) (opener k) ≡ okay m → Goes what parts l m
 unfolding opened
 goes-opened what s parts l k m e w = go (nat_lt s.groups (2 ^ 32)) where
-  go : (b : Bool) → (if b then Ok (record { state = record { need = need.Operand; groups = s.groups * 2 + digit k; divisors = s.divisors; operands = s.operands }; part = Some (opener k) }) else Err (bad.Depth (s.operands + 1))) ≡ okay m → Goes what parts l m
+  go : (b : Bool)
+      → (if b then Ok
+      (record {
+        state =
+            record {
+              need = need.Operand;
+              groups = s.groups * 2 + digit k;
+              divisors = s.divisors;
+              operands =
+                  s.operands;
+            };
+        part = Some (opener k);
+      }) else Err (bad.Depth (s.operands + 1))) ≡ okay m
+      → Goes what parts l m
   go true f = goes what parts l _ m f (record { is = group-opens s.groups parts k w; marks_are = e ∙ sym (append-nil (marks (opener k ∷ []))); positive = none k }) where
     none : (k : Bool) → ArePositive (opener k ∷ [])
     none true = tt
@@ -366,7 +380,12 @@ goes-divided s parts k m w = go (nat_lt 0 (s.divisors * k)) (nat_lt (s.divisors 
   some (suc k) l = omega arith
 
   go : (a b : Bool) → nat_lt 0 (s.divisors * k) ≡ a
-      → (if (a && b) then Ok (record { state = record { need = need.Sign; groups = s.groups; divisors = s.divisors * k; operands = s.operands + 1 }; part = Some (Over k) }) else Err (bad.Divisor (s.operands + 1))) ≡ okay m
+      → (if (a && b) then Ok
+      (record {
+        state =
+            record { need = need.Sign; groups = s.groups; divisors = s.divisors * k; operands = s.operands + 1 };
+        part = Some (Over k);
+      }) else Err (bad.Divisor (s.operands + 1))) ≡ okay m
       → Goes need.Divisor parts (lexeme.Name (Number k)) m
   go true true t f = goes need.Divisor parts (lexeme.Name (Number k)) _ m f (record { is = over-came s.groups parts k w; marks_are = refl; positive = (some k (grind (arith, nat_tests)), tt) })
   go true false t f = refused _ m f
@@ -376,8 +395,12 @@ goes-comma : (s : State) (parts : List Part) (m : Move) → Stands s.groups part
 unfolding next_of_max
 goes-comma s parts m w = go (nat_lt 1 s.groups) ((s.groups % 2) == 1) refl refl where
   go : (a b : Bool) → nat_lt 1 s.groups ≡ a → ((s.groups % 2) == 1) ≡ b
-      → (if (a && b) then Ok (record { state = record { need = need.Operand; groups = s.groups; divisors = s.divisors; operands = s.operands }; part = Some Comma }) else Err (bad.Sign s.operands)) ≡ okay m
-      → Goes need.Sign parts lexeme.Comma m
+      → (if (a && b) then Ok
+      (record {
+        state =
+            record { need = need.Operand; groups = s.groups; divisors = s.divisors; operands = s.operands };
+        part = Some Comma;
+      }) else Err (bad.Sign s.operands)) ≡ okay m → Goes need.Sign parts lexeme.Comma m
   go true true t u f =
       let more : 1 < s.groups = grind (arith, nat_tests) in
       let odd : s.groups % 2 ≡ 1 = grind (arith, nat_tests) in
@@ -447,7 +470,9 @@ record IsSo (s : State) (parts : List Part) (ls : List Lexeme) : Type 0 where
   pub lexemes_are : ls ≡ marks parts ++ pending s.need
   pub positive : ArePositive parts
 
-so-moved : (s : State) (parts : List Part) (ls : List Lexeme) (l : Lexeme) (r : Result Move BadFormula) (read : Reading) → ((m : Move) → r ≡ Ok m → Goes s.need parts l m) → IsSo s parts ls → moved parts r ≡ Ok read → IsSo read.state read.parts (ls ++ l ∷ [])
+so-moved : (s : State) (parts : List Part) (ls : List Lexeme) (l : Lexeme) (r : Result Move BadFormula) (read : Reading)
+    → ((m : Move) → r ≡ Ok m → Goes s.need parts l m) → IsSo s parts ls → moved parts r ≡ Ok read
+    → IsSo read.state read.parts (ls ++ l ∷ [])
 so-moved s parts ls l (Err why) read goes so e = absurd (true≢false (sym (ap is_ok e)))
 so-moved s parts ls l (Ok m) read goes so e =
     let g = goes m refl in
@@ -460,7 +485,9 @@ so-moved s parts ls l (Ok m) read goes so e =
       positive = positive-append parts more so.positive g.positive;
     })
 
-so-read : (ls done : List Lexeme) (r : Result Reading BadFormula) (read : Reading) → ((start : Reading) → r ≡ Ok start → IsSo start.state start.parts done) → read_on r ls ≡ Ok read → IsSo read.state read.parts (done ++ ls)
+so-read : (ls done : List Lexeme) (r : Result Reading BadFormula) (read : Reading)
+    → ((start : Reading) → r ≡ Ok start → IsSo start.state start.parts done) → read_on r ls ≡ Ok read
+    → IsSo read.state read.parts (done ++ ls)
 so-read [] done r read so e = subst (IsSo read.state read.parts) (sym (append-nil done)) (so read e)
 so-read (l ∷ ls) done (Err why) read so e = absurd (true≢false (sym (ap is_ok (sym (read_on-refused why ls) ∙ e))))
 so-read (l ∷ ls) done (Ok start) read so e =

@@ -60,7 +60,8 @@ opened-here : (g d k kind : ℕ) (p : Part) (acc : List Part) (what : Need) → 
 unfolding opened
 opened-here g d k kind p acc what l = let t : nat_lt g (2 ^ 32) ≡ true = grind (arith, nat_tests) in rw t refl
 
-opened-room : (g d kind : ℕ) (rest : List Part) (depth : ℕ) → kind ≤ 1 → g < 2 ^ (depth + 1) → 1 ≤ g → Fits (depth + 1) rest → d * divisors rest < 2 ^ 32 → 1 ≤ d → ArePositive rest → HasRoom (g * 2 + kind) d rest
+opened-room : (g d kind : ℕ) (rest : List Part) (depth : ℕ) → kind ≤ 1 → g < 2 ^ (depth + 1) → 1 ≤ g
+    → Fits (depth + 1) rest → d * divisors rest < 2 ^ 32 → 1 ≤ d → ArePositive rest → HasRoom (g * 2 + kind) d rest
 opened-room g d kind rest depth small low positive fits few some nonzero = record {
   depth = depth + 1;
   low = let twice = pow_more 2 (depth + 1) in omega (arith, low, twice, small);
@@ -169,12 +170,29 @@ over-read g d k n acc ps rest a =
       divisors = a.divisors * k;
       operands = a.operands + 1;
       read = ap (λ (l : List Part). read_on (Ok (at need.Operand g d n acc)) (marks l)) (append_assoc ps (Over k ∷ []) rest) ∙ a.read
-          ∙ ap (λ r. read_on r (marks rest)) (divided-here g a.divisors k a.operands ((acc ++ ps) ++ []) room.0 room.1 ∙ ap (λ (l : List Part). Ok (at need.Sign g (a.divisors * k) (a.operands + 1) l)) (ap (λ (l : List Part). l ++ Over k ∷ []) (append-nil (acc ++ ps)) ∙ append_assoc acc ps (Over k ∷ [])));
+          ∙ ap (λ r. read_on r (marks rest)) (divided-here g a.divisors k a.operands ((acc ++ ps) ++ []) room.0 room.1
+          ∙ ap (λ (l : List Part). Ok (at need.Sign g (a.divisors * k) (a.operands + 1) l))
+          (ap (λ (l : List Part). l ++ Over k ∷ []) (append-nil (acc ++ ps)) ∙ append_assoc acc ps (Over k ∷ [])));
       room = room.2;
     }
 
 tree-read : (f : Tree) → IsBound f → (g d k : ℕ) → MayStand f g → (acc rest : List Part) → HasRoom g d (parts_of f ++ rest) → IsRead g d k acc (parts_of f) rest
-tree-read (Leaf o) b g d k may acc rest room = record { divisors = d; operands = k + 1; read = refl; room = record { depth = room.depth; low = room.low; positive = room.positive; fits = room.fits; divisors = room.divisors; some = room.some; nonzero = room.nonzero } }
+tree-read (Leaf o) b g d k may acc rest room =
+    record {
+      divisors = d;
+      operands = k + 1;
+      read = refl;
+      room =
+          record {
+            depth = room.depth;
+            low = room.low;
+            positive = room.positive;
+            fits = room.fits;
+            divisors = room.divisors;
+            some = room.some;
+            nonzero = room.nonzero;
+          };
+    }
 tree-read (Group a) b g d k may acc rest room =
     let inner = opened-room g d 0 ((parts_of a ++ Close ∷ []) ++ rest) room.depth (omega arith) room.low room.positive room.fits.1 room.divisors room.some room.nonzero in
     group-read g d k 0 acc (parts_of a) rest Open (omega arith) room.positive
@@ -193,7 +211,8 @@ tree-read (Product a c) b g d k may acc rest room =
     let first = tree-read a b.2 g d k (inl (omega (arith, l))) acc (Times ∷ (parts_of c ++ rest)) (moved-room g d (parts_of a) (Times ∷ parts_of c) rest room) in
     let r = first.room in
     two-read g d k acc (parts_of a) (parts_of c) rest Times first refl
-    (tree-read c b.3 g first.divisors first.operands (inl (omega (arith, m))) ((acc ++ parts_of a) ++ Times ∷ []) rest (sign-room g first.divisors (parts_of c ++ rest) r.depth r.low r.positive r.fits r.divisors r.some r.nonzero))
+    (tree-read c b.3 g first.divisors first.operands (inl (omega (arith, m))) ((acc ++ parts_of a) ++ Times ∷ []) rest
+    (sign-room g first.divisors (parts_of c ++ rest) r.depth r.low r.positive r.fits r.divisors r.some r.nonzero))
 tree-read (Quotient a n) b g d k may acc rest room =
     let l = b.0 in
     over-read g d n k acc (parts_of a) rest (tree-read a b.1 g d k (inl (omega (arith, l))) acc (Over n ∷ rest) (moved-room g d (parts_of a) (Over n ∷ []) rest room))
@@ -202,7 +221,8 @@ tree-read (Sum a c) b g d k may acc rest room =
     let first = tree-read a b.2 g d k (inl b.0) acc (Plus ∷ (parts_of c ++ rest)) (moved-room g d (parts_of a) (Plus ∷ parts_of c) rest room) in
     let r = first.room in
     two-read g d k acc (parts_of a) (parts_of c) rest Plus first refl
-    (tree-read c b.3 g first.divisors first.operands (inl (omega (arith, m))) ((acc ++ parts_of a) ++ Plus ∷ []) rest (sign-room g first.divisors (parts_of c ++ rest) r.depth r.low r.positive r.fits r.divisors r.some r.nonzero))
+    (tree-read c b.3 g first.divisors first.operands (inl (omega (arith, m))) ((acc ++ parts_of a) ++ Plus ∷ []) rest
+    (sign-room g first.divisors (parts_of c ++ rest) r.depth r.low r.positive r.fits r.divisors r.some r.nonzero))
 tree-read (Row a c) b g d k may acc rest room = elim may [
   | inl l ↦ absurd (omega (arith, l))
   | inr max ↦ (
@@ -221,6 +241,15 @@ read_formula-tree text terms w =
     let limits = w.limits in
     let few = limits.divisors in
     let unit : 1 * divisors parts < 2 ^ 32 = omega (arith, few) in
-    let room : HasRoom 1 1 (parts ++ []) = subst (HasRoom 1 1) (sym all) (record { depth = 0; low = omega arith; positive = omega arith; fits = limits.groups; divisors = unit; some = omega arith; nonzero = w.positive }) in
+    let room : HasRoom 1 1 (parts ++ []) = subst (HasRoom 1 1) (sym all)
+    (record {
+      depth = 0;
+      low = omega arith;
+      positive = omega arith;
+      fits = limits.groups;
+      divisors = unit;
+      some = omega arith;
+      nonzero = w.positive;
+    }) in
     let r = tree-read w.tree w.bound 1 1 0 (inl w.whole) [] [] room in
     ap finished (ap (read_on (Ok (at need.Operand 1 1 0 []))) (w.written ∙ ap marks (sym all)) ∙ r.read) ∙ ap Ok (sym w.parts)

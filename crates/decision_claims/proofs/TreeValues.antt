@@ -54,7 +54,9 @@ sum_of-product words f m around e = record { sum = 0; product = tree_value words
 
 from_operand : (words : Words) (f : Tree) → ((m s p : ℕ) (around : List Frame) → after words (frame m s p around) (parts_of f) ≡ frame m s (p * tree_value words f) around) → Reads words f
 from_operand words f h =
-    let product : (m s : ℕ) (around : List Frame) → after words (frame m s 1 around) (parts_of f) ≡ frame m s (tree_value words f) around = λ m s around. h m s 1 around ∙ ap (λ v. frame m s v around) (one-mul (tree_value words f)) in
+    let product : (m s : ℕ) (around : List Frame)
+    → after words (frame m s 1 around) (parts_of f) ≡ frame m s (tree_value words f) around =
+    λ m s around. h m s 1 around ∙ ap (λ v. frame m s v around) (one-mul (tree_value words f)) in
     let sum : (m : ℕ) (around : List Frame) → ReadsSum words f m around = λ m around. sum_of-product words f m around (product m 0 around) in
     record { operand = λ l. h; product = λ l. product; sum = λ l. sum; row = λ around. row_of-sum words f around (sum 0 around) }
 

@@ -9,4 +9,5 @@ use Rattle.step_trace.specs.Bounds.{IsMessage, IsDelivered}
 -- member that was sent before.
 pub record IsCalmAfter (set : ℕ) (trace : Recorded) (x : ℕ) : Type 0 where
   pub steps : (y : ℕ) → x < y → y ≤ trace.last → (p : ℕ) → IsTrue (has_proc set p) → StepsIn trace y p
-  pub takes : (s r b : ℕ) → IsMessage set trace.steps s b → IsReceiveOf trace.steps r b → x < tick_of trace r → tick_of trace s < tick_of trace r → IsDelivered trace s (tick_of trace r)
+  pub takes : (s r b : ℕ) → IsMessage set trace.steps s b → IsReceiveOf trace.steps r b → x < tick_of trace r
+      → tick_of trace s < tick_of trace r → IsDelivered trace s (tick_of trace r)

@@ -3,7 +3,8 @@ use Rattle.std.specs.Prelude.{ℕ, ◌≡◌, ◌+◌, ◌*◌, ◌≤◌, List,
 use Rattle.decision_claims.specs.declared.formulas.Operand.{Operand}
 use Rattle.decision_claims.specs.declared.formulas.Operand.TheVariants.{Number}
 use Rattle.decision_claims.specs.declared.formulas.Part.{Part}
-use Rattle.decision_claims.specs.declared.formulas.Part.TheVariants.{Value, Plus, Times, Over, Open, Greatest, Comma, Close}
+use Rattle.decision_claims.specs.declared.formulas.Part.TheVariants.{Value, Plus, Times, Over, Open}
+use Rattle.decision_claims.specs.declared.formulas.Part.TheVariants.{Greatest, Comma, Close}
 use Rattle.decision_claims.specs.declared.formulas.Words.{Words}
 use Rattle.decision_claims.specs.declared.lexemes.Lexeme.{Lexeme}
 use Rattle.decision_claims.specs.declared.lexemes.Lexeme.TheVariants as lexeme

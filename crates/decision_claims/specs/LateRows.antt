@@ -16,16 +16,19 @@ pub record IsLeastUndecided (set : ℕ) (decisions : List Decision) (y p : ℕ) 
   pub least : (q : ℕ) → q < p → IsTrue (has_proc set q) → HasDecidedBy decisions q y
 
 -- The first row whose deadline wasn't kept, with the deadline and the least member that had not decided by it.
-pub record IsFirstLate (set : ℕ) (trace : Recorded) (rows : List Row) (decisions : List Decision) (deadline : Triple → ℕ) (w : Late) : Type 0 where
+pub record IsFirstLate (set : ℕ) (trace : Recorded) (rows : List Row) (decisions : List Decision)
+    (deadline : Triple → ℕ) (w : Late) : Type 0 where
   pub place : ℕ
   pub row : slice_get rows place ≡ Some w.row
   pub by : w.deadline ≡ deadline (triple_of w.row)
   pub due : w.deadline ≤ trace.last
   pub proc : IsLeastUndecided set decisions w.deadline w.proc
-  pub before : (k : ℕ) (r : Row) → k < place → slice_get rows k ≡ Some r → IsKept set trace decisions (deadline (triple_of r))
+  pub before : (k : ℕ) (r : Row) → k < place → slice_get rows k ≡ Some r
+      → IsKept set trace decisions (deadline (triple_of r))
 
 -- each row's deadline was kept
-pub record AllKept (set : ℕ) (trace : Recorded) (rows : List Row) (decisions : List Decision) (deadline : Triple → ℕ) : Type 0 where
+pub record AllKept (set : ℕ) (trace : Recorded) (rows : List Row) (decisions : List Decision)
+    (deadline : Triple → ℕ) : Type 0 where
   pub each : (k : ℕ) (r : Row) → slice_get rows k ≡ Some r → IsKept set trace decisions (deadline (triple_of r))
 
 -- whether the deadline of a row is no later than the last tick

@@ -10,7 +10,8 @@ use Rattle.decision_claims.specs.Decisions.{HaveDecidedBy, IsFrom}
 use Rattle.decision_claims.specs.LateRows.{AreAllLater, IsLeastDue, is_due}
 
 -- all members had decided so many ticks before the least deadline that is due
-pub record IsMarginOf (set : ℕ) (trace : Recorded) (rows : List Row) (decisions : List Decision) (deadline : Triple → ℕ) (margin : ℕ) : Type 0 where
+pub record IsMarginOf (set : ℕ) (trace : Recorded) (rows : List Row) (decisions : List Decision) (deadline : Triple → ℕ)
+    (margin : ℕ) : Type 0 where
   pub decided : ℕ
   pub from_then : IsFrom (HaveDecidedBy set decisions) (Some decided)
   pub least : ℕ
@@ -23,7 +24,8 @@ IsMargin set trace rows decisions deadline None = AreAllLater trace rows deadlin
 IsMargin set trace rows decisions deadline (Some margin) = IsMarginOf set trace rows decisions deadline margin
 
 -- How many rows were due, how many come later, and the margin.
-pub record IsTested (set : ℕ) (trace : Recorded) (rows : List Row) (decisions : List Decision) (deadline : Triple → ℕ) (tested : Tested) : Type 0 where
+pub record IsTested (set : ℕ) (trace : Recorded) (rows : List Row) (decisions : List Decision) (deadline : Triple → ℕ)
+    (tested : Tested) : Type 0 where
   pub due : tested.due ≡ count_by (is_due trace deadline) rows
   pub later : tested.due + tested.later ≡ length rows
   pub margin : IsMargin set trace rows decisions deadline tested.margin

@@ -1,13 +1,15 @@
 //! Rows of the front whose deadline wasn't kept.
 
-ghost use Rattle.std.specs.Prelude.{◌≡◌, ◌+◌, ◌*◌, ◌≤◌, ◌<◌, ◌↔◌, ℕ, length, max, min, IfSome, IfNone, IsNone, MatchOption};
+ghost use Rattle.std.specs.Prelude.{◌≡◌, ◌+◌, ◌*◌, ◌≤◌, ◌<◌, ◌↔◌, ℕ, length, max};
+ghost use Rattle.std.specs.Prelude.{min, IfSome, IfNone, IsNone, MatchOption};
 ghost use Rattle.std.specs.List.{count_by};
 ghost use Rattle.step_trace.specs.Fronts.{triple_of, IsReport};
 ghost use Rattle.step_trace.specs.Traces.{Recorded};
 ghost use Rattle.decision_claims.specs.Formulas.{deadline};
 ghost use Rattle.decision_claims.specs.Decisions.{HaveDecidedBy, IsFrom};
 ghost use Rattle.decision_claims.specs.Claims.{KeepsClaim, IsKept};
-ghost use Rattle.decision_claims.specs.LateRows.{AllKept, AreAllLater, IsFirstLate, IsLeastDue, IsLeastUndecided, is_due};
+ghost use Rattle.decision_claims.specs.LateRows.{AllKept, AreAllLater, IsFirstLate, IsLeastDue};
+ghost use Rattle.decision_claims.specs.LateRows.{IsLeastUndecided, is_due};
 
 use crate::decisions::{Decision, earlier, latest_decision, least_undecided};
 use crate::formulas::{Formula, begin_of, words_at};
@@ -36,9 +38,13 @@ pub fn first_late(
     formula: &Formula,
 ) -> Option<Late>
     requires { end ≤ trace.now.last }
-    ensures late { IfSome result (λ w. (run : Recorded) → run.last ≡ end → IsFirstLate set run rows.now decisions.now (deadline trace.now.config start formula.now) w) }
-    ensures kept { IfNone result ((run : Recorded) → run.last ≡ end → AllKept set run rows.now decisions.now (deadline trace.now.config start formula.now)) }
-    ensures claim { (run : Recorded) → run.last ≡ end → IsReport set run rows.now → IsNone result ↔ KeepsClaim set run decisions.now (deadline trace.now.config start formula.now) }
+    ensures late { IfSome result (λ w. (run : Recorded) → run.last ≡ end
+        → IsFirstLate set run rows.now decisions.now
+        (deadline trace.now.config start formula.now) w) }
+    ensures kept { IfNone result ((run : Recorded) → run.last ≡ end
+        → AllKept set run rows.now decisions.now (deadline trace.now.config start formula.now)) }
+    ensures claim { (run : Recorded) → run.last ≡ end → IsReport set run rows.now → IsNone result
+        ↔ KeepsClaim set run decisions.now (deadline trace.now.config start formula.now) }
 {
     let latest = latest_decision(set, decisions);
     for k in 0..rows.len() {
@@ -74,7 +80,8 @@ fn due_by(trace: &Trace, end: u64, start: u64, formula: &Formula, row: Row) -> O
 pub fn due_deadline(trace: &Trace, start: u64, formula: &Formula, row: Row) -> Option<u64>
     ensures { MatchOption result
         (trace.now.last < deadline trace.now.config start formula.now (triple_of row))
-        (λ y. (y ≡ deadline trace.now.config start formula.now (triple_of row)) × (y ≤ trace.now.last)) }
+        (λ y. (y ≡ deadline trace.now.config start formula.now (triple_of row))
+        × (y ≤ trace.now.last)) }
 {
     let last = trace.last_tick();
     let from = begin_of(start, row);
@@ -106,7 +113,8 @@ fn undecided_at(set: ProcSet, decisions: &[Decision], latest: Option<u64>, y: u6
 
 /// How many rows have a deadline that is no later than the last tick: only these say something of the claim.
 pub fn due_rows(trace: &Trace, start: u64, formula: &Formula, rows: &[Row]) -> usize
-    ensures count { result ≡ count_by (is_due trace.now (deadline trace.now.config start formula.now)) rows.now }
+    ensures count { result ≡ count_by
+        (is_due trace.now (deadline trace.now.config start formula.now)) rows.now }
     ensures few { result ≤ length rows.now }
 {
     let mut count = 0usize;

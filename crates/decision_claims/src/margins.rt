@@ -31,8 +31,10 @@ pub fn tested_by(
     start: u64,
     formula: &Formula,
 ) -> Tested
-    ensures { AllKept set trace.now rows.now decisions.now (deadline trace.now.config start formula.now)
-        → IsTested set trace.now rows.now decisions.now (deadline trace.now.config start formula.now) result }
+    ensures { AllKept set trace.now rows.now decisions.now
+        (deadline trace.now.config start formula.now)
+        → IsTested set trace.now rows.now decisions.now
+        (deadline trace.now.config start formula.now) result }
 {
     let due = due_rows(trace, start, formula, rows);
     Tested {
@@ -51,8 +53,10 @@ fn margin(
     start: u64,
     formula: &Formula,
 ) -> Option<u64>
-    ensures { AllKept set trace.now rows.now decisions.now (deadline trace.now.config start formula.now)
-        → IsMargin set trace.now rows.now decisions.now (deadline trace.now.config start formula.now) result }
+    ensures { AllKept set trace.now rows.now decisions.now
+        (deadline trace.now.config start formula.now)
+        → IsMargin set trace.now rows.now decisions.now
+        (deadline trace.now.config start formula.now) result }
 {
     let Some(least) = least_due(trace, start, formula, rows) else {
         return None;

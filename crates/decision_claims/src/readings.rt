@@ -1,7 +1,8 @@
 //! What a formula's text may have next, and why it is none.
 
 ghost use Rattle.std.specs.Prelude.{◌≡◌, ◌<◌, ◌≤◌, ◌+◌, ◌-◌, ◌^◌, IfOk, Ok};
-ghost use Rattle.decision_claims.specs.FormulaTexts.{after_group, counted, divided, divisor_next, end_by, group_next, needs, next_by, next_of_max, opened, operand_next, sign_next};
+ghost use Rattle.decision_claims.specs.FormulaTexts.{after_group, counted, divided, divisor_next, end_by, group_next};
+ghost use Rattle.decision_claims.specs.FormulaTexts.{needs, next_by, next_of_max, opened, operand_next, sign_next};
 
 use crate::formulas::{Operand, Part};
 use crate::lexemes::Lexeme;

@@ -2,7 +2,8 @@
 
 ghost use Rattle.std.specs.Prelude.{ℕ, ◌≡◌, ◌+◌, ◌*◌, ◌-◌, ◌^◌, ◌≤◌, ◌<◌, ◌∷◌, [], List, length, min};
 ghost use Rattle.decision_claims.specs.declared.formulas.Part.{Part as OnePart};
-ghost use Rattle.decision_claims.specs.Formulas.{Fits, divisors, nothing, quotient, times_value, value_from, whole, with_part};
+ghost use Rattle.decision_claims.specs.Formulas.{Fits, divisors, nothing, quotient, times_value};
+ghost use Rattle.decision_claims.specs.Formulas.{value_from, whole, with_part};
 ghost use Rattle.decision_claims.specs.NearValues.{IsNear, IsNearFrame, tally};
 
 use crate::formulas::{MAX_OPEN, Part, Words};
@@ -73,8 +74,10 @@ impl Frame {
 /// What was read, after one part more: what is within the innermost open parentheses, and around them.
 fn with_part(words: Words, here: Frame, around: &mut ArrayVec<Frame, MAX_OPEN>, part: Part) -> Frame
     requires { Fits (length around.now.items) (part ∷ []) }
-    ensures near { (cap : ℕ) → cap ≤ 2 ^ 64 - 1 → IsNear cap (tally result around.new.items) (with_part words (tally here around.old.items) part) }
-    ensures depth { (rest : List OnePart) → Fits (length around.old.items) (part ∷ rest) → Fits (length around.new.items) rest }
+    ensures near { (cap : ℕ) → cap ≤ 2 ^ 64 - 1 → IsNear cap (tally result around.new.items)
+        (with_part words (tally here around.old.items) part) }
+    ensures depth { (rest : List OnePart) → Fits (length around.old.items) (part ∷ rest)
+        → Fits (length around.new.items) rest }
 {
     match part {
         Part::Value(operand) => here.times(words.value(operand)),
@@ -104,7 +107,8 @@ fn with_part(words: Words, here: Frame, around: &mut ArrayVec<Frame, MAX_OPEN>, 
 /// The value of these parts, exact up to each cap that leaves room for their divisors.
 pub(crate) fn near_value(words: Words, parts: &Parts) -> u64
     requires { Fits 0 parts.now }
-    ensures { (cap : ℕ) → cap * divisors parts.now ≤ 2 ^ 64 - 1 → min result cap ≡ min (value_from words (tally nothing []) parts.now) cap }
+    ensures { (cap : ℕ) → cap * divisors parts.now ≤ 2 ^ 64 - 1
+        → min result cap ≡ min (value_from words (tally nothing []) parts.now) cap }
 {
     match parts.split() {
         None => 1,
@@ -115,7 +119,8 @@ pub(crate) fn near_value(words: Words, parts: &Parts) -> u64
 /// The value of a first part and further ones.
 fn value_on(words: Words, first: Part, rest: &[Part]) -> u64
     requires { Fits 0 (first ∷ rest.now) }
-    ensures { (cap : ℕ) → cap * divisors (first ∷ rest.now) ≤ 2 ^ 64 - 1 → min result cap ≡ min (value_from words (tally nothing []) (first ∷ rest.now)) cap }
+    ensures { (cap : ℕ) → cap * divisors (first ∷ rest.now) ≤ 2 ^ 64 - 1
+        → min result cap ≡ min (value_from words (tally nothing []) (first ∷ rest.now)) cap }
 {
     let mut around = ArrayVec::new();
     let mut here = with_part(words, Frame::nothing(), &mut around, first);

@@ -26,9 +26,14 @@ use Rattle.event_log.proofs.MeantEvents.{are-meant}
 within-moved : (n : ℕ) (offsets : List ℤ) (events : List Event) → All (IsWithin n) (map seen events) → All (IsWithin n) (map seen (map (moved_event offsets) events))
 within-moved n offsets [] h = All-nil (IsWithin n)
 within-moved n offsets (e ∷ es) h =
-    All-cons (IsWithin n) (seen (moved_event offsets e)) (map seen (map (moved_event offsets) es)) (All-head (IsWithin n) (seen e) (map seen es) h) (within-moved n offsets es (All-tail (IsWithin n) (seen e) (map seen es) h))
+    All-cons (IsWithin n) (seen (moved_event offsets e)) (map seen (map (moved_event offsets) es))
+    (All-head (IsWithin n) (seen e) (map seen es) h)
+    (within-moved n offsets es (All-tail (IsWithin n) (seen e) (map seen es) h))
 
-pub sound-moved : (kind : TimeKind) (nodes : List (List ℕ)) (events moved : List Event) (offsets : List ℤ) → IsSound (record { kind = kind; nodes = nodes; events = map seen events }) → moved ≡ map (moved_event offsets) events → IsSound (record { kind = kind; nodes = nodes; events = map seen moved })
+pub sound-moved : (kind : TimeKind) (nodes : List (List ℕ)) (events moved : List Event) (offsets : List ℤ)
+    → IsSound (record { kind = kind; nodes = nodes; events = map seen events })
+    → moved ≡ map (moved_event offsets) events
+    → IsSound (record { kind = kind; nodes = nodes; events = map seen moved })
 sound-moved kind nodes events moved offsets s e = record {
   two = s.two;
   few_nodes = s.few_nodes;
@@ -79,7 +84,9 @@ lead-inside events from to [] l k d b = absurd (omega arith)
 lead-inside events from to (h ∷ hs) l zero d b = l.0.taken.inside
 lead-inside events from to (h ∷ hs) l (suc k) d b = lead-inside events (clock_at events h.event) to hs l.1 k d (omega arith)
 
-pub cycle-inside : (events : List Event) (cycle : Option ClockCycle) → length events ≤ MAX_EVENTS → IfSome cycle (λ c. IsClockCycle events c) → (c : ClockCycle) (k : ℕ) (d : ClockHop) → cycle ≡ Some c → k < length c.hops.items → (get_or c.hops.items k d).message < MAX_EVENTS
+pub cycle-inside : (events : List Event) (cycle : Option ClockCycle) → length events ≤ MAX_EVENTS
+    → IfSome cycle (λ c. IsClockCycle events c) → (c : ClockCycle) (k : ℕ) (d : ClockHop) → cycle ≡ Some c
+    → k < length c.hops.items → (get_or c.hops.items k d).message < MAX_EVENTS
 cycle-inside events None few s c k d e b = absurd (cc e)
 cycle-inside events (Some x) few s c k d e b =
     let same : x ≡ c = cc e in

@@ -7,7 +7,9 @@ use Rattle.timed_events.specs.declared.events.Clock.{Clock}
 use Rattle.timed_events.specs.declared.events.EventError.{EventError}
 use Rattle.timed_events.specs.declared.events.EventError.TheVariants as refused
 use Rattle.timed_events.specs.Firsts.{first_of}
-use Rattle.timed_events.specs.Checks.{earlier_at, event_refusal, events_refusal, first_fault, is_for, message_fault, message_faults, message_refusal, messages_at, messages_refusal, moment_at, processor_at, second_refusal, was_received}
+use Rattle.timed_events.specs.Checks.{earlier_at, event_refusal, events_refusal, first_fault, is_for, message_fault}
+use Rattle.timed_events.specs.Checks.{message_faults, message_refusal, messages_at, messages_refusal, moment_at}
+use Rattle.timed_events.specs.Checks.{processor_at, second_refusal, was_received}
 use Rattle.step_trace.specs.declared.traces.TheConstants.{MAX_TICKS}
 use Rattle.timed_events.specs.Times.{end_time, greatest_time, last_tick, time_ticks, times_refusal}
 use Rattle.timed_events.specs.Spreads.{IsAfterTimes, IsCausalRefusal, IsSpreadRefusal, IsTimedRefusal}
@@ -98,7 +100,8 @@ times-within events clock some =
     within-if (length events) (int_lt (end_time events clock) (greatest_time events)) _ _ some
     (within-if (length events) (nat_lt MAX_TICKS (last_tick events clock)) _ _ some tt)
 
-all-within : (events : List Event) (clock : Clock) (ticks : List ℕ) (why : EventError) → 0 < length events → Some why ≡ option_or (times_refusal events clock) (events_refusal events ticks) → event_place why < length events
+all-within : (events : List Event) (clock : Clock) (ticks : List ℕ) (why : EventError) → 0 < length events
+    → Some why ≡ option_or (times_refusal events clock) (events_refusal events ticks) → event_place why < length events
 all-within events clock ticks why some e =
     subst (Within (length events)) (sym e) (within-or (length events) (times_refusal events clock) (events_refusal events ticks) (times-within events clock some) (events-within events ticks))
 

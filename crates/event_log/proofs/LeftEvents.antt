@@ -32,14 +32,18 @@ sends-left : (n : ℕ) (places : List ℕ) (a : SeenAct) → SendsWithin n a →
 sends-left n places (Sends to) h = h
 sends-left n places (Receives messages) h = h
 
-one-within : (n : ℕ) (events : List Event) (places : List ℕ) (p : ℕ) (e : Event) (o : Option Event) → All (IsWithin n) (map seen events) → slice_get events p ≡ o → Some (seen e) ≡ option_map (λ x. left_event places (seen x)) o → IsWithin n (seen e)
+one-within : (n : ℕ) (events : List Event) (places : List ℕ) (p : ℕ) (e : Event) (o : Option Event)
+    → All (IsWithin n) (map seen events) → slice_get events p ≡ o
+    → Some (seen e) ≡ option_map (λ x. left_event places (seen x)) o → IsWithin n (seen e)
 one-within n events places p e None h at same = absurd (cc same)
 one-within n events places p e (Some x) h at same =
     let is : left_event places (seen x) ≡ seen e = cc same in
     let within = within-at n events p x h at in
     subst (λ (s : Seen). IsWithin n s) is (within.0, sends-left n places (seen_act x.act) within.1)
 
-pub within-left : (n : ℕ) (events : List Event) (new : List ℕ) (left : List Event) (places : List ℕ) → All (IsWithin n) (map seen events) → map (λ e. Some (seen e)) left ≡ map (renumbered_at events new) places → All (IsWithin n) (map seen left)
+pub within-left : (n : ℕ) (events : List Event) (new : List ℕ) (left : List Event) (places : List ℕ)
+    → All (IsWithin n) (map seen events) → map (λ e. Some (seen e)) left ≡ map (renumbered_at events new) places
+    → All (IsWithin n) (map seen left)
 within-left n events new [] places h same = All-nil (IsWithin n)
 within-left n events new (e ∷ es) [] h same = absurd (cc same)
 within-left n events new (e ∷ es) (p ∷ ps) h same =

@@ -8,7 +8,9 @@ use Rattle.timed_events.specs.declared.events.Clock.{Clock}
 use Rattle.timed_events.specs.declared.events.EventError.{EventError}
 use Rattle.timed_events.specs.declared.events.EventError.TheVariants as refused
 use Rattle.timed_events.specs.Firsts.{first_of}
-use Rattle.timed_events.specs.Checks.{earlier_at, event_refusal, events_refusal, first_fault, is_for, message_fault, message_faults, message_refusal, messages_at, messages_refusal, moment_at, processor_at, second_refusal, was_received}
+use Rattle.timed_events.specs.Checks.{earlier_at, event_refusal, events_refusal, first_fault, is_for, message_fault}
+use Rattle.timed_events.specs.Checks.{message_faults, message_refusal, messages_at, messages_refusal, moment_at}
+use Rattle.timed_events.specs.Checks.{processor_at, second_refusal, was_received}
 use Rattle.timed_events.specs.Times.{end_time, greatest_time, last_tick, time_ticks, times_refusal}
 use Rattle.timed_events.specs.Spreads.{IsAfterTimes, IsTimedRefusal}
 use Rattle.event_log.specs.Imports.{IsBehindCycle}

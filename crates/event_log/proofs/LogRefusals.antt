@@ -14,7 +14,9 @@ use Rattle.event_log.specs.Logs.{SeenLog}
 use Rattle.event_log.specs.Naming.{is_memory}
 
 -- any refusal but out of memory
-refusal-unless_memory : (o : Options) (text : List ℕ) (why : LogError) → (is_memory why ≡ false → IsRead o text (Err why) ⊎ (IsUnfit o text why ⊎ (IsUnaligned o text why ⊎ IsUntimed o text why))) → IsLogRefusal o text why
+refusal-unless_memory : (o : Options) (text : List ℕ) (why : LogError)
+    → (is_memory why ≡ false → IsRead o text (Err why)
+    ⊎ (IsUnfit o text why ⊎ (IsUnaligned o text why ⊎ IsUntimed o text why))) → IsLogRefusal o text why
 refusal-unless_memory o text Memory f = tt
 refusal-unless_memory o text why f = f refl
 
@@ -25,7 +27,9 @@ due P false n h = h
 pub untimed-refusal : (o : Options) (text : List ℕ) (why : LogError) (Unmade : Type 0) → MatchBool (is_memory why) ⊤ Unmade → (Unmade → IsUntimed o text why) → IsLogRefusal o text why
 untimed-refusal o text why Unmade h f = refusal-unless_memory o text why (λ n. inr (inr (inr (f (due Unmade (is_memory why) n h)))))
 
-pub unaligned-refusal : (o : Options) (text : List ℕ) (nodes : List (List ℕ)) (events : List Event) (why : LogError) → IsAlignRefusal text nodes events why → (IsUnalignedFor text nodes events why → IsUnaligned o text why) → IsLogRefusal o text why
+pub unaligned-refusal : (o : Options) (text : List ℕ) (nodes : List (List ℕ)) (events : List Event) (why : LogError)
+    → IsAlignRefusal text nodes events why → (IsUnalignedFor text nodes events why → IsUnaligned o text why)
+    → IsLogRefusal o text why
 unaligned-refusal o text nodes events why h f = refusal-unless_memory o text why (λ n. inr (inr (inl (f (due (IsUnalignedFor text nodes events why) (is_memory why) n h)))))
 
 pub read-refusal : (o : Options) (text : List ℕ) (why : LogError) → IsReadRefusal o text why → IsLogRefusal o text why

@@ -1,5 +1,7 @@
 -- The places of the events that are left.
-use Rattle.std.proofs.Common.{ℕ, zero, suc, ◌≡◌, ◌∙◌, ◌+◌, ◌-◌, ◌<◌, ◌≤◌, ◌⊎◌, inl, inr, Bool, true, false, not, cond, List, [], ◌∷◌, ◌++◌, length, map, get_or, slice_index, refl, sym, ap, subst, arith, append-nil, length-append}
+use Rattle.std.proofs.Common.{ℕ, zero, suc, ◌≡◌, ◌∙◌, ◌+◌, ◌-◌, ◌<◌, ◌≤◌, ◌⊎◌, inl, inr, Bool, true, false, not, cond}
+use Rattle.std.proofs.Common.{List, [], ◌∷◌, ◌++◌, length, map, get_or, slice_index, refl, sym, ap, subst, arith}
+use Rattle.std.proofs.Common.{append-nil, length-append}
 use Rattle.std.specs.List.{filter, range_with_len}
 use Rattle.std.proofs.lemmas.List.{get_or-append_right, get_or_append_left, map-append}
 use Rattle.std.proofs.lemmas.List.Elements.{filter-append}
@@ -67,7 +69,8 @@ unfolding AreBelow
 left-within events s k l = left-below events s k l
 
 -- the new place of one event more
-pub ranks-more : (events : List Event) (s : ℕ) → map (λ p. length (left_before events p)) (range_with_len 0 (s + 1)) ≡ map (λ p. length (left_before events p)) (range_with_len 0 s) ++ length (left_before events s) ∷ []
+pub ranks-more : (events : List Event) (s : ℕ) → map (λ p. length (left_before events p)) (range_with_len 0 (s + 1))
+    ≡ map (λ p. length (left_before events p)) (range_with_len 0 s) ++ length (left_before events s) ∷ []
 ranks-more events s =
     let rank = λ (p : ℕ). length (left_before events p) in
     ap (map rank) (range-more 0 s s (omega arith)) ∙ map-append rank (range_with_len 0 s) (s ∷ [])

@@ -59,7 +59,14 @@ unfolding seen_joined
 act-joined events new part (act.Send to) = refl
 act-joined events new part (act.Receive messages) = refl
 
-joined-seen : (events : List Event) (new part : List ℕ) (xs : List Event) (p : ℕ) → option_map (joined_event events new part) (slice_get xs p) ≡ option_map (λ (s : Seen). let z : Seen = record { time = s.time; processor = s.processor; act = seen_joined (joined_messages events new part) s.act } in z) (slice_get (map seen xs) p)
+joined-seen : (events : List Event) (new part : List ℕ) (xs : List Event) (p : ℕ)
+    → option_map (joined_event events new part) (slice_get xs p) ≡ option_map
+    (λ (s : Seen).
+    let z : Seen = record {
+      time = s.time;
+      processor = s.processor;
+      act = seen_joined (joined_messages events new part) s.act;
+    } in z) (slice_get (map seen xs) p)
 joined-seen events new part [] p = refl
 joined-seen events new part (e ∷ es) zero = ap (λ (a : SeenAct). let z : Option Seen = Some (record { time = e.time; processor = e.processor; act = a }) in z) (act-joined events new part e.act)
 joined-seen events new part (e ∷ es) (suc p) = joined-seen events new part es p
@@ -109,7 +116,9 @@ module _ (xs ys : List Event) (same : map seen xs ≡ map seen ys) where
   parts-same : (ticks order : List ℕ) → parts_of xs ticks order ≡ parts_of ys ticks order
   unfolding parts_of
   parts-same ticks order =
-      maps-same (λ h. filter (is_part xs ticks h) order) (λ h. filter (is_part ys ticks h) order) (λ h. filter_agree (is_part xs ticks h) (is_part ys ticks h) (part-same ticks h) order) (staying_before xs ticks (length xs))
+      maps-same (λ h. filter (is_part xs ticks h) order) (λ h. filter (is_part ys ticks h) order)
+      (λ h. filter_agree (is_part xs ticks h) (is_part ys ticks h) (part-same ticks h) order)
+      (staying_before xs ticks (length xs))
       ∙ ap (map (λ h. filter (is_part ys ticks h) order)) (staying-same ticks (length xs) ∙ ap (staying_before ys ticks) (lengths xs ys same))
 
   joined-messages : (new part : List ℕ) → joined_messages xs new part ≡ joined_messages ys new part
@@ -118,7 +127,10 @@ module _ (xs ys : List Event) (same : map seen xs ≡ map seen ys) where
   at-same : (new part : List ℕ) → joined_at xs new part ≡ joined_at ys new part
   at-same new part =
       joined-seen xs new part xs (slice_index part 0)
-      ∙ ap₂ (λ (ms : List (Option ℕ)) (ss : List Seen). option_map (λ (s : Seen). let z : Seen = record { time = s.time; processor = s.processor; act = seen_joined ms s.act } in z) (slice_get ss (slice_index part 0))) (joined-messages new part) same
+      ∙ ap₂ (λ (ms : List (Option ℕ)) (ss : List Seen).
+      option_map (λ (s : Seen). let z : Seen =
+      record { time = s.time; processor = s.processor; act = seen_joined ms s.act } in
+      z) (slice_get ss (slice_index part 0))) (joined-messages new part) same
       ∙ sym (joined-seen ys new part ys (slice_index part 0))
 
   order-same : (order : List ℕ) → IsTimeOrder xs order → IsTimeOrder ys order

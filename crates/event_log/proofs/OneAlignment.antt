@@ -34,7 +34,11 @@ same-lists (x ∷ xs) [] e h = absurd (omega (arith, e))
 same-lists (x ∷ xs) (y ∷ ys) e h = ap₂ (λ (z : ℤ) (zs : List ℤ). z ∷ zs) (h 0 (omega arith)) (same-lists xs ys (omega (arith, e)) (λ i l. h (suc i) (omega (arith, l))))
 
 offsets-same : (n : ℕ) (xs ys : List Event) → map seen xs ≡ map seen ys → (a b : List ℤ) → AreClockOffsets n xs a → AreClockOffsets n ys b → a ≡ b
-offsets-same n xs ys e a b s t = same-lists a b (s.long ∙ sym t.long) (λ i l. same-both (offset_in a i) (offset_in b i) (s.least (offset_in b) (order-same ys xs (sym e) (offset_in b) t.ordered) t.forward i (subst (λ m. i < m) s.long l)) (t.least (offset_in a) (order-same xs ys e (offset_in a) s.ordered) s.forward i (subst (λ m. i < m) s.long l)))
+offsets-same n xs ys e a b s t = same-lists a b (s.long ∙ sym t.long)
+    (λ i l. same-both (offset_in a i) (offset_in b i)
+    (s.least (offset_in b) (order-same ys xs (sym e) (offset_in b) t.ordered) t.forward i
+    (subst (λ m. i < m) s.long l)) (t.least (offset_in a) (order-same xs ys e (offset_in a) s.ordered) s.forward
+    i (subst (λ m. i < m) s.long l)))
 
 -- what is seen of a moved event goes by what is seen of the event
 moved_seen : List ℤ → Seen → Seen
@@ -45,7 +49,9 @@ unfolding moved_seen
 moved-seen offsets [] = refl
 moved-seen offsets (x ∷ xs) = ap (λ (ss : List Seen). moved_seen offsets (seen x) ∷ ss) (moved-seen offsets xs)
 
-pub aligned-once : (align : Bool) (n : ℕ) (xs ys : List Event) (a b : Option (List ℤ)) (ms ns : List Event) → map seen xs ≡ map seen ys → AreAligned align n xs a ms → AreAligned align n ys b ns → (a ≡ b) × (map seen ns ≡ map seen ms)
+pub aligned-once : (align : Bool) (n : ℕ) (xs ys : List Event) (a b : Option (List ℤ)) (ms ns : List Event)
+    → map seen xs ≡ map seen ys → AreAligned align n xs a ms → AreAligned align n ys b ns
+    → (a ≡ b) × (map seen ns ≡ map seen ms)
 aligned-once false n xs ys a b ms ns e s t = (s.0 ∙ sym t.0, ap (map seen) t.1 ∙ sym e ∙ sym (ap (map seen) s.1))
 aligned-once true n xs ys None b ms ns e s t = absurd s
 aligned-once true n xs ys (Some a) None ms ns e s t = absurd t

@@ -93,11 +93,42 @@ IsRead-unique o text a b s t = sym s.staged ∙ staged-same o.unit s.listed t.li
 same-Ok : {A : Type 0} {x y : A} → ◌≡◌ {A = Result A LogError} (Ok x) (Ok y) → x ≡ y
 same-Ok e = cc e
 
-same-import : (a b : Import) → a.trace ≡ b.trace → a.nodes ≡ b.nodes → a.moved ≡ b.moved → a.lateness ≡ b.lateness → a.offsets ≡ b.offsets → a.idle ≡ b.idle → a.lost ≡ b.lost → a.merged ≡ b.merged → a ≡ b
+same-import : (a b : Import) → a.trace ≡ b.trace → a.nodes ≡ b.nodes → a.moved ≡ b.moved → a.lateness ≡ b.lateness
+    → a.offsets ≡ b.offsets → a.idle ≡ b.idle → a.lost ≡ b.lost → a.merged ≡ b.merged → a ≡ b
 same-import a b t n m l o i k j =
-    ap₂ (λ (trace : Recorded) (nodes : List (List ℕ)). let z : Import = record { trace = trace; nodes = nodes; moved = a.moved; lateness = a.lateness; offsets = a.offsets; idle = a.idle; lost = a.lost; merged = a.merged } in z) t n
-    ∙ ap₂ (λ (moved : Moved) (lateness : Lateness). let z : Import = record { trace = b.trace; nodes = b.nodes; moved = moved; lateness = lateness; offsets = a.offsets; idle = a.idle; lost = a.lost; merged = a.merged } in z) m l
-    ∙ ap₂ (λ (offsets : Option (List ℤ)) (idle : Option IdleReceives). let z : Import = record { trace = b.trace; nodes = b.nodes; moved = b.moved; lateness = b.lateness; offsets = offsets; idle = idle; lost = a.lost; merged = a.merged } in z) o i
+    ap₂ (λ (trace : Recorded) (nodes : List (List ℕ)). let z : Import =
+    record {
+      trace = trace;
+      nodes = nodes;
+      moved = a.moved;
+      lateness = a.lateness;
+      offsets = a.offsets;
+      idle = a.idle;
+      lost = a.lost;
+      merged = a.merged;
+    } in z) t n
+    ∙ ap₂ (λ (moved : Moved) (lateness : Lateness). let z : Import =
+    record {
+      trace = b.trace;
+      nodes = b.nodes;
+      moved = moved;
+      lateness = lateness;
+      offsets = a.offsets;
+      idle = a.idle;
+      lost = a.lost;
+      merged = a.merged;
+    } in z) m l
+    ∙ ap₂ (λ (offsets : Option (List ℤ)) (idle : Option IdleReceives). let z : Import =
+    record {
+      trace = b.trace;
+      nodes = b.nodes;
+      moved = b.moved;
+      lateness = b.lateness;
+      offsets = offsets;
+      idle = idle;
+      lost = a.lost;
+      merged = a.merged;
+    } in z) o i
     ∙ ap₂ (λ (lost merged : Option ℕ). let z : Import = record { trace = b.trace; nodes = b.nodes; moved = b.moved; lateness = b.lateness; offsets = b.offsets; idle = b.idle; lost = lost; merged = merged } in z) k j
 
 -- as many of them are left, if lost sends are left out
@@ -106,8 +137,10 @@ kept-same false xs ys same = lengths xs ys same
 kept-same true xs ys same = ap (λ (ps : List ℕ). length ps) (places-same xs ys same)
 
 -- events of a log that are seen as the same make the same trace, without lost sends or with them, merged or not
-log-once : (drop merge : Bool) (limit : Option ℕ) (spread : Bool) (n : ℕ) (xs ys : List Event) (clock : Clock) (a b : Import) → map seen xs ≡ map seen ys → IsMadeOfLog drop merge limit spread n xs clock a → IsMadeOfLog drop merge limit spread n ys clock b
-    → (a.trace ≡ b.trace) × (a.moved ≡ b.moved) × (a.idle ≡ b.idle) × (a.lost ≡ b.lost) × (a.merged ≡ b.merged)
+log-once : (drop merge : Bool) (limit : Option ℕ) (spread : Bool) (n : ℕ) (xs ys : List Event) (clock : Clock)
+    (a b : Import) → map seen xs ≡ map seen ys → IsMadeOfLog drop merge limit spread n xs clock a
+    → IsMadeOfLog drop merge limit spread n ys clock b → (a.trace ≡ b.trace) × (a.moved ≡ b.moved) × (a.idle ≡ b.idle)
+    × (a.lost ≡ b.lost) × (a.merged ≡ b.merged)
 log-once drop merge limit spread n xs ys clock a b same s t = (
   made.0,
   s.moved_is ∙ ap₂ (λ (at : Option (List ℕ)) (m : Moved). moved_in at m) left.0 made.1 ∙ sym t.moved_is,
@@ -134,7 +167,8 @@ IsImportOf-unique o text a b s t = same-import a b made.0 (s.nodes ∙ ap (λ l.
 
   -- the offsets are one, and the aligned events are seen as the same
   one : (a.offsets ≡ b.offsets) × (map seen t.aligned ≡ map seen s.aligned)
-  one = aligned-once o.align (length s.log.nodes) s.events t.events a.offsets b.offsets s.aligned t.aligned (sym events) s.clocks (subst (λ l. AreAligned o.align (length l.nodes) t.events b.offsets t.aligned) (sym log) t.clocks)
+  one = aligned-once o.align (length s.log.nodes) s.events t.events a.offsets b.offsets s.aligned t.aligned (sym events)
+      s.clocks (subst (λ l. AreAligned o.align (length l.nodes) t.events b.offsets t.aligned) (sym log) t.clocks)
 
   late : a.lateness ≡ b.lateness
   late = s.lateness ∙ sym (lateness-same t.aligned s.aligned one.1) ∙ sym t.lateness

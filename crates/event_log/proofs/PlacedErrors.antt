@@ -15,7 +15,10 @@ use Rattle.event_log.specs.declared.refusals.LogError.{LogError}
 use Rattle.event_log.specs.Imports.{IsErrorUnlessMemory, IsPlacedErrorUnlessMemory, event_place, hop_in, place_in, reason_in, source_in, source_of}
 
 -- a reason other than a cycle is reported by the place of its event
-pub placed-error : (text : List ℕ) (nodes : List (List ℕ)) (events left : List Event) (places : List ℕ) (parts : Option (List (List ℕ))) (why : EventError) (error : LogError) → ((i : ℕ) → ¬ (why ≡ refused.Cycle i)) → IsErrorUnlessMemory text nodes events (reason_in events places parts why) error → IsPlacedErrorUnlessMemory text nodes events left places parts (filled.Events why) error
+pub placed-error : (text : List ℕ) (nodes : List (List ℕ)) (events left : List Event) (places : List ℕ)
+    (parts : Option (List (List ℕ))) (why : EventError) (error : LogError) → ((i : ℕ) → ¬ (why ≡ refused.Cycle i))
+    → IsErrorUnlessMemory text nodes events (reason_in events places parts why) error
+    → IsPlacedErrorUnlessMemory text nodes events left places parts (filled.Events why) error
 placed-error text nodes events left places parts refused.UntilTooEarly error other h = h
 placed-error text nodes events left places parts refused.TooManyTicks error other h = h
 placed-error text nodes events left places parts (refused.NeverSent i k) error other h = h
@@ -27,7 +30,8 @@ placed-error text nodes events left places parts (refused.Cycle i) error other h
 placed-error text nodes events left places parts refused.Memory error other h = h
 
 -- it is no cycle there either
-pub no-cycle : (events : List Event) (places : List ℕ) (parts : Option (List (List ℕ))) (why : EventError) → ((i : ℕ) → ¬ (why ≡ refused.Cycle i)) → (i : ℕ) → ¬ (reason_in events places parts why ≡ refused.Cycle i)
+pub no-cycle : (events : List Event) (places : List ℕ) (parts : Option (List (List ℕ))) (why : EventError)
+    → ((i : ℕ) → ¬ (why ≡ refused.Cycle i)) → (i : ℕ) → ¬ (reason_in events places parts why ≡ refused.Cycle i)
 no-cycle events places parts refused.UntilTooEarly other i e = absurd (cc e)
 no-cycle events places parts refused.TooManyTicks other i e = absurd (cc e)
 no-cycle events places parts (refused.NeverSent j k) other i e = absurd (cc e)
@@ -43,7 +47,9 @@ source-within : (events : List Event) (part : List ℕ) → ((k : ℕ) → k < l
 source-within events [] h k = omega arith
 source-within events (p ∷ ps) h k =
     go (nat_lt k (length (messages_at events p))) (h zero (omega arith)) (source-within events ps (λ j l. h (suc j) (omega (arith, l))) (k - length (messages_at events p))) where
-      go : (t : Bool) → p < MAX_EVENTS → (source_of events ps (k - length (messages_at events p))).0 < MAX_EVENTS → (let z : ℕ × ℕ = cond t (p, k) (source_of events ps (k - length (messages_at events p))) in z.0 < MAX_EVENTS)
+      go : (t : Bool) → p < MAX_EVENTS → (source_of events ps (k - length (messages_at events p))).0 < MAX_EVENTS
+          → (let z : ℕ × ℕ = cond t (p, k) (source_of events ps (k - length (messages_at events p))) in
+          z.0 < MAX_EVENTS)
       go true a b = a
       go false a b = b
 

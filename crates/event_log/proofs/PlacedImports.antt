@@ -11,7 +11,9 @@ use Rattle.event_log.specs.declared.imports.Import.{Import}
 use Rattle.event_log.specs.declared.options.Options.{Options}
 use Rattle.event_log.specs.declared.refusals.LogError.{LogError}
 use Rattle.event_log.specs.Alignments.{AreAligned}
-use Rattle.event_log.specs.Imports.{AreEventsOf, AreTaken, IsEmptied, IsIdleErrorUnlessMemory, IsLogRefusal, IsPlacedErrorUnlessMemory, IsPlacedImport, IsPlacedOfLog, IsUnmadeFor, IsUnmadeOfLog, IsUnmadeUnlessMemory, IsUnmergedOf, limit_in}
+use Rattle.event_log.specs.Imports.{AreEventsOf, AreTaken, IsEmptied, IsIdleErrorUnlessMemory, IsLogRefusal}
+use Rattle.event_log.specs.Imports.{IsPlacedErrorUnlessMemory, IsPlacedImport, IsPlacedOfLog, IsUnmadeFor}
+use Rattle.event_log.specs.Imports.{IsUnmadeOfLog, IsUnmadeUnlessMemory, IsUnmergedOf, limit_in}
 use Rattle.event_log.specs.Logs.{SeenLog}
 use Rattle.event_log.specs.Naming.{is_memory}
 use Rattle.event_log.proofs.LogRefusals.{untimed-refusal}
@@ -19,7 +21,10 @@ use Rattle.event_log.proofs.Outcomes.{weaker}
 use Rattle.event_log.proofs.TakenEvents.{whole-taken}
 
 -- a reason against all events of a log
-pub whole-unmade : (limit : Option ℕ) (spread : Bool) (text : List ℕ) (nodes : List (List ℕ)) (events : List Event) (clock : Clock) (reason : IdleError) (why : LogError) → IsUnmadeFor limit spread (length nodes) events clock reason → IsIdleErrorUnlessMemory text nodes events reason why → IsUnmadeUnlessMemory false false limit spread text nodes events clock why
+pub whole-unmade : (limit : Option ℕ) (spread : Bool) (text : List ℕ) (nodes : List (List ℕ)) (events : List Event)
+    (clock : Clock) (reason : IdleError) (why : LogError) → IsUnmadeFor limit spread (length nodes) events clock reason
+    → IsIdleErrorUnlessMemory text nodes events reason why
+    → IsUnmadeUnlessMemory false false limit spread text nodes events clock why
 whole-unmade limit spread text nodes events clock reason why untimed =
     weaker (is_memory why) _ (IsUnmadeOfLog false false limit spread text nodes events clock why) (λ is. inr (inr (record {
       left = events;
@@ -32,7 +37,12 @@ whole-unmade limit spread text nodes events clock reason why untimed =
     })))
 
 -- a reason against those that are left
-pub left-unmade : (drop merge : Bool) (limit : Option ℕ) (spread : Bool) (text : List ℕ) (nodes : List (List ℕ)) (events left : List Event) (places : List ℕ) (parts : Option (List (List ℕ))) (clock : Clock) (reason : IdleError) (why : LogError) → AreTaken drop merge events clock left (Some places) parts → IsUnmadeFor limit spread (length nodes) left clock reason → IsPlacedErrorUnlessMemory text nodes events left places parts reason why → IsUnmadeUnlessMemory drop merge limit spread text nodes events clock why
+pub left-unmade : (drop merge : Bool) (limit : Option ℕ) (spread : Bool) (text : List ℕ) (nodes : List (List ℕ))
+    (events left : List Event) (places : List ℕ) (parts : Option (List (List ℕ))) (clock : Clock) (reason : IdleError)
+    (why : LogError) → AreTaken drop merge events clock left (Some places) parts
+    → IsUnmadeFor limit spread (length nodes) left clock reason
+    → IsPlacedErrorUnlessMemory text nodes events left places parts reason why
+    → IsUnmadeUnlessMemory drop merge limit spread text nodes events clock why
 left-unmade drop merge limit spread text nodes events left places parts clock reason why are untimed =
     weaker (is_memory why) _ (IsUnmadeOfLog drop merge limit spread text nodes events clock why) (λ is. inr (inr (record {
       left = left;
@@ -45,13 +55,20 @@ left-unmade drop merge limit spread text nodes events left places parts clock re
     })))
 
 -- none is left, or the times are refused before receives are merged
-pub untaken-unmade : (drop merge : Bool) (limit : Option ℕ) (spread : Bool) (text : List ℕ) (nodes : List (List ℕ)) (events : List Event) (clock : Clock) (why : LogError) → MatchBool (is_memory why) ⊤ (IsEmptied drop events why ⊎ IsUnmergedOf drop merge events clock why) → IsUnmadeUnlessMemory drop merge limit spread text nodes events clock why
+pub untaken-unmade : (drop merge : Bool) (limit : Option ℕ) (spread : Bool) (text : List ℕ) (nodes : List (List ℕ))
+    (events : List Event) (clock : Clock) (why : LogError)
+    → MatchBool (is_memory why) ⊤ (IsEmptied drop events why ⊎ IsUnmergedOf drop merge events clock why)
+    → IsUnmadeUnlessMemory drop merge limit spread text nodes events clock why
 untaken-unmade drop merge limit spread text nodes events clock why = weaker (is_memory why) _ (IsUnmadeOfLog drop merge limit spread text nodes events clock why) go where
   go : IsEmptied drop events why ⊎ IsUnmergedOf drop merge events clock why → IsUnmadeOfLog drop merge limit spread text nodes events clock why
   go (inl none) = inl none
   go (inr refused) = inr (inl refused)
 
-module _ (o : Options) (text : List ℕ) (log : SeenLog) (events : List Event) (clock : Clock) (told : AreEventsOf o text log events clock) (aligned : AlignedLog) (clocks : AreAligned o.align (length log.nodes) events aligned.offsets aligned.log.events.items) (nodes : aligned.log.nodes ≡ log.nodes) (limit : Option ℕ) (fits : limit_in o log.kind clock ≡ Ok limit) (drop merge : Bool) (asked : o.drop_lost ≡ drop) (joined : o.merge ≡ merge) where
+module _ (o : Options) (text : List ℕ) (log : SeenLog) (events : List Event) (clock : Clock)
+    (told : AreEventsOf o text log events clock) (aligned : AlignedLog)
+    (clocks : AreAligned o.align (length log.nodes) events aligned.offsets aligned.log.events.items)
+    (nodes : aligned.log.nodes ≡ log.nodes) (limit : Option ℕ) (fits : limit_in o log.kind clock ≡ Ok limit)
+    (drop merge : Bool) (asked : o.drop_lost ≡ drop) (joined : o.merge ≡ merge) where
   pub placed-import : (lateness : Lateness) → lateness ≡ lateness_of aligned.log.events.items
       → (import : Import) (filled : List Event) (logged : ℕ) (left_at : Option (List ℕ)) (parts : Option (List (List ℕ))) (first : ℤ) (ticks : Clock) (places : List ℕ)
       → IsPlacedOfLog drop merge limit o.spread (length aligned.log.nodes) aligned.log.events.items clock import filled logged left_at parts first places

@@ -1,5 +1,6 @@
 -- Events that a contract sees as the same make the same trace, moved in the same way.
-use Rattle.std.proofs.Common.{ℕ, zero, suc, ◌≡◌, ◌<◌, ◌∙◌, ◌⊎◌, inl, inr, Bool, true, false, cond, IsTrue, List, [], ◌∷◌, ◌++◌, length, map, take, max, Option, Some, None, refl, sym, ap, ap₂, subst, ℤ, ◌-ℤ◌}
+use Rattle.std.proofs.Common.{ℕ, zero, suc, ◌≡◌, ◌<◌, ◌∙◌, ◌⊎◌, inl, inr, Bool, true, false, cond, IsTrue, List, []}
+use Rattle.std.proofs.Common.{◌∷◌, ◌++◌, length, map, take, max, Option, Some, None, refl, sym, ap, ap₂, subst, ℤ, ◌-ℤ◌}
 use Rattle.std.specs.Prelude.{◌+◌, ◌/◌, pos, int_lt, nat_lt, fold, unwrap_or, slice_get, slice_index, slice_index_or, option_map, if◌then◌else◌, ◌||◌, ◌&&◌, not, ◌==◌}
 use Rattle.std.specs.Int.{int_min, int_max}
 use Rattle.std.specs.Int.RustNames.{unsigned_abs}
@@ -26,7 +27,10 @@ use Rattle.timed_events.specs.declared.lateness.LateMessage.{LateMessage}
 use Rattle.timed_events.specs.declared.lateness.Lateness.{Lateness}
 use Rattle.timed_events.specs.declared.spread_traces.TimedTrace.{TimedTrace}
 use Rattle.timed_events.specs.Firsts.{first_of, any_below}
-use Rattle.timed_events.specs.Checks.{processor_at, messages_at, time_at, is_for, sends_to, received_in, is_message, received_before, was_received, late_hint, message_fault, message_faults, first_fault, message_refusal, messages_refusal, moment_of, moment_at, earlier_at, apart_hint, second_refusal, event_refusal, events_refusal}
+use Rattle.timed_events.specs.Checks.{processor_at, messages_at, time_at, is_for, sends_to, received_in, is_message}
+use Rattle.timed_events.specs.Checks.{received_before, was_received, late_hint, message_fault, message_faults}
+use Rattle.timed_events.specs.Checks.{first_fault, message_refusal, messages_refusal, moment_of, moment_at, earlier_at}
+use Rattle.timed_events.specs.Checks.{apart_hint, second_refusal, event_refusal, events_refusal}
 use Rattle.timed_events.specs.Times.{first_time, least_time, greatest_time, time_tick, time_ticks, last_tick, times_refusal}
 use Rattle.timed_events.specs.Orders.{IsOrder}
 use Rattle.timed_events.specs.TimedTraces.{IsActOf, IsStepAt, IsTraceOf, AreIdsOf}
@@ -55,7 +59,9 @@ unfolding sent_by
 sent-seen (act.Send to) p = refl
 sent-seen (act.Receive messages) p = refl
 
-look-seen : {X : Type 0} (f : Event → X) (g : Seen → X) → ((e : Event) → f e ≡ g (seen e)) → (xs : List Event) (i : ℕ) (d : X) → option_map_or f (slice_get xs i) d ≡ option_map_or g (slice_get (map seen xs) i) d
+look-seen : {X : Type 0} (f : Event → X) (g : Seen → X) → ((e : Event) → f e ≡ g (seen e))
+    → (xs : List Event) (i : ℕ) (d : X)
+    → option_map_or f (slice_get xs i) d ≡ option_map_or g (slice_get (map seen xs) i) d
 look-seen f g h [] i d = refl
 look-seen f g h (x ∷ xs) zero d = h x
 look-seen f g h (x ∷ xs) (suc i) d = look-seen f g h xs i d
@@ -160,14 +166,19 @@ module _ (xs ys : List Event) (same : map seen xs ≡ map seen ys) where
   late-same : (s i : ℕ) → late_hint xs s i ≡ late_hint ys s i
   late-same s i =
       ap₂ (λ (x y : ℤ). if int_lt x y then Some ShorterTick else if not (processor_at xs s == processor_at xs i) then Some Spread else if not (int_lt y x) && nat_lt s i then Some Spread else None) (times s) (times i)
-      ∙ ap₂ (λ (p q : ℕ). if int_lt (time_at ys s) (time_at ys i) then Some ShorterTick else if not (p == q) then Some Spread else if not (int_lt (time_at ys i) (time_at ys s)) && nat_lt s i then Some Spread else None) (processors s) (processors i)
+      ∙ ap₂ (λ (p q : ℕ). if int_lt (time_at ys s) (time_at ys i) then Some ShorterTick else if not (p == q) then Some
+      Spread else if not (int_lt (time_at ys i) (time_at ys s)) && nat_lt s i then Some Spread else None) (processors s)
+      (processors i)
 
   message-same : (ticks : List ℕ) (i k : ℕ) (m : Option ℕ) → message_refusal xs ticks (was_received xs i k) i k m ≡ message_refusal ys ticks (was_received ys i k) i k m
   message-same ticks i k None = refl
   message-same ticks i k (Some s) =
       ap₂ (λ (u v : Bool). cond u (cond v (Some (ReceivedBefore i k)) (cond (nat_lt (slice_index_or ticks s 0) (slice_index_or ticks i 0)) None (Some (NotLater i k (late_hint xs s i))))) (Some (WrongReceiver i k)))
       (receivers s (processor_at xs i) ∙ ap (is_for ys s) (processors i)) (was-same i k s)
-      ∙ ap (λ (h : Option Hint). cond (is_for ys s (processor_at ys i)) (cond (was_received ys i k s) (Some (ReceivedBefore i k)) (cond (nat_lt (slice_index_or ticks s 0) (slice_index_or ticks i 0)) None (Some (NotLater i k h)))) (Some (WrongReceiver i k))) (late-same s i)
+      ∙ ap (λ (h : Option Hint). cond (is_for ys s (processor_at ys i))
+      (cond (was_received ys i k s) (Some (ReceivedBefore i k))
+      (cond (nat_lt (slice_index_or ticks s 0) (slice_index_or ticks i 0)) None (Some (NotLater i k h))))
+      (Some (WrongReceiver i k))) (late-same s i)
 
   messages-refused : (ticks : List ℕ) (i : ℕ) → messages_refusal xs ticks i ≡ messages_refusal ys ticks i
   unfolding messages_refusal

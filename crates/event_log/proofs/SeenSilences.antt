@@ -49,7 +49,14 @@ idle-end xs ys same ticks last limit p y h = record {
 module _ (xs ys : List Event) (same : map seen xs ≡ map seen ys) where
   idles-same : (n : ℕ) (ticks : List ℕ) (last limit : ℕ) (idles : List IdleTick) → AreIdle n xs ticks last limit idles → AreIdle n ys ticks last limit idles
   idles-same n ticks last limit idles h = record {
-    each = All-weaker (IsIdleTick n xs ticks last limit) (IsIdleTick n ys ticks last limit) (λ x i. record { least = i.least; most = i.most; end = idle-end xs ys same ticks last limit x.processor x.tick i.end }) idles h.each;
+    each = All-weaker (IsIdleTick n xs ticks last limit) (IsIdleTick n ys ticks last limit)
+        (λ x i.
+        record {
+          least = i.least;
+          most = i.most;
+          end =
+              idle-end xs ys same ticks last limit x.processor x.tick i.end;
+        }) idles h.each;
     all = λ p y a b e. h.all p y a b (idle-end ys xs (sym same) ticks last limit p y e);
     rising = h.rising;
   }
@@ -57,7 +64,8 @@ module _ (xs ys : List Event) (same : map seen xs ≡ map seen ys) where
   both-seen : (zs : List Event) → map seen (xs ++ zs) ≡ map seen (ys ++ zs)
   both-seen zs = map-append seen xs zs ∙ ap (λ ss. ss ++ map seen zs) same ∙ sym (map-append seen ys zs)
 
-  filled-same : (n : ℕ) (new : List Event) (ticks : List ℕ) (last : ℕ) (idles : List IdleTick) (made : Recorded) → (h : IsFilled n xs new ticks last idles made) → IsFilled n ys (ys ++ h.added) ticks last idles made
+  filled-same : (n : ℕ) (new : List Event) (ticks : List ℕ) (last : ℕ) (idles : List IdleTick) (made : Recorded)
+      → (h : IsFilled n xs new ticks last idles made) → IsFilled n ys (ys ++ h.added) ticks last idles made
   filled-same n new ticks last idles made h = record {
     added = h.added;
     receives = h.receives;
@@ -65,7 +73,9 @@ module _ (xs ys : List Event) (same : map seen xs ≡ map seen ys) where
     trace = traces (xs ++ h.added) (ys ++ h.added) (both-seen h.added) n (ticks ++ ticks_of idles) last made h.trace;
   }
 
-  idle-as-seen : (spread : Bool) (n : ℕ) (clock : Clock) (limit : ℕ) (timed : IdleTrace) (new : List Event) → (t : IsIdleTimed spread n xs clock limit timed new) → IsIdleTimed spread n ys clock limit timed (ys ++ t.filled.added)
+  idle-as-seen : (spread : Bool) (n : ℕ) (clock : Clock) (limit : ℕ) (timed : IdleTrace) (new : List Event)
+      → (t : IsIdleTimed spread n xs clock limit timed new)
+      → IsIdleTimed spread n ys clock limit timed (ys ++ t.filled.added)
   idle-as-seen spread n clock limit timed new t = record {
     passed = passed xs ys same spread clock t.passed;
     ticks = t.ticks;
@@ -80,7 +90,9 @@ module _ (xs ys : List Event) (same : map seen xs ≡ map seen ys) where
     ends = lasts xs ys same clock t.ticks
 
   -- so what is made of events is made of what is seen of them
-  pub made-as-seen : (limit : Option ℕ) (spread : Bool) (n : ℕ) (clock : Clock) (trace : Recorded) (moved : Moved) (idle : Option IdleReceives) → IsMadeBy limit spread n xs clock trace moved idle → IsMadeBy limit spread n ys clock trace moved idle
+  pub made-as-seen : (limit : Option ℕ) (spread : Bool) (n : ℕ) (clock : Clock) (trace : Recorded) (moved : Moved)
+      (idle : Option IdleReceives) → IsMadeBy limit spread n xs clock trace moved idle
+      → IsMadeBy limit spread n ys clock trace moved idle
   made-as-seen None spread n clock trace moved idle h = (timed-as-seen xs ys same spread n clock (record { trace = trace; moved = moved }) h.0, h.1)
   made-as-seen (Some limit) spread n clock trace moved idle h = record {
     new = ys ++ h.timed.filled.added;
@@ -90,7 +102,9 @@ module _ (xs ys : List Event) (same : map seen xs ≡ map seen ys) where
   }
 
 -- events, clock and limit make one trace
-pub made-once : (limit : Option ℕ) (spread : Bool) (n : ℕ) (events : List Event) (clock : Clock) (t u : Recorded) (m o : Moved) (i j : Option IdleReceives) → IsMadeBy limit spread n events clock t m i → IsMadeBy limit spread n events clock u o j → (t ≡ u) × (m ≡ o) × (i ≡ j)
+pub made-once : (limit : Option ℕ) (spread : Bool) (n : ℕ) (events : List Event) (clock : Clock) (t u : Recorded)
+    (m o : Moved) (i j : Option IdleReceives) → IsMadeBy limit spread n events clock t m i
+    → IsMadeBy limit spread n events clock u o j → (t ≡ u) × (m ≡ o) × (i ≡ j)
 made-once None spread n events clock t u m o i j h k =
     let a : TimedTrace = record { trace = t; moved = m } in
     let b : TimedTrace = record { trace = u; moved = o } in

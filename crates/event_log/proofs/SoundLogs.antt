@@ -102,7 +102,8 @@ unfolding KeptWithin
 send-go true at to messages act count h e = cc e
 send-go false at to messages act count h e = let same : kept.Send to ≡ act = cc e in rw (← same) h
 
-act-within : (v : Verb) (at to : ℕ) (sent : Sent) (events : List KeptEvent) (s : Said) (act : KeptAct) (count : ℕ) → IsNumber count to → act_after_by v at to sent events s ≡ Ok act → KeptWithin count act
+act-within : (v : Verb) (at to : ℕ) (sent : Sent) (events : List KeptEvent) (s : Said) (act : KeptAct) (count : ℕ)
+    → IsNumber count to → act_after_by v at to sent events s ≡ Ok act → KeptWithin count act
 unfolding KeptWithin
 act-within verb.Send at to sent events s act count h e = send-go (was_sent sent events to s.messages) at to s.messages act count h e
 act-within verb.Receive at to sent events s act count h e = let same : kept.Receive s.messages ≡ act = cc e in rw (← same) tt

@@ -41,8 +41,10 @@ names-more count (Err e) s more = refl
 with_says : Columns → Option TimeUnit → Option (Bor (List (List ℕ))) → ℕ → Result Named LogError → Option TimeKind × List Said → Result Reading LogError
 with_says columns unit listed count names r = Ok (reading columns unit listed r.0 (count + length r.1) (names_then count names r.1))
 
-with-more : (columns : Columns) (unit : Option TimeUnit) (listed : Option (Bor (List (List ℕ)))) (count : ℕ) (names : Result Named LogError) (s : Said) (r : Result (Option TimeKind × List Said) LogError)
-    → r >>= with_says columns unit listed (count + 1) (after_told count names s) ≡ (r >>= λ p. with_said s p) >>= with_says columns unit listed count names
+with-more : (columns : Columns) (unit : Option TimeUnit) (listed : Option (Bor (List (List ℕ)))) (count : ℕ)
+    (names : Result Named LogError) (s : Said) (r : Result (Option TimeKind × List Said) LogError)
+    → r >>= with_says columns unit listed (count + 1) (after_told count names s)
+    ≡ (r >>= λ p. with_said s p) >>= with_says columns unit listed count names
 unfolding with_says reading
 with-more columns unit listed count names s (Err e) = refl
 with-more columns unit listed count names s (Ok p) =
@@ -50,10 +52,14 @@ with-more columns unit listed count names s (Ok p) =
     ap (λ n. Ok (reading columns unit listed p.0 n (names_then (count + 1) (after_told count names s) p.1))) len
     ∙ ap (λ n. Ok (reading columns unit listed p.0 (count + suc (length p.1)) n)) (names-more count names s p.1)
 
-step-go : (columns : Columns) (unit : Option TimeUnit) (listed : Option (Bor (List (List ℕ)))) (count : ℕ) (names : Result Named LogError) (more : List (List (List ℕ)))
-    → ((kind : TimeKind) (next : Result Named LogError) → after_records next_reading (reading columns unit listed (Some kind) (count + 1) next) more ≡ says_of columns unit listed (Some kind) (count + 1) more >>= with_says columns unit listed (count + 1) next)
+step-go : (columns : Columns) (unit : Option TimeUnit) (listed : Option (Bor (List (List ℕ)))) (count : ℕ)
+    (names : Result Named LogError) (more : List (List (List ℕ)))
+    → ((kind : TimeKind) (next : Result Named LogError)
+    → after_records next_reading (reading columns unit listed (Some kind) (count + 1) next) more
+    ≡ says_of columns unit listed (Some kind) (count + 1) more >>= with_says columns unit listed (count + 1) next)
     → (s : Result Said LogError)
-    → (s >>= λ x. Ok (reading columns unit listed (Some x.moment.kind) (count + 1) (after_told count names x))) >>= (λ t. after_records next_reading t more)
+    → (s >>= λ x. Ok (reading columns unit listed (Some x.moment.kind) (count + 1) (after_told count names x))) >>=
+    (λ t. after_records next_reading t more)
     ≡ (s >>= λ x. says_of columns unit listed (Some x.moment.kind) (count + 1) more >>= λ r. with_said x r) >>= with_says columns unit listed count names
 step-go columns unit listed count names more next (Err e) = refl
 step-go columns unit listed count names more next (Ok x) =

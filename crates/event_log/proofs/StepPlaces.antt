@@ -20,14 +20,22 @@ use Rattle.event_log.specs.StepTables.{IsTableOf, table_text}
 one-each : (n : ℕ) (events : List Event) (places : List ℕ) (trace : Recorded) → HasStepsAt n events places trace → length places ≡ length trace.steps
 one-each n events places trace h = sym (AllZip-long (IsStepAt events h.numbers) places trace.steps h.has.steps)
 
-pub places-long : (spread : Bool) (n : ℕ) (events : List Event) (clock : Clock) (timed : TimedTrace) (places : List ℕ) → IsTimed spread n events clock timed → AreStepPlaces spread events clock places → length places ≡ length timed.trace.steps
+pub places-long : (spread : Bool) (n : ℕ) (events : List Event) (clock : Clock) (timed : TimedTrace) (places : List ℕ)
+    → IsTimed spread n events clock timed → AreStepPlaces spread events clock places
+    → length places ≡ length timed.trace.steps
 places-long spread n events clock timed places t p = one-each n events places timed.trace (steps-placed spread n events clock timed places t p)
 
-pub filled-long : (spread : Bool) (n : ℕ) (events : List Event) (clock : Clock) (limit : ℕ) (timed : IdleTrace) (filled : List Event) (places : List ℕ) → IsIdleTimed spread n events clock limit timed filled → AreFilledPlaces spread n events clock limit filled places → length places ≡ length timed.trace.steps
+pub filled-long : (spread : Bool) (n : ℕ) (events : List Event) (clock : Clock) (limit : ℕ) (timed : IdleTrace)
+    (filled : List Event) (places : List ℕ) → IsIdleTimed spread n events clock limit timed filled
+    → AreFilledPlaces spread n events clock limit filled places → length places ≡ length timed.trace.steps
 filled-long spread n events clock limit timed filled places t p = one-each n filled places timed.trace (steps-filled spread n events clock limit timed filled places t p)
 
 -- the table of an import whose events, clock and places are known
-pub table-made : (o : Options) (text : List ℕ) (import : Import) (filled : List Event) (logged : ℕ) (left_at : Option (List ℕ)) (parts : Option (List (List ℕ))) (first : ℤ) (clock : Clock) (places table : List ℕ) → IsPlacedImport o text import filled logged left_at parts first clock places → table ≡ table_text text import.nodes filled logged left_at parts first clock.width import.trace.ticks places → IsTableOf o text import table
+pub table-made : (o : Options) (text : List ℕ) (import : Import) (filled : List Event) (logged : ℕ)
+    (left_at : Option (List ℕ)) (parts : Option (List (List ℕ))) (first : ℤ) (clock : Clock) (places table : List ℕ)
+    → IsPlacedImport o text import filled logged left_at parts first clock places
+    → table ≡ table_text text import.nodes filled logged left_at parts first clock.width import.trace.ticks places
+    → IsTableOf o text import table
 table-made o text import filled logged left_at parts first clock places table h e = record {
   is = h.is;
   filled = filled;

@@ -59,7 +59,9 @@ left-taken events left places clock are = record {
 }
 
 -- and those with merged receives
-pub merged-taken : (drop : Bool) (events kept merged : List Event) (clock : Clock) (kept_at : Option (List ℕ)) (places : List ℕ) (parts : Option (List (List ℕ))) → AreLeftBy drop events kept kept_at → AreMergedIn kept clock kept_at merged places parts → AreTaken drop true events clock merged (Some places) parts
+pub merged-taken : (drop : Bool) (events kept merged : List Event) (clock : Clock) (kept_at : Option (List ℕ))
+    (places : List ℕ) (parts : Option (List (List ℕ))) → AreLeftBy drop events kept kept_at
+    → AreMergedIn kept clock kept_at merged places parts → AreTaken drop true events clock merged (Some places) parts
 merged-taken drop events kept merged clock kept_at places parts are m = record {
   kept = kept;
   kept_at = kept_at;
@@ -89,7 +91,9 @@ each-placed n top f h parts a = λ k l.
     let own : k < length parts = omega (arith, long, l) in
     subst (λ (xs : List ℕ). ArePart top xs) (sym (get_or-map (map f) parts k [] [] own)) (one-placed n top f h (slice_index_or parts k []) (a k own))
 
-module _ (kept merged : List Event) (clock : Clock) (at : Option (List ℕ)) (places : List ℕ) (parts : Option (List (List ℕ))) (m : AreMergedIn kept clock at merged places parts) (top : ℕ) (within : (p : ℕ) → p < length kept → log_place at p < top) where
+module _ (kept merged : List Event) (clock : Clock) (at : Option (List ℕ)) (places : List ℕ)
+    (parts : Option (List (List ℕ))) (m : AreMergedIn kept clock at merged places parts) (top : ℕ)
+    (within : (p : ℕ) → p < length kept → log_place at p < top) where
   are-placed : AreParts top (map (map (log_place at)) m.own)
   are-placed = each-placed (length kept) top (log_place at) within m.own m.inside
 
@@ -138,14 +142,18 @@ sends-joined : (n : ℕ) (events : List Event) (new part : List ℕ) (a : EventA
 sends-joined n events new part (act.Send to) h = h
 sends-joined n events new part (act.Receive messages) h = h
 
-one-joined : (n : ℕ) (events : List Event) (new part : List ℕ) (p : ℕ) (e : Event) (o : Option Event) → All (IsWithin n) (map seen events) → slice_get events p ≡ o → Some (seen e) ≡ option_map (joined_event events new part) o → IsWithin n (seen e)
+one-joined : (n : ℕ) (events : List Event) (new part : List ℕ) (p : ℕ) (e : Event) (o : Option Event)
+    → All (IsWithin n) (map seen events) → slice_get events p ≡ o
+    → Some (seen e) ≡ option_map (joined_event events new part) o → IsWithin n (seen e)
 one-joined n events new part p e None h at same = absurd (cc same)
 one-joined n events new part p e (Some x) h at same =
     let is : joined_event events new part x ≡ seen e = cc same in
     let within = within-at n events p x h at in
     subst (λ (s : Seen). IsWithin n s) is (within.0, sends-joined n events new part x.act within.1)
 
-within-joined : (n : ℕ) (events : List Event) (new : List ℕ) (left : List Event) (parts : List (List ℕ)) → All (IsWithin n) (map seen events) → map (λ e. Some (seen e)) left ≡ map (joined_at events new) parts → All (IsWithin n) (map seen left)
+within-joined : (n : ℕ) (events : List Event) (new : List ℕ) (left : List Event) (parts : List (List ℕ))
+    → All (IsWithin n) (map seen events) → map (λ e. Some (seen e)) left ≡ map (joined_at events new) parts
+    → All (IsWithin n) (map seen left)
 within-joined n events new [] parts h same = All-nil (IsWithin n)
 within-joined n events new (e ∷ es) [] h same = absurd (cc same)
 within-joined n events new (e ∷ es) (p ∷ ps) h same =
@@ -183,12 +191,16 @@ joined-few events left clock parts h =
     omega (arith, long, are, few)
 
 -- one for each place
-pub taken-long : (drop merge : Bool) (events left : List Event) (clock : Clock) (places : List ℕ) (parts : Option (List (List ℕ))) → AreTaken drop merge events clock left (Some places) parts → length left ≡ length places
+pub taken-long : (drop merge : Bool) (events left : List Event) (clock : Clock) (places : List ℕ)
+    (parts : Option (List (List ℕ))) → AreTaken drop merge events clock left (Some places) parts
+    → length left ≡ length places
 taken-long drop merge events left clock places parts h = go drop merge h.kept_at h.own_parts h.are_kept h.are_merged (h.at ∙ ap (first_places h.kept_at) h.parts_are) where
   same : (xs ys : List ℕ) → ◌≡◌ {A = Option (List ℕ)} (Some xs) (Some ys) → length ys ≡ length xs
   same xs ys e = ap (λ (zs : List ℕ). length zs) (sym (same-some e))
 
-  go : (d m : Bool) (at : Option (List ℕ)) (own : Option (List (List ℕ))) → AreLeftBy d events h.kept at → AreMergedBy m h.kept clock left own → Some places ≡ first_places at (log_parts at own) → length left ≡ length places
+  go : (d m : Bool) (at : Option (List ℕ)) (own : Option (List (List ℕ))) → AreLeftBy d events h.kept at
+      → AreMergedBy m h.kept clock left own → Some places ≡ first_places at (log_parts at own)
+      → length left ≡ length places
   go d true at None k m e = absurd m
   go d true at (Some own) k m e =
       joined-long h.kept left clock own m ∙ sym (length-map own (map (log_place at))) ∙ sym (length-map (map (map (log_place at)) own) (λ (part : List ℕ). slice_index part 0))
@@ -233,10 +245,16 @@ module _ (log : NamedEvents) (sound : IsSound (seen_log log)) where
       go true (Some own) k few = let less = joined-few h.kept left clock own k in omega (arith, less, few)
 
 -- none is left, or the times are refused before receives are merged
-pub none-taken : (merge : Bool) (events : List Event) (clock : Clock) (why : LogError) → MatchBool (is_memory why) ⊤ ((left_places events ≡ []) × (why ≡ NoEvents)) → MatchBool (is_memory why) ⊤ (IsEmptied true events why ⊎ IsUnmergedOf true merge events clock why)
+pub none-taken : (merge : Bool) (events : List Event) (clock : Clock) (why : LogError)
+    → MatchBool (is_memory why) ⊤ ((left_places events ≡ []) × (why ≡ NoEvents))
+    → MatchBool (is_memory why) ⊤ (IsEmptied true events why ⊎ IsUnmergedOf true merge events clock why)
 none-taken merge events clock why = weaker (is_memory why) _ (IsEmptied true events why ⊎ IsUnmergedOf true merge events clock why) (λ none. inl (refl, none.0, none.1))
 
-pub times-refused : (drop : Bool) (events kept : List Event) (clock : Clock) (kept_at : Option (List ℕ)) → AreLeftBy drop events kept kept_at → (why : LogError) → MatchBool (is_memory why) ⊤ ((reason : EventError) × (times_refusal kept clock ≡ Some reason) × IsTimesError reason why) → MatchBool (is_memory why) ⊤ (IsEmptied drop events why ⊎ IsUnmergedOf drop true events clock why)
+pub times-refused : (drop : Bool) (events kept : List Event) (clock : Clock) (kept_at : Option (List ℕ))
+    → AreLeftBy drop events kept kept_at → (why : LogError)
+    → MatchBool (is_memory why) ⊤ ((reason : EventError) × (times_refusal kept clock ≡ Some reason)
+    × IsTimesError reason why) → MatchBool (is_memory why) ⊤ (IsEmptied drop events why
+    ⊎ IsUnmergedOf drop true events clock why)
 times-refused drop events kept clock kept_at are why = weaker (is_memory why) _ (IsEmptied drop events why ⊎ IsUnmergedOf drop true events clock why) (λ h. inr (record {
   asked = refl;
   kept = kept;
@@ -248,7 +266,9 @@ times-refused drop events kept clock kept_at are why = weaker (is_memory why) _ 
 }))
 
 -- the reason against the times is that of the log
-pub times-reason : (why : EventError) (refusal : Option EventError) (error : LogError) → IsEventRefusal why refusal → MatchBool (is_memory error) ⊤ (IsTimesError why error) → MatchBool (is_memory error) ⊤ ((reason : EventError) × (refusal ≡ Some reason) × IsTimesError reason error)
+pub times-reason : (why : EventError) (refusal : Option EventError) (error : LogError) → IsEventRefusal why refusal
+    → MatchBool (is_memory error) ⊤ (IsTimesError why error)
+    → MatchBool (is_memory error) ⊤ ((reason : EventError) × (refusal ≡ Some reason) × IsTimesError reason error)
 times-reason why refusal error h = weaker (is_memory error) (IsTimesError why error) ((reason : EventError) × (refusal ≡ Some reason) × IsTimesError reason error) (go why h) where
   go : (w : EventError) → IsEventRefusal w refusal → IsTimesError w error → (reason : EventError) × (refusal ≡ Some reason) × IsTimesError reason error
   go refused.UntilTooEarly is t = (refused.UntilTooEarly, is, t)

@@ -22,7 +22,10 @@ use Rattle.event_log.specs.declared.tick_rows.TickRow.{TickRow}
 use Rattle.event_log.specs.declared.times.TimeKind.{TimeKind}
 use Rattle.event_log.specs.Alignments.{AreAligned}
 use Rattle.event_log.specs.Events.{seen}
-use Rattle.event_log.specs.Imports.{AreEventsOf, AreLeftBy, AreTaken, IsIdleErrorUnlessMemory, IsLeftErrorOf, IsLogRefusal, IsPlacedErrorUnlessMemory, IsRead, IsReadRefusal, IsUnmadeUnlessMemory, clock_in, kept_count, moved_in, removed_by, units_in, until_in}
+use Rattle.event_log.specs.Imports.{AreEventsOf, AreLeftBy, AreTaken, IsIdleErrorUnlessMemory, IsLeftErrorOf}
+use Rattle.event_log.specs.Imports.{IsLogRefusal, IsPlacedErrorUnlessMemory, IsRead, IsReadRefusal}
+use Rattle.event_log.specs.Imports.{IsUnmadeUnlessMemory, clock_in, kept_count, moved_in, removed_by, units_in}
+use Rattle.event_log.specs.Imports.{until_in}
 use Rattle.event_log.specs.Logs.{SeenLog}
 use Rattle.event_log.specs.Naming.{is_memory}
 use Rattle.event_log.specs.TickRows.{AreNumbersOf, IsPlacedBy, IsPlacingOf, IsRowOf, IsRowRefusal, clock_of, log_length, told_widths}
@@ -62,11 +65,14 @@ kept-taken drop events left clock left_at are = record {
   at = refl;
 }
 
-pub taken-kept : (events left : List Event) (clock : Clock) (places : List ℕ) (parts : Option (List (List ℕ))) → AreTaken true false events clock left (Some places) parts → (at : Option (List ℕ)) × AreLeftBy true events left at
+pub taken-kept : (events left : List Event) (clock : Clock) (places : List ℕ) (parts : Option (List (List ℕ)))
+    → AreTaken true false events clock left (Some places) parts → (at : Option (List ℕ)) × AreLeftBy true events left at
 taken-kept events left clock places parts t = (t.kept_at, subst (λ (es : List Event). AreLeftBy true events es t.kept_at) (sym t.are_merged.0) t.are_kept)
 
 -- and the same whatever the clock
-pub taken-by : (events left : List Event) (places : List ℕ) (parts : Option (List (List ℕ))) (clock other : Clock) → AreTaken true false events clock left (Some places) parts → AreTaken true false events other left (Some places) parts
+pub taken-by : (events left : List Event) (places : List ℕ) (parts : Option (List (List ℕ))) (clock other : Clock)
+    → AreTaken true false events clock left (Some places) parts
+    → AreTaken true false events other left (Some places) parts
 taken-by events left places parts clock other t = record {
   kept = t.kept;
   kept_at = t.kept_at;
@@ -78,7 +84,8 @@ taken-by events left places parts clock other t = record {
 }
 
 -- too many ticks are the same reason by the places in the log
-too-many : (text : List ℕ) (nodes : List (List ℕ)) (events left : List Event) (left_at : Option (List ℕ)) → IsLeftErrorOf text nodes events left left_at None (filled.Events refused.TooManyTicks) TooManyTicks
+too-many : (text : List ℕ) (nodes : List (List ℕ)) (events left : List Event) (left_at : Option (List ℕ))
+    → IsLeftErrorOf text nodes events left left_at None (filled.Events refused.TooManyTicks) TooManyTicks
 too-many text nodes events left None = refl
 too-many text nodes events left (Some places) = refl
 
@@ -91,7 +98,9 @@ moved-ticks : (at : Option (List ℕ)) (moved : Moved) → (moved_in at moved).t
 moved-ticks None moved = refl
 moved-ticks (Some places) moved = refl
 
-pub numbers-in : (events : List Event) (clock : Clock) (trace : Recorded) (moved : Moved) (places : List ℕ) (p : Placing) (at : Option (List ℕ)) → AreNumbersOf events clock trace moved places p → AreNumbersOf events clock trace (moved_in at moved) places p
+pub numbers-in : (events : List Event) (clock : Clock) (trace : Recorded) (moved : Moved) (places : List ℕ)
+    (p : Placing) (at : Option (List ℕ)) → AreNumbersOf events clock trace moved places p
+    → AreNumbersOf events clock trace (moved_in at moved) places p
 numbers-in events clock trace moved places p at h = record {
   last = h.last;
   so_many = h.so_many;
@@ -100,11 +109,16 @@ numbers-in events clock trace moved places p at h = record {
   far = h.far;
 }
 
-module _ (o : Options) (text : List ℕ) (log : SeenLog) (events : List Event) (read : IsRead o text (Ok log)) (same : map seen events ≡ log.events) (aligned : AlignedLog) (clocks : AreAligned o.align (length log.nodes) events aligned.offsets aligned.log.events.items) (nodes : aligned.log.nodes ≡ log.nodes) (until : Option ℤ) (ends : until_in log.kind o.until ≡ Ok until) where
+module _ (o : Options) (text : List ℕ) (log : SeenLog) (events : List Event) (read : IsRead o text (Ok log))
+    (same : map seen events ≡ log.events) (aligned : AlignedLog)
+    (clocks : AreAligned o.align (length log.nodes) events aligned.offsets aligned.log.events.items)
+    (nodes : aligned.log.nodes ≡ log.nodes) (until : Option ℤ) (ends : until_in log.kind o.until ≡ Ok until) where
   told-with : (width : ℕ) → 0 < width → AreEventsOf (with_width o width) text log events (clock_of log.kind until width)
   told-with width some = record { read = read-with o text width (Ok log) read; same = same; fits = fits-with o log.kind until width some ends }
 
-  unmade-with : (width : ℕ) (some : 0 < width) (why : LogError) → IsUnmadeUnlessMemory o.drop_lost false None true text aligned.log.nodes aligned.log.events.items (clock_of log.kind until width) why → IsLogRefusal (with_width o width) text why
+  unmade-with : (width : ℕ) (some : 0 < width) (why : LogError)
+      → IsUnmadeUnlessMemory o.drop_lost false None true text aligned.log.nodes aligned.log.events.items
+      (clock_of log.kind until width) why → IsLogRefusal (with_width o width) text why
   unmade-with width some why =
       unmade-refusal (with_width o width) text log events (clock_of log.kind until width) (told-with width some) aligned clocks nodes None refl o.drop_lost false refl refl why
 
@@ -175,7 +189,10 @@ module _ (o : Options) (text : List ℕ) (log : SeenLog) (events : List Event) (
       go (Some p) is = placed row.width h.0 p (subst (λ (ns : List (List ℕ)). IsPlacingOf (length ns) left (clock_of log.kind until row.width) p) nodes is)
 
 -- the rows of the events of a log, by the same events and the same number of nodes
-pub log-rows : (drop : Bool) (kind : TimeKind) (n m : ℕ) (events left xs : List Event) (left_at : Option (List ℕ)) (until : Option ℤ) (rows : List TickRow) → m ≡ n → xs ≡ left → AreLeftBy drop events left left_at → map (λ row. row.width) rows ≡ told_widths kind (log_length xs until) → All (IsRowOf m xs kind until) rows → AreLogRows drop kind n events until rows
+pub log-rows : (drop : Bool) (kind : TimeKind) (n m : ℕ) (events left xs : List Event) (left_at : Option (List ℕ))
+    (until : Option ℤ) (rows : List TickRow) → m ≡ n → xs ≡ left → AreLeftBy drop events left left_at
+    → map (λ row. row.width) rows ≡ told_widths kind (log_length xs until) → All (IsRowOf m xs kind until) rows
+    → AreLogRows drop kind n events until rows
 log-rows drop kind n m events left xs left_at until rows number same are widths each = record {
   left = left;
   left_at = left_at;
@@ -185,11 +202,23 @@ log-rows drop kind n m events left xs left_at until rows number same are widths 
 }
 
 -- a reason against all events of a log
-pub whole-refused : (text : List ℕ) (nodes : List (List ℕ)) (events xs : List Event) (kind : TimeKind) (until : Option ℤ) (why : EventError) (error : LogError) → xs ≡ events → IsRowRefusal xs kind until why → IsIdleErrorUnlessMemory text nodes events (filled.Events why) error → IsLogRowRefusal false text nodes events kind until error
+pub whole-refused : (text : List ℕ) (nodes : List (List ℕ)) (events xs : List Event) (kind : TimeKind)
+    (until : Option ℤ) (why : EventError) (error : LogError) → xs ≡ events → IsRowRefusal xs kind until why
+    → IsIdleErrorUnlessMemory text nodes events (filled.Events why) error
+    → IsLogRowRefusal false text nodes events kind until error
 whole-refused text nodes events xs kind until why error same h is =
     (h.0, h.1, whole-unmade None true text nodes events (clock_of kind until h.0) (filled.Events why) error (subst (λ (es : List Event). IsTimedRefusal true es (clock_of kind until h.0) why) same h.2) is)
 
 -- a reason against those that are left
-pub left-refused : (text : List ℕ) (nodes : List (List ℕ)) (events left xs : List Event) (places : List ℕ) (parts : Option (List (List ℕ))) (kind : TimeKind) (until : Option ℤ) (clock : Clock) (why : EventError) (error : LogError) → xs ≡ left → AreTaken true false events clock left (Some places) parts → IsRowRefusal xs kind until why → IsPlacedErrorUnlessMemory text nodes events left places parts (filled.Events why) error → IsLogRowRefusal true text nodes events kind until error
-left-refused text nodes events left xs places parts kind until clock why error same t h is =
-    (h.0, h.1, left-unmade true false None true text nodes events left places parts (clock_of kind until h.0) (filled.Events why) error (taken-by events left places parts clock (clock_of kind until h.0) t) (subst (λ (es : List Event). IsTimedRefusal true es (clock_of kind until h.0) why) same h.2) is)
+pub left-refused : (text : List ℕ) (nodes : List (List ℕ)) (events left xs : List Event) (places : List ℕ)
+    (parts : Option (List (List ℕ))) (kind : TimeKind) (until : Option ℤ) (clock : Clock) (why : EventError)
+    (error : LogError) → xs ≡ left → AreTaken true false events clock left (Some places) parts
+    → IsRowRefusal xs kind until why → IsPlacedErrorUnlessMemory text nodes events left places parts
+    (filled.Events why) error → IsLogRowRefusal true text nodes events kind until error
+left-refused text nodes events left xs places parts kind until clock why error same t h is = (
+  h.0,
+  h.1,
+  left-unmade true false None true text nodes events left places parts (clock_of kind until h.0)
+      (filled.Events why) error (taken-by events left places parts clock (clock_of kind until h.0) t)
+      (subst (λ (es : List Event). IsTimedRefusal true es (clock_of kind until h.0) why) same h.2) is,
+)

@@ -14,20 +14,24 @@ use Rattle.event_log.specs.ToldNames.{message_name, node_name}
 -- record that sends it
 abbrev pub clock_line : List ℕ → List (List ℕ) → List Event → ClockHop → CycleLine
 clock_line text nodes events hop =
-    line.Clock (hop.event + 2) (message_name text hop.message 0) (node_name nodes (processor_at events hop.message)) (node_name nodes (processor_at events hop.event)) hop.took (hop.message + 2)
+    line.Clock (hop.event + 2) (message_name text hop.message 0) (node_name nodes (processor_at events hop.message))
+    (node_name nodes (processor_at events hop.event)) hop.took (hop.message + 2)
 
 -- the line of the hop at a place
 abbrev pub clock_line_at : List ℕ → List (List ℕ) → List Event → List ClockHop → ℕ → CycleLine
-clock_line_at text nodes events hops k = clock_line text nodes events (get_or hops k (record { event = 0; message = 0; took = pos 0 }))
+clock_line_at text nodes events hops k =
+    clock_line text nodes events (get_or hops k (record { event = 0; message = 0; took = pos 0 }))
 
 -- the lines of the first of them
 abbrev pub shown_clock_lines : List ℕ → List (List ℕ) → List Event → List ClockHop → List CycleLine
-shown_clock_lines text nodes events hops = map (clock_line_at text nodes events hops) (range_with_len 0 (min (length hops) MAX_SHOWN))
+shown_clock_lines text nodes events hops =
+    map (clock_line_at text nodes events hops) (range_with_len 0 (min (length hops) MAX_SHOWN))
 
 -- the lines of a cycle: of its first messages, how many more there are, and how long all take together
 abbrev pub cycle_lines : List ℕ → List (List ℕ) → List Event → ClockCycle → List CycleLine
 cycle_lines text nodes events cycle =
-    (shown_clock_lines text nodes events cycle.hops.items ++ line.More (length cycle.hops.items - MAX_SHOWN) ∷ []) ++ line.Together cycle.total ∷ []
+    (shown_clock_lines text nodes events cycle.hops.items ++ line.More (length cycle.hops.items - MAX_SHOWN) ∷ [])
+    ++ line.Together cycle.total ∷ []
 
 -- the same; none if there is no cycle
 abbrev pub clock_lines : List ℕ → List (List ℕ) → List Event → Option ClockCycle → List CycleLine

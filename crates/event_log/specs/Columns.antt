@@ -1,5 +1,6 @@
 -- The header of a log: which column is where.
-use Rattle.std.specs.Prelude.{ℕ, ◌+◌, List, [], ◌∷◌, Option, Some, None, Result, Ok, Err, Bool, codes, drop, find, is_none, is_some, length, unwrap_or}
+use Rattle.std.specs.Prelude.{ℕ, ◌+◌, List, [], ◌∷◌, Option, Some, None, Result, Ok, Err, Bool}
+use Rattle.std.specs.Prelude.{codes, drop, find, is_none, is_some, length, unwrap_or}
 use Rattle.std.specs.List.{position_from}
 use Rattle.std.specs.Option.{option_and_then}
 use Rattle.std.specs.Str.{bytes_eq}
@@ -62,4 +63,5 @@ unless_lacking (Some c) columns = Err (NoColumn c)
 
 -- the columns of a header: each of the five occurs in it once
 abbrev pub columns_of : List (List ℕ) → Result Columns LogError
-columns_of header = unless_lacking (find (lacks header) all_columns) (unless_twice (find (has_twice header) all_columns) (places_in header))
+columns_of header = unless_lacking (find (lacks header) all_columns)
+    (unless_twice (find (has_twice header) all_columns) (places_in header))

@@ -13,11 +13,33 @@ more_text more = if more == 0 then [] else 10 ∷ (codes "synchrony: and " ++ (d
 -- what is printed for a line, with the line feed before it
 abbrev pub line_text : CycleLine → List ℕ
 line_text (Hop number node message sender sent after) =
-    10 ∷ (codes "synchrony: record " ++ (decimal number ++ (codes ": " ++ (printed node ++ (codes " receives " ++ (printed message ++ (codes ", which " ++ (printed sender ++ (codes " sends in record " ++ (decimal sent ++ (codes ", after record " ++ decimal after)))))))))))
+    10
+    ∷ (codes "synchrony: record "
+    ++ (decimal number
+    ++ (codes ": "
+    ++ (printed node
+    ++ (codes " receives "
+    ++ (printed message
+    ++ (codes ", which "
+    ++ (printed sender ++ (codes " sends in record "
+    ++ (decimal sent ++ (codes ", after record " ++ decimal after)))))))))))
 line_text (Clock number message sender receiver took sent) =
-    10 ∷ (codes "synchrony: record " ++ (decimal number ++ (codes ": " ++ (printed message ++ (codes " from " ++ (printed sender ++ (codes " to " ++ (printed receiver ++ (codes " takes " ++ (signed_decimal took ++ (codes " (record " ++ (decimal sent ++ codes ")"))))))))))))
+    10
+    ∷ (codes "synchrony: record "
+    ++ (decimal number
+    ++ (codes ": "
+    ++ (printed message
+    ++ (codes " from "
+    ++ (printed sender
+    ++ (codes " to "
+    ++ (printed receiver
+    ++ (codes " takes "
+    ++ (signed_decimal took ++ (codes " (record " ++ (decimal sent ++ codes ")"))))))))))))
 line_text (More more) = more_text more
-line_text (Together total) = 10 ∷ (codes "synchrony: together " ++ (signed_decimal total ++ codes ": clocks drift or step, or events are logged late; --spread alone places them by cause"))
+line_text (Together total) = 10
+    ∷ (codes "synchrony: together "
+    ++ (signed_decimal total
+    ++ codes ": clocks drift or step, or events are logged late; --spread alone places them by cause"))
 
 -- the same for all lines
 abbrev pub lines_text : List CycleLine → List ℕ

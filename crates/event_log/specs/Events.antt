@@ -38,4 +38,5 @@ resolved_act sent processor (kept.Receive names) = Receives (map (place_for sent
 
 -- an event with the places of the sends in place of the names of messages
 abbrev pub resolved : Sent → KeptEvent → Seen
-resolved sent event = record { time = event.time; processor = event.processor; act = resolved_act sent event.processor event.act }
+resolved sent event =
+    record { time = event.time; processor = event.processor; act = resolved_act sent event.processor event.act }

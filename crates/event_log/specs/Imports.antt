@@ -1,5 +1,7 @@
 -- Logs read as traces.
-use Rattle.std.specs.Prelude.{ℕ, ◌≡◌, ◌+◌, ◌-◌, ◌*◌, ◌/◌, ◌⊎◌, Bool, false, List, [], ◌∷◌, map, length, Option, Some, None, Result, Ok, Err, option_map, nat_lt, if◌then◌else◌, slice_get, slice_index, slice_index_or, unwrap_or, ℤ, pos, true, IfSome, MatchBool, ⊤}
+use Rattle.std.specs.Prelude.{ℕ, ◌≡◌, ◌+◌, ◌-◌, ◌*◌, ◌/◌, ◌⊎◌, Bool, false, List, [], ◌∷◌, map, length, Option, Some}
+use Rattle.std.specs.Prelude.{None, Result, Ok, Err, option_map, nat_lt, if◌then◌else◌, slice_get, slice_index}
+use Rattle.std.specs.Prelude.{slice_index_or, unwrap_or, ℤ, pos, true, IfSome, MatchBool, ⊤}
 use Rattle.std.specs.Borrow.{Bor}
 use Rattle.std.specs.Option.{option_map_or}
 use Rattle.timed_events.specs.declared.cause_cycles.Hop.{Hop}
@@ -25,7 +27,10 @@ use Rattle.event_log.specs.declared.imports.IdleReceives.{IdleReceives}
 use Rattle.event_log.specs.declared.imports.Import.{Import}
 use Rattle.event_log.specs.declared.options.Options.{Options}
 use Rattle.event_log.specs.declared.refusals.LogError.{LogError}
-use Rattle.event_log.specs.declared.refusals.LogError.TheVariants.{NoEvents, TickUnfit, UntilUnfit, IdleUnfit, TooManyTicks, NeverSent, WrongReceiver, ReceivedBefore, NotLater, SecondEvent, Cycle, NoOffsets, TooLate, TooManySteps, Memory}
+use Rattle.event_log.specs.declared.refusals.LogError.TheVariants.{NoEvents, TickUnfit, UntilUnfit, IdleUnfit}
+use Rattle.event_log.specs.declared.refusals.LogError.TheVariants.{TooManyTicks, NeverSent, WrongReceiver}
+use Rattle.event_log.specs.declared.refusals.LogError.TheVariants.{ReceivedBefore, NotLater, SecondEvent, Cycle}
+use Rattle.event_log.specs.declared.refusals.LogError.TheVariants.{NoOffsets, TooLate, TooManySteps, Memory}
 use Rattle.event_log.specs.declared.times.LogEnd.{LogEnd}
 use Rattle.event_log.specs.declared.times.LogEnd.TheVariants as end
 use Rattle.event_log.specs.declared.times.TimeKind.{TimeKind}
@@ -137,7 +142,8 @@ IsBehindCycle events i = (first_fault events ≡ None) × IsFirstUnplaceable eve
 
 -- The refusal names the first event in a cycle of messages or behind one. It lists the hops of such a cycle, from the
 -- least of their events on. The record of the event at place i is number i + 2.
-pub record IsCycleError (text : List ℕ) (nodes : List (List ℕ)) (events : List Event) (i : ℕ) (error : LogError) : Type 0 where
+pub record IsCycleError (text : List ℕ) (nodes : List (List ℕ)) (events : List Event) (i : ℕ)
+    (error : LogError) : Type 0 where
   pub hops : List Hop
   pub cycle : IsCauseCycle events hops
   pub first : BeginsAtLeast hops
@@ -148,10 +154,12 @@ abbrev pub IsErrorOf : List ℕ → List (List ℕ) → List Event → EventErro
 IsErrorOf text nodes events refused.UntilTooEarly error = error ≡ UntilUnfit
 IsErrorOf text nodes events refused.TooManyTicks error = error ≡ TooManyTicks
 IsErrorOf text nodes events (refused.NeverSent i k) error = error ≡ NeverSent (i + 2) (message_name text i k)
-IsErrorOf text nodes events (refused.WrongReceiver i k) error = error ≡ WrongReceiver (i + 2) (message_name text i k) (node_name nodes (receiver_of events i k))
+IsErrorOf text nodes events (refused.WrongReceiver i k) error =
+    error ≡ WrongReceiver (i + 2) (message_name text i k) (node_name nodes (receiver_of events i k))
 IsErrorOf text nodes events (refused.ReceivedBefore i k) error = error ≡ ReceivedBefore (i + 2) (message_name text i k)
 IsErrorOf text nodes events (refused.NotLater i k hint) error = error ≡ NotLater (i + 2) (message_name text i k) hint
-IsErrorOf text nodes events (refused.SecondEvent i tick hint) error = error ≡ SecondEvent (i + 2) (node_name nodes (processor_at events i)) tick hint
+IsErrorOf text nodes events (refused.SecondEvent i tick hint) error =
+    error ≡ SecondEvent (i + 2) (node_name nodes (processor_at events i)) tick hint
 IsErrorOf text nodes events (refused.Cycle i) error = IsCycleError text nodes events i error
 IsErrorOf text nodes events refused.Memory error = error ≡ Memory
 
@@ -166,7 +174,8 @@ IsIdleErrorOf text nodes events filled.TooManySteps error = error ≡ TooManySte
 
 -- the same, or out of memory
 abbrev pub IsIdleErrorUnlessMemory : List ℕ → List (List ℕ) → List Event → IdleError → LogError → Type 0
-IsIdleErrorUnlessMemory text nodes events why error = MatchBool (is_memory error) ⊤ (IsIdleErrorOf text nodes events why error)
+IsIdleErrorUnlessMemory text nodes events why error =
+    MatchBool (is_memory error) ⊤ (IsIdleErrorOf text nodes events why error)
 
 -- no offsets bring the messages into order, which a cycle of clocks shows, if one is reported
 pub record HaveNoOffsets (text : List ℕ) (nodes : List (List ℕ)) (events : List Event) (why : LogError) : Type 0 where
@@ -178,8 +187,10 @@ pub record HaveNoOffsets (text : List ℕ) (nodes : List (List ℕ)) (events : L
 -- why the clocks of events aren't aligned: the first reason against their messages; or no offsets bring these into
 -- order; or times would be too late
 abbrev pub IsUnalignedFor : List ℕ → List (List ℕ) → List Event → LogError → Type 0
-IsUnalignedFor text nodes events why = ((reason : EventError) × (first_fault events ≡ Some reason) × IsErrorOf text nodes events reason why)
-    ⊎ (((first_fault events ≡ None) × HaveNoOffsets text nodes events why) ⊎ ((first_fault events ≡ None) × (why ≡ TooLate)))
+IsUnalignedFor text nodes events why =
+    ((reason : EventError) × (first_fault events ≡ Some reason) × IsErrorOf text nodes events reason why)
+    ⊎ (((first_fault events ≡ None) × HaveNoOffsets text nodes events why)
+    ⊎ ((first_fault events ≡ None) × (why ≡ TooLate)))
 
 -- the same, or out of memory
 abbrev pub IsAlignRefusal : List ℕ → List (List ℕ) → List Event → LogError → Type 0
@@ -196,7 +207,8 @@ abbrev pub IsReadRefusal : Options → List ℕ → LogError → Type 0
 IsReadRefusal o text why = MatchBool (is_memory why) ⊤ (IsRead o text (Err why))
 
 -- the trace is that of the events, with receives of nothing in silences of at most so many ticks, and this is how many
-pub record IsFilledWith (limit : ℕ) (spread : Bool) (n : ℕ) (events : List Event) (clock : Clock) (trace : Recorded) (moved : Moved) (idle : Option IdleReceives) : Type 0 where
+pub record IsFilledWith (limit : ℕ) (spread : Bool) (n : ℕ) (events : List Event) (clock : Clock) (trace : Recorded)
+    (moved : Moved) (idle : Option IdleReceives) : Type 0 where
   pub new : List Event
   pub added : ℕ
   pub timed : IsIdleTimed spread n events clock limit (record { trace = trace; moved = moved; added = added }) new
@@ -204,7 +216,8 @@ pub record IsFilledWith (limit : ℕ) (spread : Bool) (n : ℕ) (events : List E
 
 -- the trace of the events, by how many ticks a silence that gets a receive of nothing has at most, if any gets one
 abbrev pub IsMadeBy : Option ℕ → Bool → ℕ → List Event → Clock → Recorded → Moved → Option IdleReceives → Type 0
-IsMadeBy None spread n events clock trace moved idle = IsTimed spread n events clock (record { trace = trace; moved = moved }) × (idle ≡ None)
+IsMadeBy None spread n events clock trace moved idle =
+    IsTimed spread n events clock (record { trace = trace; moved = moved }) × (idle ≡ None)
 IsMadeBy (Some limit) spread n events clock trace moved idle = IsFilledWith limit spread n events clock trace moved idle
 
 -- `filled` has the events and, behind them, the receives of nothing that are added, if any; these are its places in the
@@ -250,9 +263,11 @@ first_places places None = places
 first_places places (Some parts) = Some (map (λ part. slice_index part 0) parts)
 
 -- `left` are the events of a log of which its trace is made: without lost sends if these are left out, then with merged
--- receives if that is asked for. They are at the places `left_at` of the log, the first if they are made of several, whose
+-- receives if that is asked for. They are at the places `left_at` of the log, the first if they are made of several,
+-- whose
 -- places are `parts`.
-pub record AreTaken (drop merge : Bool) (events : List Event) (clock : Clock) (left : List Event) (left_at : Option (List ℕ)) (parts : Option (List (List ℕ))) : Type 0 where
+pub record AreTaken (drop merge : Bool) (events : List Event) (clock : Clock) (left : List Event)
+    (left_at : Option (List ℕ)) (parts : Option (List (List ℕ))) : Type 0 where
   pub kept : List Event
   pub kept_at : Option (List ℕ)
   pub are_kept : AreLeftBy drop events kept kept_at
@@ -264,13 +279,15 @@ pub record AreTaken (drop merge : Bool) (events : List Event) (clock : Clock) (l
 -- how far events moved, by the place of the farthest in the log
 abbrev pub moved_in : Option (List ℕ) → Moved → Moved
 moved_in None moved = moved
-moved_in (Some places) moved = record { events = moved.events; ticks = moved.ticks; farthest = option_map (place_in places) moved.farthest }
+moved_in (Some places) moved =
+    record { events = moved.events; ticks = moved.ticks; farthest = option_map (place_in places) moved.farthest }
 
 -- the place in the log of the event that received message k of an event that is made of the events at these places, and
 -- which of its messages it is
 abbrev pub source_of : List Event → List ℕ → ℕ → ℕ × ℕ
 source_of events [] k = (0, k)
-source_of events (p ∷ ps) k = if nat_lt k (length (messages_at events p)) then (p, k) else source_of events ps (k - length (messages_at events p))
+source_of events (p ∷ ps) k = if nat_lt k (length (messages_at events p)) then (p, k) else source_of events ps
+    (k - length (messages_at events p))
 
 -- the same of message k of event i
 abbrev pub source_in : List Event → List ℕ → Option (List (List ℕ)) → ℕ → ℕ → ℕ × ℕ
@@ -281,10 +298,14 @@ source_in events places (Some parts) i k = source_of events (slice_index_or part
 abbrev pub reason_in : List Event → List ℕ → Option (List (List ℕ)) → EventError → EventError
 reason_in events places parts refused.UntilTooEarly = refused.UntilTooEarly
 reason_in events places parts refused.TooManyTicks = refused.TooManyTicks
-reason_in events places parts (refused.NeverSent i k) = refused.NeverSent (source_in events places parts i k).0 (source_in events places parts i k).1
-reason_in events places parts (refused.WrongReceiver i k) = refused.WrongReceiver (source_in events places parts i k).0 (source_in events places parts i k).1
-reason_in events places parts (refused.ReceivedBefore i k) = refused.ReceivedBefore (source_in events places parts i k).0 (source_in events places parts i k).1
-reason_in events places parts (refused.NotLater i k hint) = refused.NotLater (source_in events places parts i k).0 (source_in events places parts i k).1 hint
+reason_in events places parts (refused.NeverSent i k) =
+    refused.NeverSent (source_in events places parts i k).0 (source_in events places parts i k).1
+reason_in events places parts (refused.WrongReceiver i k) =
+    refused.WrongReceiver (source_in events places parts i k).0 (source_in events places parts i k).1
+reason_in events places parts (refused.ReceivedBefore i k) =
+    refused.ReceivedBefore (source_in events places parts i k).0 (source_in events places parts i k).1
+reason_in events places parts (refused.NotLater i k hint) =
+    refused.NotLater (source_in events places parts i k).0 (source_in events places parts i k).1 hint
 reason_in events places parts (refused.SecondEvent i tick hint) = refused.SecondEvent (place_in places i) tick hint
 reason_in events places parts (refused.Cycle i) = refused.Cycle (place_in places i)
 reason_in events places parts refused.Memory = refused.Memory
@@ -295,28 +316,37 @@ hop_in places hop = record { event = place_in places hop.event; message = place_
 
 -- The refusal names the first event in a cycle of messages or behind one. It lists the hops of such a cycle by their
 -- records, from the least event on.
-pub record IsLeftCycleError (text : List ℕ) (nodes : List (List ℕ)) (events left : List Event) (places : List ℕ) (i : ℕ) (error : LogError) : Type 0 where
+pub record IsLeftCycleError (text : List ℕ) (nodes : List (List ℕ)) (events left : List Event) (places : List ℕ) (i : ℕ)
+    (error : LogError) : Type 0 where
   pub hops : List Hop
   pub cycle : IsCauseCycle left hops
   pub first : BeginsAtLeast hops
   pub is : error ≡ Cycle (place_in places i + 2) (hop_lines text nodes events (map (hop_in places) hops))
 
 -- the refusal of a log for a reason against the events that are left, which are at these places and made of those
-abbrev pub IsPlacedErrorOf : List ℕ → List (List ℕ) → List Event → List Event → List ℕ → Option (List (List ℕ)) → IdleError → LogError → Type 0
-IsPlacedErrorOf text nodes events left places parts (filled.Events (refused.Cycle i)) error = IsLeftCycleError text nodes events left places i error
-IsPlacedErrorOf text nodes events left places parts (filled.Events why) error = IsErrorOf text nodes events (reason_in events places parts why) error
+abbrev pub IsPlacedErrorOf : List ℕ → List (List ℕ) → List Event → List Event → List ℕ → Option (List (List ℕ))
+    → IdleError → LogError → Type 0
+IsPlacedErrorOf text nodes events left places parts (filled.Events (refused.Cycle i)) error =
+    IsLeftCycleError text nodes events left places i error
+IsPlacedErrorOf text nodes events left places parts (filled.Events why) error =
+    IsErrorOf text nodes events (reason_in events places parts why) error
 IsPlacedErrorOf text nodes events left places parts filled.TooManySteps error = error ≡ TooManySteps
 
-abbrev pub IsLeftErrorOf : List ℕ → List (List ℕ) → List Event → List Event → Option (List ℕ) → Option (List (List ℕ)) → IdleError → LogError → Type 0
+abbrev pub IsLeftErrorOf : List ℕ → List (List ℕ) → List Event → List Event → Option (List ℕ) → Option (List (List ℕ))
+    → IdleError → LogError → Type 0
 IsLeftErrorOf text nodes events left None parts why error = IsIdleErrorOf text nodes events why error
-IsLeftErrorOf text nodes events left (Some places) parts why error = IsPlacedErrorOf text nodes events left places parts why error
+IsLeftErrorOf text nodes events left (Some places) parts why error =
+    IsPlacedErrorOf text nodes events left places parts why error
 
 -- the same, or out of memory
-abbrev pub IsPlacedErrorUnlessMemory : List ℕ → List (List ℕ) → List Event → List Event → List ℕ → Option (List (List ℕ)) → IdleError → LogError → Type 0
-IsPlacedErrorUnlessMemory text nodes events left places parts why error = MatchBool (is_memory error) ⊤ (IsPlacedErrorOf text nodes events left places parts why error)
+abbrev pub IsPlacedErrorUnlessMemory : List ℕ → List (List ℕ) → List Event → List Event → List ℕ
+    → Option (List (List ℕ)) → IdleError → LogError → Type 0
+IsPlacedErrorUnlessMemory text nodes events left places parts why error =
+    MatchBool (is_memory error) ⊤ (IsPlacedErrorOf text nodes events left places parts why error)
 
 -- events and a clock, which a text and options give
-pub record AreEventsOf (o : Options) (text : List ℕ) (log : SeenLog) (events : List Event) (clock : Clock) : Type 0 where
+pub record AreEventsOf (o : Options) (text : List ℕ) (log : SeenLog) (events : List Event)
+    (clock : Clock) : Type 0 where
   pub read : IsRead o text (Ok log)
   pub same : map seen events ≡ log.events
   pub fits : clock_in o log.kind ≡ Ok clock
@@ -329,9 +359,11 @@ kept_count drop events = if drop then length (left_places events) else length ev
 abbrev pub removed_by : Bool → ℕ → ℕ → Option ℕ
 removed_by asked before after = if asked then Some (before - after) else None
 
--- The trace is that of the events of a log, without lost sends if these are left out, and with merged receives if that is
+-- The trace is that of the events of a log, without lost sends if these are left out, and with merged receives if that
+-- is
 -- asked for. How far they moved is reported by their places in the log.
-pub record IsMadeOfLog (drop merge : Bool) (limit : Option ℕ) (spread : Bool) (n : ℕ) (events : List Event) (clock : Clock) (import : Import) : Type 0 where
+pub record IsMadeOfLog (drop merge : Bool) (limit : Option ℕ) (spread : Bool) (n : ℕ) (events : List Event)
+    (clock : Clock) (import : Import) : Type 0 where
   pub left : List Event
   pub left_at : Option (List ℕ)
   pub parts : Option (List (List ℕ))
@@ -343,7 +375,8 @@ pub record IsMadeOfLog (drop merge : Bool) (limit : Option ℕ) (spread : Bool) 
   pub merged : import.merged ≡ removed_by merge (kept_count drop events) (length left)
 
 -- The trace is that of the events that the text gives by the options, with aligned clocks, without lost sends and with
--- merged receives, if these are asked for. The nodes are the processors, in their order. So many messages of the events are late.
+-- merged receives, if these are asked for. The nodes are the processors, in their order. So many messages of the events
+-- are late.
 pub record IsImportOf (o : Options) (text : List ℕ) (import : Import) : Type 0 where
   pub log : SeenLog
   pub events : List Event
@@ -358,9 +391,12 @@ pub record IsImportOf (o : Options) (text : List ℕ) (import : Import) : Type 0
   pub lateness : import.lateness ≡ lateness_of aligned
 
 -- The import is that of a log's events. `filled` has those that are left, so many, in the order of their records, and
--- behind them the receives of nothing that were added. The events are at the places `left_at` of the log, or made of those
+-- behind them the receives of nothing that were added. The events are at the places `left_at` of the log, or made of
+-- those
 -- at the places `parts`. Tick 1 begins at the time `first`, and the steps are those of the list at these places.
-pub record IsPlacedOfLog (drop merge : Bool) (limit : Option ℕ) (spread : Bool) (n : ℕ) (events : List Event) (clock : Clock) (import : Import) (filled : List Event) (logged : ℕ) (left_at : Option (List ℕ)) (parts : Option (List (List ℕ))) (first : ℤ) (places : List ℕ) : Type 0 where
+pub record IsPlacedOfLog (drop merge : Bool) (limit : Option ℕ) (spread : Bool) (n : ℕ) (events : List Event)
+    (clock : Clock) (import : Import) (filled : List Event) (logged : ℕ) (left_at : Option (List ℕ))
+    (parts : Option (List (List ℕ))) (first : ℤ) (places : List ℕ) : Type 0 where
   pub is : IsMadeOfLog drop merge limit spread n events clock import
   pub so_many : logged ≡ length is.left
   pub at : left_at ≡ is.left_at
@@ -369,7 +405,9 @@ pub record IsPlacedOfLog (drop merge : Bool) (limit : Option ℕ) (spread : Bool
   pub placed : ArePlacedBy limit spread n is.left clock filled places
 
 -- The import is that of the text by the options, and its events are placed so.
-pub record IsPlacedImport (o : Options) (text : List ℕ) (import : Import) (filled : List Event) (logged : ℕ) (left_at : Option (List ℕ)) (parts : Option (List (List ℕ))) (first : ℤ) (clock : Clock) (places : List ℕ) : Type 0 where
+pub record IsPlacedImport (o : Options) (text : List ℕ) (import : Import) (filled : List Event) (logged : ℕ)
+    (left_at : Option (List ℕ)) (parts : Option (List (List ℕ))) (first : ℤ) (clock : Clock)
+    (places : List ℕ) : Type 0 where
   pub is : IsImportOf o text import
   pub clock_is : is.clock ≡ clock
   pub so_many : logged ≡ length is.made.left
@@ -382,10 +420,12 @@ pub record IsPlacedImport (o : Options) (text : List ℕ) (import : Import) (fil
 pub record IsUnfit (o : Options) (text : List ℕ) (why : LogError) : Type 0 where
   pub log : SeenLog
   pub read : IsRead o text (Ok log)
-  pub unfit : (clock_in o log.kind ≡ Err why) ⊎ ((clock : Clock) × (clock_in o log.kind ≡ Ok clock) × (limit_in o log.kind clock ≡ Err why))
+  pub unfit : (clock_in o log.kind ≡ Err why)
+      ⊎ ((clock : Clock) × (clock_in o log.kind ≡ Ok clock) × (limit_in o log.kind clock ≡ Err why))
 
 -- there is a reason against those of a log's events that are left
-pub record IsUntimedOf (drop merge : Bool) (limit : Option ℕ) (spread : Bool) (text : List ℕ) (nodes : List (List ℕ)) (events : List Event) (clock : Clock) (why : LogError) : Type 0 where
+pub record IsUntimedOf (drop merge : Bool) (limit : Option ℕ) (spread : Bool) (text : List ℕ) (nodes : List (List ℕ))
+    (events : List Event) (clock : Clock) (why : LogError) : Type 0 where
   pub left : List Event
   pub left_at : Option (List ℕ)
   pub parts : Option (List (List ℕ))
@@ -415,13 +455,17 @@ pub record IsUnmergedOf (drop merge : Bool) (events : List Event) (clock : Clock
   pub is : IsTimesError reason why
 
 -- why the events of a log make no trace
-abbrev pub IsUnmadeOfLog : Bool → Bool → Option ℕ → Bool → List ℕ → List (List ℕ) → List Event → Clock → LogError → Type 0
+abbrev pub IsUnmadeOfLog : Bool → Bool → Option ℕ → Bool → List ℕ → List (List ℕ) → List Event → Clock
+    → LogError → Type 0
 IsUnmadeOfLog drop merge limit spread text nodes events clock why =
-    IsEmptied drop events why ⊎ (IsUnmergedOf drop merge events clock why ⊎ IsUntimedOf drop merge limit spread text nodes events clock why)
+    IsEmptied drop events why
+    ⊎ (IsUnmergedOf drop merge events clock why ⊎ IsUntimedOf drop merge limit spread text nodes events clock why)
 
 -- the same, or out of memory
-abbrev pub IsUnmadeUnlessMemory : Bool → Bool → Option ℕ → Bool → List ℕ → List (List ℕ) → List Event → Clock → LogError → Type 0
-IsUnmadeUnlessMemory drop merge limit spread text nodes events clock why = MatchBool (is_memory why) ⊤ (IsUnmadeOfLog drop merge limit spread text nodes events clock why)
+abbrev pub IsUnmadeUnlessMemory : Bool → Bool → Option ℕ → Bool → List ℕ → List (List ℕ) → List Event → Clock
+    → LogError → Type 0
+IsUnmadeUnlessMemory drop merge limit spread text nodes events clock why =
+    MatchBool (is_memory why) ⊤ (IsUnmadeOfLog drop merge limit spread text nodes events clock why)
 
 -- the events are read, and they make no trace
 pub record IsUntimed (o : Options) (text : List ℕ) (why : LogError) : Type 0 where
@@ -449,4 +493,5 @@ pub record IsUnaligned (o : Options) (text : List ℕ) (why : LogError) : Type 0
 -- its events; or out of memory
 abbrev pub IsLogRefusal : Options → List ℕ → LogError → Type 0
 IsLogRefusal o text Memory = ⊤
-IsLogRefusal o text why = IsRead o text (Err why) ⊎ (IsUnfit o text why ⊎ (IsUnaligned o text why ⊎ IsUntimed o text why))
+IsLogRefusal o text why = IsRead o text (Err why)
+    ⊎ (IsUnfit o text why ⊎ (IsUnaligned o text why ⊎ IsUntimed o text why))

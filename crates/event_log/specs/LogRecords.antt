@@ -1,5 +1,6 @@
 -- What a record of a log says about an event, or the first reason for which it is refused.
-use Rattle.std.specs.Prelude.{ℕ, List, Option, Some, None, Result, Ok, Err, Bool, ◌&&◌, ◌==◌, codes, length, if◌then◌else◌}
+use Rattle.std.specs.Prelude.{ℕ, List, Option, Some, None, Result, Ok, Err, Bool}
+use Rattle.std.specs.Prelude.{◌&&◌, ◌==◌, codes, length, if◌then◌else◌}
 use Rattle.std.specs.Borrow.{Bor}
 use Rattle.std.specs.Option.{ok_or}
 use Rattle.std.specs.Str.{bytes_eq}
@@ -26,7 +27,13 @@ pub record Said : Type 0 where
 
 -- what a contract sees of what the code keeps of a record
 abbrev pub said : Told → Said
-said told = record { moment = told.moment; verb = told.verb; node = told.node.now; to = told.to.now; messages = told.messages.now }
+said told = record {
+  moment = told.moment;
+  verb = told.verb;
+  node = told.node.now;
+  to = told.to.now;
+  messages = told.messages.now;
+}
 
 -- a time of the kind of the times, if that is settled
 abbrev pub moment_as : Option TimeKind → List ℕ → Option Moment
@@ -92,6 +99,7 @@ accepted listed number s =
 abbrev pub said_of : Rules → ℕ → List (List ℕ) → Result Said LogError
 said_of rules number fields =
     if length fields == rules.columns.fields then
-    (ok_or (moment_as rules.kind (field_of fields rules.columns.time)) (BadTime number) >>= λ moment. ok_or (verb_of (field_of fields rules.columns.event)) (BadEvent number)
+    (ok_or (moment_as rules.kind (field_of fields rules.columns.time)) (BadTime number) >>= λ moment.
+    ok_or (verb_of (field_of fields rules.columns.event)) (BadEvent number)
     >>= λ verb. accepted rules.listed number (said_by rules.columns moment verb fields))
     else Err (BadFields number)

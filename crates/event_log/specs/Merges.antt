@@ -20,7 +20,8 @@ joined_act events places part (act.Receive messages) = Receives (joined_messages
 
 -- the first of these events, with the messages of all
 abbrev pub joined_event : List Event → List ℕ → List ℕ → Event → Seen
-joined_event events places part e = record { time = e.time; processor = e.processor; act = joined_act events places part e.act }
+joined_event events places part e =
+    record { time = e.time; processor = e.processor; act = joined_act events places part e.act }
 
 abbrev pub joined_at : List Event → List ℕ → List ℕ → Option Seen
 joined_at events places part = option_map (joined_event events places part) (slice_get events (slice_index part 0))

@@ -1,5 +1,6 @@
 -- The names of a log's events, taken in one after the other.
-use Rattle.std.specs.Prelude.{ℕ, ◌≡◌, ◌==◌, ◌+◌, ◌&&◌, List, [], ◌∷◌, ◌++◌, Result, Ok, Err, Bool, true, false, MatchBool, ⊤, length, nat_lt, slice_get, if◌then◌else◌}
+use Rattle.std.specs.Prelude.{ℕ, ◌≡◌, ◌==◌, ◌+◌, ◌&&◌, List, [], ◌∷◌, ◌++◌, Result, Ok, Err, Bool}
+use Rattle.std.specs.Prelude.{true, false, MatchBool, ⊤, length, nat_lt, slice_get, if◌then◌else◌}
 use Rattle.std.specs.List.{position_or_len}
 use Rattle.std.specs.Option.{option_map_or}
 use Rattle.std.specs.Str.{bytes_eq}
@@ -84,7 +85,8 @@ after_said place names s =
     >>= λ act. Ok (record {
       nodes = nodes_after names.nodes s;
       sent = sent_after place (number_to names.nodes s) names.sent s;
-      events = names.events ++ (record { time = s.moment.time; processor = number_of names.nodes s.node; act = act }) ∷ [];
+      events = names.events ++ (record { time = s.moment.time; processor = number_of names.nodes s.node; act = act })
+          ∷ [];
     }))
 
 abbrev pub is_memory : LogError → Bool

@@ -62,7 +62,8 @@ IsIdleIn None idle = idle ≡ None
 IsIdleIn (Some text) idle = (width : Width) × IsWidth text width × (idle ≡ Some width)
 
 -- the options that the five texts give
-pub record AreOptions (nodes unit tick until idle : Option (List ℕ)) (spread align drop_lost merge : Bool) (o : Options) : Type 0 where
+pub record AreOptions (nodes unit tick until idle : Option (List ℕ)) (spread align drop_lost merge : Bool)
+    (o : Options) : Type 0 where
   pub nodes_are : AreNodesIn nodes o.nodes
   pub unit_is : IsUnitIn unit o.unit
   pub width_is : IsWidthIn tick o.width
@@ -94,14 +95,18 @@ IsTimeFault unit tick until idle option.Nodes = ⊥
 IsTimeFault unit tick until idle option.Unit = HasBadUnit unit
 IsTimeFault unit tick until idle option.Tick = (¬ HasBadUnit unit) × HasBadTick tick
 IsTimeFault unit tick until idle option.Until = (¬ HasBadUnit unit) × (¬ HasBadTick tick) × HasBadUntil until
-IsTimeFault unit tick until idle option.Idle = (¬ HasBadUnit unit) × (¬ HasBadTick tick) × (¬ HasBadUntil until) × HasBadTick idle
+IsTimeFault unit tick until idle option.Idle = (¬ HasBadUnit unit) × (¬ HasBadTick tick) × (¬ HasBadUntil until)
+    × HasBadTick idle
 IsTimeFault unit tick until idle option.Memory = ⊥
 
 -- why the texts give no options: the first that is bad, in this order; or out of memory
-abbrev pub IsOptionFault : Option (List ℕ) → Option (List ℕ) → Option (List ℕ) → Option (List ℕ) → Option (List ℕ) → OptionError → Type 0
+abbrev pub IsOptionFault : Option (List ℕ) → Option (List ℕ) → Option (List ℕ) → Option (List ℕ) → Option (List ℕ)
+    → OptionError → Type 0
 IsOptionFault nodes unit tick until idle option.Nodes = HasBadNodes nodes
 IsOptionFault nodes unit tick until idle option.Unit = (¬ HasBadNodes nodes) × HasBadUnit unit
 IsOptionFault nodes unit tick until idle option.Tick = (¬ HasBadNodes nodes) × (¬ HasBadUnit unit) × HasBadTick tick
-IsOptionFault nodes unit tick until idle option.Until = (¬ HasBadNodes nodes) × (¬ HasBadUnit unit) × (¬ HasBadTick tick) × HasBadUntil until
-IsOptionFault nodes unit tick until idle option.Idle = (¬ HasBadNodes nodes) × (¬ HasBadUnit unit) × (¬ HasBadTick tick) × (¬ HasBadUntil until) × HasBadTick idle
+IsOptionFault nodes unit tick until idle option.Until = (¬ HasBadNodes nodes) × (¬ HasBadUnit unit)
+    × (¬ HasBadTick tick) × HasBadUntil until
+IsOptionFault nodes unit tick until idle option.Idle = (¬ HasBadNodes nodes) × (¬ HasBadUnit unit) × (¬ HasBadTick tick)
+    × (¬ HasBadUntil until) × HasBadTick idle
 IsOptionFault nodes unit tick until idle option.Memory = ⊤

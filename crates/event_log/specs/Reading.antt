@@ -9,7 +9,8 @@ use Rattle.event_log.specs.declared.reading.Reading.{Reading}
 use Rattle.event_log.specs.declared.reading.TheConstants.{MAX_EVENTS}
 use Rattle.event_log.specs.declared.records.Rules.{Rules}
 use Rattle.event_log.specs.declared.refusals.LogError.{LogError}
-use Rattle.event_log.specs.declared.refusals.LogError.TheVariants.{NoColumn, NoEvents, TooFewNodes, TooLarge, TooManyEvents}
+use Rattle.event_log.specs.declared.refusals.LogError.TheVariants.{NoColumn, NoEvents, TooFewNodes}
+use Rattle.event_log.specs.declared.refusals.LogError.TheVariants.{TooLarge, TooManyEvents}
 use Rattle.event_log.specs.declared.times.TimeKind.{TimeKind}
 use Rattle.event_log.specs.declared.times.TimeUnit.{TimeUnit}
 use Rattle.event_log.specs.Columns.{columns_of}
@@ -46,7 +47,8 @@ next_reading r fields = next_by r.columns r fields
 
 -- nothing was read yet
 abbrev pub nothing_read : Option TimeUnit → Option (Bor (List (List ℕ))) → List (List ℕ) → Reading
-nothing_read unit listed nodes = record { columns = None; unit = unit; kind = None; listed = listed; count = 0; names = Ok (begun nodes) }
+nothing_read unit listed nodes =
+    record { columns = None; unit = unit; kind = None; listed = listed; count = 0; names = Ok (begun nodes) }
 
 -- the kind of the times, and the names and events
 abbrev pub enough_nodes : TimeKind → Named → Result (TimeKind × Named) LogError
@@ -73,5 +75,6 @@ named_from r text =
     else Err TooLarge
 
 -- the events of a log with its nodes and messages, or the first refusal
-abbrev pub named_of : Option TimeUnit → Option (Bor (List (List ℕ))) → List (List ℕ) → List ℕ → Result (TimeKind × Named) LogError
+abbrev pub named_of : Option TimeUnit → Option (Bor (List (List ℕ))) → List (List ℕ) → List ℕ
+    → Result (TimeKind × Named) LogError
 named_of unit listed nodes text = named_from (nothing_read unit listed nodes) text

@@ -1,7 +1,13 @@
 -- What is reported about a refused log.
 use Rattle.std.specs.Prelude.{ℕ, List, ◌++◌, codes, decimal, unwrap_or}
 use Rattle.event_log.specs.declared.refusals.LogError.{LogError}
-use Rattle.event_log.specs.declared.refusals.LogError.TheVariants.{TooLarge, NoColumn, TwoColumns, FromUnfit, TooManyEvents, BadFields, BadTime, BadEvent, BadNode, BadMessage, NoEvents, TooManyNodes, SentBefore, TooFewNodes, TickUnfit, UntilUnfit, IdleUnfit, TooManyTicks, NeverSent, WrongReceiver, ReceivedBefore, NotLater, SecondEvent, Cycle, NoOffsets, TooLate, TooManySteps, Memory}
+use Rattle.event_log.specs.declared.refusals.LogError.TheVariants.{TooLarge, NoColumn, TwoColumns, FromUnfit}
+use Rattle.event_log.specs.declared.refusals.LogError.TheVariants.{TooManyEvents, BadFields, BadTime, BadEvent, BadNode}
+use Rattle.event_log.specs.declared.refusals.LogError.TheVariants.{BadMessage, NoEvents, TooManyNodes, SentBefore}
+use Rattle.event_log.specs.declared.refusals.LogError.TheVariants.{TooFewNodes, TickUnfit, UntilUnfit, IdleUnfit}
+use Rattle.event_log.specs.declared.refusals.LogError.TheVariants.{TooManyTicks, NeverSent, WrongReceiver}
+use Rattle.event_log.specs.declared.refusals.LogError.TheVariants.{ReceivedBefore, NotLater, SecondEvent, Cycle}
+use Rattle.event_log.specs.declared.refusals.LogError.TheVariants.{NoOffsets, TooLate, TooManySteps, Memory}
 use Rattle.event_log.specs.declared.refusal_texts.Words.{Words}
 use Rattle.event_log.specs.declared.refusal_texts.Words.TheVariants as words
 use Rattle.event_log.specs.Columns.{name_of}
@@ -21,7 +27,8 @@ of_message number name words = codes "record " ++ (decimal number ++ (codes ": m
 
 -- a second event of a node in a tick
 abbrev pub in_second : ℕ → List ℕ → ℕ → List ℕ
-in_second number node tick = codes "record " ++ (decimal number ++ (codes ": a second event of " ++ (printed node ++ (codes " in tick " ++ decimal tick))))
+in_second number node tick = codes "record "
+    ++ (decimal number ++ (codes ": a second event of " ++ (printed node ++ (codes " in tick " ++ decimal tick))))
 
 -- the line of the words of a refusal
 abbrev pub words_text : Words → List ℕ
@@ -55,7 +62,8 @@ log_error_text TooManyTicks = codes "too many ticks"
 log_error_text (NeverSent number message) = of_message number message (codes " was never sent")
 log_error_text (WrongReceiver number message node) = of_message number message (codes " is for " ++ printed node)
 log_error_text (ReceivedBefore number message) = of_message number message (codes " was received before")
-log_error_text (NotLater number message hint) = of_message number message (codes " is received no later than it was sent")
+log_error_text (NotLater number message hint) =
+    of_message number message (codes " is received no later than it was sent")
 log_error_text (SecondEvent number node tick hint) = in_second number node tick
 log_error_text (Cycle number hops) = in_record number (codes "behind a cycle of messages")
 log_error_text (NoOffsets lines) = codes "no offsets of clocks bring the messages into order"

@@ -27,11 +27,13 @@ abbrev pub with_said : Said → Option TimeKind × List Said → Result (Option 
 with_said s r = Ok (r.0, s ∷ r.1)
 
 -- stage records: what the records from a place on say, and the kind of the times
-unfoldable pub says_of : Columns → Option TimeUnit → Option (Bor (List (List ℕ))) → Option TimeKind → ℕ → List (List (List ℕ)) → Result (Option TimeKind × List Said) LogError
+unfoldable pub says_of : Columns → Option TimeUnit → Option (Bor (List (List ℕ))) → Option TimeKind → ℕ
+    → List (List (List ℕ)) → Result (Option TimeKind × List Said) LogError
 says_of columns unit listed kind place [] = Ok (kind, [])
 says_of columns unit listed kind place (fields ∷ more) =
     if nat_le MAX_EVENTS place then Err TooManyEvents
-    else (said_of (rules columns unit kind listed) (place + 2) fields >>= λ s. says_of columns unit listed (Some s.moment.kind) (place + 1) more >>= λ r. with_said s r)
+    else (said_of (rules columns unit kind listed) (place + 2) fields >>= λ s.
+    says_of columns unit listed (Some s.moment.kind) (place + 1) more >>= λ r. with_said s r)
 
 -- stage names: the names of the events from a place on
 unfoldable pub named_after : ℕ → Named → List Said → Result Named LogError
@@ -44,12 +46,16 @@ names_stage nodes (None, says) = Err NoEvents
 names_stage nodes (Some kind, says) = named_after 0 (begun nodes) says >>= λ n. enough_nodes kind n
 
 -- stage header, and those after it
-abbrev pub header_stage : Option TimeUnit → Option (Bor (List (List ℕ))) → List (List ℕ) → List (List (List ℕ)) → Result (TimeKind × Named) LogError
+abbrev pub header_stage : Option TimeUnit → Option (Bor (List (List ℕ))) → List (List ℕ) → List (List (List ℕ))
+    → Result (TimeKind × Named) LogError
 header_stage unit listed nodes [] = Err (NoColumn column.Time)
-header_stage unit listed nodes (header ∷ more) = columns_of header >>= λ columns. says_of columns unit listed None 0 more >>= λ r. names_stage nodes r
+header_stage unit listed nodes (header ∷ more) = columns_of header >>= λ columns.
+    says_of columns unit listed None 0 more >>= λ r. names_stage nodes r
 
 -- stage text, and those after it: the events of a log
-abbrev pub staged_log : Option TimeUnit → Option (Bor (List (List ℕ))) → List (List ℕ) → List ℕ → Result SeenLog LogError
+abbrev pub staged_log : Option TimeUnit → Option (Bor (List (List ℕ))) → List (List ℕ) → List ℕ
+    → Result SeenLog LogError
 staged_log unit listed nodes text =
-    if nat_le (length text) MAX_TEXT_BYTES then (header_stage unit listed nodes (records_of_text text) >>= λ r. Ok (resolved_log r.0 r.1))
+    if nat_le (length text) MAX_TEXT_BYTES
+    then (header_stage unit listed nodes (records_of_text text) >>= λ r. Ok (resolved_log r.0 r.1))
     else Err TooLarge

@@ -1,5 +1,6 @@
 -- How many ticks the trace of events has, and how far they move, by the length of a tick.
-use Rattle.std.specs.Prelude.{ℕ, ◌≡◌, ◌+◌, ◌-◌, ◌*◌, ◌/◌, ◌%◌, ◌^◌, ◌<◌, ℤ, Bool, true, ◌||◌, ◌==◌, if◌then◌else◌, List, length, map, Option, Some, None, nat_le, nat_lt, slice_index, slice_index_or, unwrap_or}
+use Rattle.std.specs.Prelude.{ℕ, ◌≡◌, ◌+◌, ◌-◌, ◌*◌, ◌/◌, ◌%◌, ◌^◌, ◌<◌, ℤ, Bool, true, ◌||◌, ◌==◌, if◌then◌else◌, List}
+use Rattle.std.specs.Prelude.{length, map, Option, Some, None, nat_le, nat_lt, slice_index, slice_index_or, unwrap_or}
 use Rattle.std.proofs.Common.{◌-ℤ◌}
 use Rattle.std.specs.Int.RustNames.{unsigned_abs}
 use Rattle.std.specs.List.{filter, range_with_len}
@@ -49,7 +50,8 @@ told_before kind log count = map tick_width (filter (is_told kind log) (range_wi
 abbrev pub told_widths : TimeKind → ℕ → List ℕ
 told_widths kind log = told_before kind log WIDTHS
 
--- whether the event of a step is more than one tick later than that of its time: by the ticks of the times of all events,
+-- whether the event of a step is more than one tick later than that of its time: by the ticks of the times of all
+-- events,
 -- the ticks of the steps, and the places of their events
 abbrev pub is_far : List ℕ → List ℕ → List ℕ → ℕ → Bool
 is_far own ticks places k = nat_lt (slice_index_or own (slice_index places k) 0 + 1) (slice_index ticks k)
@@ -62,7 +64,8 @@ abbrev pub far_count : List ℕ → List ℕ → List ℕ → ℕ
 far_count own ticks places = far_before own ticks places (length places)
 
 -- The numbers are those of this trace of events and of how they moved; these are the places of the events of its steps.
-pub record AreNumbersOf (events : List Event) (clock : Clock) (trace : Recorded) (moved : Moved) (places : List ℕ) (p : Placing) : Type 0 where
+pub record AreNumbersOf (events : List Event) (clock : Clock) (trace : Recorded) (moved : Moved) (places : List ℕ)
+    (p : Placing) : Type 0 where
   pub last : p.last ≡ trace.last
   pub so_many : p.events ≡ length events
   pub moved_are : p.moved ≡ moved.events
@@ -89,4 +92,5 @@ IsRowOf n events kind until row = (0 < row.width) × IsPlacedBy n events (clock_
 
 -- why the events make no trace with ticks of some length; or out of memory
 abbrev pub IsRowRefusal : List Event → TimeKind → Option ℤ → EventError → Type 0
-IsRowRefusal events kind until why = (width : ℕ) × (0 < width) × IsTimedRefusal true events (clock_of kind until width) why
+IsRowRefusal events kind until why = (width : ℕ) × (0 < width)
+    × IsTimedRefusal true events (clock_of kind until width) why

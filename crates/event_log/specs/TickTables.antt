@@ -47,7 +47,8 @@ IsToldBy o text None = IsLogRefusal o text TooManyTicks
 IsToldBy o text (Some p) = IsImportPlacing o text p
 
 -- the rows of the events of a log, without lost sends if these are left out
-pub record AreLogRows (drop : Bool) (kind : TimeKind) (n : ℕ) (events : List Event) (until : Option ℤ) (rows : List TickRow) : Type 0 where
+pub record AreLogRows (drop : Bool) (kind : TimeKind) (n : ℕ) (events : List Event) (until : Option ℤ)
+    (rows : List TickRow) : Type 0 where
   pub left : List Event
   pub left_at : Option (List ℕ)
   pub are_left : AreLeftBy drop events left left_at
@@ -57,9 +58,11 @@ pub record AreLogRows (drop : Bool) (kind : TimeKind) (n : ℕ) (events : List E
 -- why there are none: the events make no trace with ticks of some length; or out of memory
 abbrev pub IsLogRowRefusal : Bool → List ℕ → List (List ℕ) → List Event → TimeKind → Option ℤ → LogError → Type 0
 IsLogRowRefusal drop text nodes events kind until why =
-    (width : ℕ) × (0 < width) × IsUnmadeUnlessMemory drop false None true text nodes events (clock_of kind until width) why
+    (width : ℕ) × (0 < width) × IsUnmadeUnlessMemory drop false None true text nodes events
+    (clock_of kind until width) why
 
--- The rows are of the lengths of a tick up to the first that is longer than the log, which ends as the options say. Each
+-- The rows are of the lengths of a tick up to the first that is longer than the log, which ends as the options say.
+-- Each
 -- says what the import with ticks of this length says.
 pub record IsTickTable (o : Options) (text : List ℕ) (kind : TimeKind) (rows : List TickRow) : Type 0 where
   pub log : SeenLog

@@ -1,5 +1,7 @@
 -- The times of a log, the length of a tick, and the end of a log.
-use Rattle.std.specs.Prelude.{◌≡◌, ℕ, ◌+◌, ◌-◌, ◌*◌, ◌<◌, ◌⊎◌, ◌++◌, ◌∷◌, [], ℤ, pos, List, Option, Some, None, Result, Ok, Err, ◌&&◌, ◌==◌, codes, drop, length, nat_le, option_map, position, slice_index_or, take, if◌then◌else◌}
+use Rattle.std.specs.Prelude.{◌≡◌, ℕ, ◌+◌, ◌-◌, ◌*◌, ◌<◌, ◌⊎◌, ◌++◌, ◌∷◌, [], ℤ, pos, List, Option, Some, None, Result}
+use Rattle.std.specs.Prelude.{Ok, Err, ◌&&◌, ◌==◌, codes, drop, length, nat_le, option_map, position, slice_index_or}
+use Rattle.std.specs.Prelude.{take, if◌then◌else◌}
 use Rattle.std.specs.Char.{is_ascii_digit}
 use Rattle.std.specs.List.{list_all}
 use Rattle.std.specs.Option.{option_and_then, option_or}
@@ -80,7 +82,8 @@ fraction_of digits =
 abbrev pub seconds_by : Option ℕ → List ℕ → Option ℕ
 seconds_by None field = None
 seconds_by (Some at) field =
-    option_and_then (λ n. option_map (λ f. n * 1000000000 + f) (fraction_of (drop (at + 1) field))) (number_of (take at field))
+    option_and_then (λ n. option_map (λ f. n * 1000000000 + f) (fraction_of (drop (at + 1) field)))
+    (number_of (take at field))
 
 unfoldable pub decimal_of : List ℕ → Option ℕ
 decimal_of field = seconds_by (position (λ byte. byte == 46) field) field
@@ -106,7 +109,8 @@ settled (Some unit) k = Some (kind.Whole unit)
 -- the time that a field gives: a number, else decimal seconds, else a time stamp, else one without an offset
 abbrev pub moment_of : List ℕ → Option Moment
 moment_of field =
-    option_or (moment_in kind.Number field) (option_or (moment_in kind.Decimal field) (option_or (moment_in kind.Stamp field) (moment_in kind.Local field)))
+    option_or (moment_in kind.Number field)
+    (option_or (moment_in kind.Decimal field) (option_or (moment_in kind.Stamp field) (moment_in kind.Local field)))
 
 -- a text is a duration of so many nanoseconds
 abbrev pub IsDuration : List ℕ → ℤ → Type 0
@@ -125,7 +129,8 @@ IsWidth text (width.Nanoseconds n) = (0 < n) × (number_of text ≡ None) × IsD
 -- the end of a log that a text gives: a number, else decimal seconds, else a time stamp, else one without an offset
 abbrev pub time_of_end : List ℕ → Option LogEnd
 time_of_end text =
-    option_or (option_map end.Number (number_of text)) (option_or (option_map (λ n. end.Nanoseconds (pos n)) (decimal_of text))
+    option_or (option_map end.Number (number_of text))
+    (option_or (option_map (λ n. end.Nanoseconds (pos n)) (decimal_of text))
     (option_or (option_map end.Stamp (stamp_of text)) (option_map end.Local (local_of text))))
 
 -- a duration is the time that comes so long after zero

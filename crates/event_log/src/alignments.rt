@@ -39,11 +39,13 @@ pub(crate) fn aligned_log(
     align: bool,
 ) -> Result<AlignedLog, LogError>
     requires sound { IsSound (seen_log log) }
-    ensures aligned { IfOk result (λ a. AreAligned align (length log.nodes) log.events.items a.offsets a.log.events.items) }
+    ensures aligned { IfOk result
+        (λ a. AreAligned align (length log.nodes) log.events.items a.offsets a.log.events.items) }
     ensures kind { IfOk result (λ a. a.log.kind ≡ log.kind) }
     ensures nodes { IfOk result (λ a. a.log.nodes ≡ log.nodes) }
     ensures sound { IfOk result (λ a. IsSound (seen_log a.log)) }
-    ensures refused { IfErr result (λ why. (align ≡ true) × IsAlignRefusal text.now log.nodes log.events.items why) }
+    ensures refused { IfErr result
+        (λ why. (align ≡ true) × IsAlignRefusal text.now log.nodes log.events.items why) }
 {
     if !align {
         return Ok(AlignedLog { log, offsets: None });
@@ -57,7 +59,8 @@ pub(crate) fn aligned_log(
 fn test_messages(alloc: Global, text: &[u8], log: &NamedEvents) -> Result<(), LogError>
     requires sound { IsSound (seen_log log.now) }
     ensures passed { IfOk result (λ done. first_fault log.now.events.items ≡ None) }
-    ensures refused { IfErr result (λ why. IsAlignRefusal text.now log.now.nodes log.now.events.items why) }
+    ensures refused { IfErr result
+        (λ why. IsAlignRefusal text.now log.now.nodes log.now.events.items why) }
 {
     match check_messages(alloc, log.events.as_slice()) {
         Ok(()) => Ok(()),
@@ -69,8 +72,10 @@ fn test_messages(alloc: Global, text: &[u8], log: &NamedEvents) -> Result<(), Lo
 fn offsets_of(alloc: Global, text: &[u8], log: &NamedEvents) -> Result<Offsets, LogError>
     requires sound { IsSound (seen_log log.now) }
     requires passed { first_fault log.now.events.items ≡ None }
-    ensures offsets { IfOk result (λ offsets. AreClockOffsets (length log.now.nodes) log.now.events.items offsets) }
-    ensures refused { IfErr result (λ why. IsAlignRefusal text.now log.now.nodes log.now.events.items why) }
+    ensures offsets { IfOk result
+        (λ offsets. AreClockOffsets (length log.now.nodes) log.now.events.items offsets) }
+    ensures refused { IfErr result
+        (λ why. IsAlignRefusal text.now log.now.nodes log.now.events.items why) }
 {
     match clock_offsets(alloc, log.nodes.len(), log.events.as_slice()) {
         Ok(offsets) => Ok(offsets),
@@ -84,7 +89,8 @@ fn offsets_of(alloc: Global, text: &[u8], log: &NamedEvents) -> Result<Offsets, 
 fn no_offsets(alloc: Global, text: &[u8], log: &NamedEvents) -> LogError
     requires sound { IsSound (seen_log log.now) }
     requires none { (y : ℕ → ℤ) → ¬ AreInOrder log.now.events.items y }
-    ensures { MatchBool (is_memory result) ⊤ (HaveNoOffsets text.now log.now.nodes log.now.events.items result) }
+    ensures { MatchBool (is_memory result) ⊤
+        (HaveNoOffsets text.now log.now.nodes log.now.events.items result) }
 {
     match told_cycle(alloc, text, log) {
         Ok(error) => error,
@@ -95,7 +101,8 @@ fn no_offsets(alloc: Global, text: &[u8], log: &NamedEvents) -> LogError
 fn told_cycle(alloc: Global, text: &[u8], log: &NamedEvents) -> Result<LogError, AllocError>
     requires sound { IsSound (seen_log log.now) }
     requires none { (y : ℕ → ℤ) → ¬ AreInOrder log.now.events.items y }
-    ensures { IfOk result (λ error. HaveNoOffsets text.now log.now.nodes log.now.events.items error) }
+    ensures { IfOk result
+        (λ error. HaveNoOffsets text.now log.now.nodes log.now.events.items error) }
 {
     let cycle = found_cycle(alloc, log)?;
     let lines = clock_lines(alloc, text, &log.nodes, log.events.as_slice(), cycle)?;
@@ -119,7 +126,8 @@ fn moved_log(log: NamedEvents, offsets: Offsets) -> Result<AlignedLog, LogError>
     requires sound { IsSound (seen_log log) }
     requires passed { first_fault log.events.items ≡ None }
     requires least { AreClockOffsets (length log.nodes) log.events.items offsets }
-    ensures aligned { IfOk result (λ a. AreAligned true (length log.nodes) log.events.items a.offsets a.log.events.items) }
+    ensures aligned { IfOk result
+        (λ a. AreAligned true (length log.nodes) log.events.items a.offsets a.log.events.items) }
     ensures kind { IfOk result (λ a. a.log.kind ≡ log.kind) }
     ensures nodes { IfOk result (λ a. a.log.nodes ≡ log.nodes) }
     ensures sound { IfOk result (λ a. IsSound (seen_log a.log)) }

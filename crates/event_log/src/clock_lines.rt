@@ -23,7 +23,8 @@ pub(crate) fn clock_lines(
     events: &[Event],
     cycle: Option<ClockCycle>,
 ) -> Result<CycleLines, AllocError>
-    requires { (c : ClockCycle) (k : ℕ) (d : ClockHop) → cycle ≡ Some c → k < length c.hops.items → (get_or c.hops.items k d).message < MAX_EVENTS }
+    requires { (c : ClockCycle) (k : ℕ) (d : ClockHop) → cycle ≡ Some c → k < length c.hops.items
+        → (get_or c.hops.items k d).message < MAX_EVENTS }
     ensures { IfOk result (λ lines. lines ≡ clock_lines text.now nodes.now events.now cycle) }
 {
     match cycle {
@@ -43,8 +44,10 @@ fn cycle_lines(
     events: &[Event],
     cycle: &ClockCycle,
 ) -> Result<Vec<CycleLine>, AllocError>
-    requires { (k : ℕ) (d : ClockHop) → k < length cycle.now.hops.items → (get_or cycle.now.hops.items k d).message < MAX_EVENTS }
-    ensures { IfOk result (λ lines. lines.items ≡ cycle_lines text.now nodes.now events.now cycle.now) }
+    requires { (k : ℕ) (d : ClockHop) → k < length cycle.now.hops.items
+        → (get_or cycle.now.hops.items k d).message < MAX_EVENTS }
+    ensures { IfOk result
+        (λ lines. lines.items ≡ cycle_lines text.now nodes.now events.now cycle.now) }
 {
     let mut lines = shown_clock_lines(alloc, text, nodes, events, &cycle.hops)?;
     lines.push(CycleLine::More(cycle.hops.len().saturating_sub(MAX_SHOWN)))?;
@@ -60,8 +63,10 @@ fn shown_clock_lines(
     events: &[Event],
     hops: &[ClockHop],
 ) -> Result<Vec<CycleLine>, AllocError>
-    requires { (k : ℕ) (d : ClockHop) → k < length hops.now → (get_or hops.now k d).message < MAX_EVENTS }
-    ensures { IfOk result (λ lines. lines.items ≡ shown_clock_lines text.now nodes.now events.now hops.now) }
+    requires { (k : ℕ) (d : ClockHop) → k < length hops.now
+        → (get_or hops.now k d).message < MAX_EVENTS }
+    ensures { IfOk result
+        (λ lines. lines.items ≡ shown_clock_lines text.now nodes.now events.now hops.now) }
 {
     let mut lines = Vec::new(alloc);
     for k in 0..hops.len().min(MAX_SHOWN) {

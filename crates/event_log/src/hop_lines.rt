@@ -23,7 +23,8 @@ pub(crate) fn hop_lines(
     events: &[Event],
     hops: &[Hop],
 ) -> Result<CycleLines, AllocError>
-    requires { (k : ℕ) (d : Hop) → k < length hops.now → (get_or hops.now k d).message < MAX_EVENTS }
+    requires { (k : ℕ) (d : Hop) → k < length hops.now
+        → (get_or hops.now k d).message < MAX_EVENTS }
     ensures { IfOk result (λ lines. lines ≡ hop_lines text.now nodes.now events.now hops.now) }
 {
     let mut lines = shown_lines(alloc, text, nodes, events, hops)?;
@@ -39,8 +40,10 @@ fn shown_lines(
     events: &[Event],
     hops: &[Hop],
 ) -> Result<Vec<CycleLine>, AllocError>
-    requires { (k : ℕ) (d : Hop) → k < length hops.now → (get_or hops.now k d).message < MAX_EVENTS }
-    ensures { IfOk result (λ lines. lines.items ≡ shown_lines text.now nodes.now events.now hops.now) }
+    requires { (k : ℕ) (d : Hop) → k < length hops.now
+        → (get_or hops.now k d).message < MAX_EVENTS }
+    ensures { IfOk result
+        (λ lines. lines.items ≡ shown_lines text.now nodes.now events.now hops.now) }
 {
     let mut lines = Vec::new(alloc);
     for k in 0..hops.len().min(MAX_SHOWN) {

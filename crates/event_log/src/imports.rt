@@ -1,11 +1,14 @@
 //! Logs read as traces.
 
-ghost use Rattle.std.specs.Prelude.{◌≡◌, ◌*◌, ◌^◌, ◌<◌, ◌≤◌, ℕ, [], Err, Ok, false, IfErr, IfOk, None, OnErr, Some, length, unwrap_or};
+ghost use Rattle.std.specs.Prelude.{◌≡◌, ◌*◌, ◌^◌, ◌<◌, ◌≤◌, ℕ, [], Err, Ok, false, IfErr};
+ghost use Rattle.std.specs.Prelude.{IfOk, None, OnErr, Some, length, unwrap_or};
 ghost use Rattle.std.specs.Cow.{cow_slice_items};
 ghost use Rattle.timed_events.specs.Checks.{AreOfProcessors};
 ghost use Rattle.timed_events.specs.Lateness.{lateness_of};
 ghost use Rattle.timed_events.specs.Times.{least_time};
-ghost use Rattle.event_log.specs.Imports.{IsBehindCycle, IsIdleErrorUnlessMemory, IsImportOf, IsLogRefusal, IsPlacedImport, IsPlacedOfLog, IsRead, IsReadRefusal, IsUnmadeUnlessMemory, above_zero, clock_in, end_in, idle_place, units_in, until_in, width_in};
+ghost use Rattle.event_log.specs.Imports.{IsBehindCycle, IsIdleErrorUnlessMemory, IsImportOf, IsLogRefusal};
+ghost use Rattle.event_log.specs.Imports.{IsPlacedImport, IsPlacedOfLog, IsRead, IsReadRefusal, IsUnmadeUnlessMemory};
+ghost use Rattle.event_log.specs.Imports.{above_zero, clock_in, end_in, idle_place, units_in, until_in, width_in};
 ghost use Rattle.event_log.specs.Given.{AreGiven};
 ghost use Rattle.event_log.specs.LogTraces.{HavePassed};
 ghost use Rattle.event_log.specs.Logs.{seen_log};
@@ -79,9 +82,12 @@ pub fn read_log(
     text: CowSlice<'_, u8, Global>,
     options: &Options,
 ) -> Result<Import, LogError>
-    ensures import { IfOk result (λ import. IsImportOf options.now (cow_slice_items text.entry) import) }
-    ensures refused { IfErr result (λ why. IsLogRefusal options.now (cow_slice_items text.entry) why) }
-    ensures more { result ≡ Err LogError.Memory → length (cow_slice_items text.entry) ≤ MAX_TEXT_BYTES }
+    ensures import { IfOk result
+        (λ import. IsImportOf options.now (cow_slice_items text.entry) import) }
+    ensures refused { IfErr result
+        (λ why. IsLogRefusal options.now (cow_slice_items text.entry) why) }
+    ensures more { result ≡ Err LogError.Memory
+        → length (cow_slice_items text.entry) ≤ MAX_TEXT_BYTES }
 {
     Ok(placed_import(alloc, text, options)?.import)
 }
@@ -115,11 +121,15 @@ pub(crate) fn placed_import(
     text: CowSlice<'_, u8, Global>,
     options: &Options,
 ) -> Result<PlacedImport, LogError>
-    ensures import { IfOk result (λ p. IsPlacedImport options.now (cow_slice_items text.entry) p.import p.events.items p.logged p.left_at (parts_seen p.parts) p.first p.clock p.places.items) }
+    ensures import { IfOk result
+        (λ p. IsPlacedImport options.now (cow_slice_items text.entry) p.import p.events.items
+        p.logged p.left_at (parts_seen p.parts) p.first p.clock p.places.items) }
     ensures long { IfOk result (λ p. length p.places.items ≡ length p.import.trace.steps) }
     ensures short { IfOk result (λ p. p.clock.width < 2 ^ 94) }
-    ensures refused { IfErr result (λ why. IsLogRefusal options.now (cow_slice_items text.entry) why) }
-    ensures more { result ≡ Err LogError.Memory → length (cow_slice_items text.entry) ≤ MAX_TEXT_BYTES }
+    ensures refused { IfErr result
+        (λ why. IsLogRefusal options.now (cow_slice_items text.entry) why) }
+    ensures more { result ≡ Err LogError.Memory
+        → length (cow_slice_items text.entry) ≤ MAX_TEXT_BYTES }
 {
     if text.len() > MAX_TEXT_BYTES {
         return Err(LogError::TooLarge);
@@ -158,10 +168,15 @@ fn whole_import(
 ) -> Result<PlacedImport, LogError>
     requires sound { IsSound (seen_log aligned.log) }
     requires width { 0 < clock.width }
-    ensures made { IfOk result (λ p. IsPlacedOfLog false false limit spread (length aligned.log.nodes) aligned.log.events.items clock p.import p.events.items p.logged p.left_at (parts_seen p.parts) p.first p.places.items) }
+    ensures made { IfOk result
+        (λ p. IsPlacedOfLog false false limit spread (length aligned.log.nodes)
+        aligned.log.events.items clock p.import p.events.items p.logged p.left_at
+        (parts_seen p.parts) p.first p.places.items) }
     ensures given { IfOk result (λ p. AreGiven aligned lateness clock p) }
     ensures long { IfOk result (λ p. length p.places.items ≡ length p.import.trace.steps) }
-    ensures refused { IfErr result (IsUnmadeUnlessMemory false false limit spread (cow_slice_items text.entry) aligned.log.nodes aligned.log.events.items clock) }
+    ensures refused { IfErr result
+        (IsUnmadeUnlessMemory false false limit spread (cow_slice_items text.entry)
+        aligned.log.nodes aligned.log.events.items clock) }
 {
     let mut aligned = aligned;
     let passed = passed_log(alloc, &text, &aligned.log, &clock, spread, limit)?;
@@ -187,8 +202,11 @@ fn passed_log(
 ) -> Result<PassedEvents, LogError>
     requires sound { IsSound (seen_log log.now) }
     requires width { 0 < clock.now.width }
-    ensures passed { IfOk result (HavePassed limit spread (length log.now.nodes) log.now.events.items clock.now) }
-    ensures refused { IfErr result (IsUnmadeUnlessMemory false false limit spread text.now log.now.nodes log.now.events.items clock.now) }
+    ensures passed { IfOk result
+        (HavePassed limit spread (length log.now.nodes) log.now.events.items clock.now) }
+    ensures refused { IfErr result
+        (IsUnmadeUnlessMemory false false limit spread text.now log.now.nodes
+        log.now.events.items clock.now) }
 {
     let n = log.nodes.len() as u64;
     match passed_events(alloc, n, log.events.as_slice(), clock, spread, limit) {
@@ -207,7 +225,18 @@ fn import_of(
     first: i128,
     clock: Clock,
 ) -> PlacedImport
-    ensures import { result.import ≡ record { trace = made.trace; nodes = aligned.log.nodes; moved = made.moved; lateness = lateness; offsets = aligned.offsets; idle = made.idle; lost = None; merged = None } }
+    ensures import { result.import
+        ≡ record {
+          trace = made.trace;
+          nodes = aligned.log.nodes;
+          moved = made.moved;
+          lateness =
+              lateness;
+          offsets = aligned.offsets;
+          idle = made.idle;
+          lost = None;
+          merged = None;
+        } }
     ensures events { result.events.items ≡ aligned.log.events.items }
     ensures logged { result.logged ≡ logged }
     ensures at { result.left_at ≡ None }
@@ -251,7 +280,8 @@ pub(crate) fn log_error(alloc: Global, text: &[u8], log: &NamedEvents, why: Idle
     requires place { idle_place why < MAX_EVENTS }
     requires few { length log.now.events.items ≤ MAX_EVENTS }
     requires processors { AreOfProcessors log.now.events.items }
-    requires behind { (i : ℕ) → why ≡ IdleError.Events (EventError.Cycle i) → IsBehindCycle log.now.events.items i }
+    requires behind { (i : ℕ) → why ≡ IdleError.Events (EventError.Cycle i)
+        → IsBehindCycle log.now.events.items i }
     ensures { IsIdleErrorUnlessMemory text.now log.now.nodes log.now.events.items why result }
 {
     match why {

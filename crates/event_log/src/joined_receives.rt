@@ -35,10 +35,12 @@ pub(crate) fn merged_events(
     requires few { length events.now ≤ MAX_EVENTS }
     requires processors { AreOfProcessors events.now }
     requires width { 0 < clock.now.width }
-    ensures merged { IfOk result (λ m. AreJoined events.now clock.now m.events.items (lists_of m.parts.items)) }
+    ensures merged { IfOk result
+        (λ m. AreJoined events.now clock.now m.events.items (lists_of m.parts.items)) }
     ensures inside { IfOk result (λ m. AreParts (length events.now) (lists_of m.parts.items)) }
     ensures some { IfOk result (λ m. 0 < length (lists_of m.parts.items)) }
-    ensures refused { IfErr result (λ why. IsEventRefusal why (times_refusal events.now clock.now)) }
+    ensures refused { IfErr result
+        (λ why. IsEventRefusal why (times_refusal events.now clock.now)) }
 {
     let MergedParts { parts, places } = merged_parts(alloc, events, clock)?;
     let merged = joined_events(alloc, events, &parts, &places)?;
@@ -56,7 +58,8 @@ fn joined_events(
     places: &[u32],
 ) -> Result<Vec<Event>, AllocError>
     requires { AreParts (length events.now) (lists_of parts.now) }
-    ensures { IfOk result (λ joined. map (λ e. Some (seen e)) joined.items ≡ map (joined_at events.now places.now) (lists_of parts.now)) }
+    ensures { IfOk result (λ joined. map (λ e. Some (seen e)) joined.items ≡ map
+        (joined_at events.now places.now) (lists_of parts.now)) }
 {
     let mut joined = Vec::with_capacity(alloc, parts.len())?;
     for part in parts {
@@ -74,7 +77,8 @@ fn joined_at(
     places: &[u32],
 ) -> Result<Event, AllocError>
     requires { ArePart (length events.now) part.now }
-    ensures { IfOk result (λ joined. Some (seen joined) ≡ joined_at events.now places.now part.now) }
+    ensures { IfOk result
+        (λ joined. Some (seen joined) ≡ joined_at events.now places.now part.now) }
 {
     let first = part[0] as usize;
     let joined = joined_event(alloc, events, &events[first], part, places)?;
@@ -90,7 +94,8 @@ fn joined_event(
     places: &[u32],
 ) -> Result<Event, AllocError>
     requires { (k : ℕ) → k < length part.now → slice_index part.now k < length events.now }
-    ensures { IfOk result (λ joined. seen joined ≡ joined_event events.now places.now part.now event.now) }
+    ensures { IfOk result
+        (λ joined. seen joined ≡ joined_event events.now places.now part.now event.now) }
 {
     let act = match &event.act {
         EventAct::Send { to } => EventAct::Send { to: *to },
@@ -113,7 +118,8 @@ fn joined_messages(
     places: &[u32],
 ) -> Result<Vec<Option<u32>>, AllocError>
     requires { (k : ℕ) → k < length part.now → slice_index part.now k < length events.now }
-    ensures { IfOk result (λ messages. messages.items ≡ joined_messages events.now places.now part.now) }
+    ensures { IfOk result
+        (λ messages. messages.items ≡ joined_messages events.now places.now part.now) }
 {
     let mut messages = Vec::new(alloc);
     for place in part {
@@ -130,7 +136,8 @@ fn push_messages(
     messages: &mut Vec<Option<u32>>,
 ) -> Result<(), AllocError>
     requires { place < length events.now }
-    ensures { OnOk result (messages.new.items ≡ messages.old.items ++ map (left_message places.now) (messages_at events.now place)) }
+    ensures { OnOk result (messages.new.items ≡ messages.old.items
+        ++ map (left_message places.now) (messages_at events.now place)) }
 {
     for message in events[place].act.messages() {
         messages.push(left_message(*message, places))?;

@@ -15,7 +15,9 @@ ghost use Rattle.event_log.specs.SentLaws.{AreFound};
 /// These are theorems over the definitions. The contract quantifies over all texts and options. Calling it does
 /// nothing.
 pub fn log_laws()
-    ensures read_once { (o : Options) (text : List ℕ) (a b : Result SeenLog LogError) → IsRead o text a → IsRead o text b → a ≡ b }
+    ensures read_once { (o : Options) (text : List ℕ) (a b : Result SeenLog LogError)
+        → IsRead o text a → IsRead o text b → a ≡ b }
     ensures messages { AreFound }
-    ensures one_import { (o : Options) (text : List ℕ) (a b : Import) → IsImportOf o text a → IsImportOf o text b → a ≡ b }
+    ensures one_import { (o : Options) (text : List ℕ) (a b : Import) → IsImportOf o text a
+        → IsImportOf o text b → a ≡ b }
 {}

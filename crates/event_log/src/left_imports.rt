@@ -1,10 +1,13 @@
 //! Logs read as traces without lost sends, or with merged receives.
 
-ghost use Rattle.std.specs.Prelude.{◌≡◌, ◌<◌, ◌≤◌, ℕ, IfErr, IfOk, MatchBool, Some, ⊤, false, length, slice_index, true};
+ghost use Rattle.std.specs.Prelude.{◌≡◌, ◌<◌, ◌≤◌, ℕ, IfErr, IfOk, MatchBool, Some};
+ghost use Rattle.std.specs.Prelude.{⊤, false, length, slice_index, true};
 ghost use Rattle.std.specs.Cow.{cow_slice_items};
 ghost use Rattle.timed_events.specs.Checks.{AreOfProcessors};
 ghost use Rattle.event_log.specs.Given.{AreGiven};
-ghost use Rattle.event_log.specs.Imports.{IsBehindCycle, IsErrorUnlessMemory, IsLeftCycleError, IsPlacedErrorUnlessMemory, IsPlacedOfLog, IsUnmadeUnlessMemory, moved_in, reason_in, removed_by};
+ghost use Rattle.event_log.specs.Imports.{IsBehindCycle, IsErrorUnlessMemory, IsLeftCycleError};
+ghost use Rattle.event_log.specs.Imports.{IsPlacedErrorUnlessMemory, IsPlacedOfLog, IsUnmadeUnlessMemory, moved_in};
+ghost use Rattle.event_log.specs.Imports.{reason_in, removed_by};
 ghost use Rattle.event_log.specs.Logs.{seen_log};
 ghost use Rattle.event_log.specs.MergedLogs.{ArePartsWithin, parts_seen};
 ghost use Rattle.event_log.specs.Naming.{is_memory};
@@ -44,10 +47,15 @@ pub(crate) fn left_import(
     requires sound { IsSound (seen_log aligned.log) }
     requires width { 0 < clock.width }
     requires asked { drop ≡ false → merge ≡ true }
-    ensures made { IfOk result (λ p. IsPlacedOfLog drop merge limit spread (length aligned.log.nodes) aligned.log.events.items clock p.import p.events.items p.logged p.left_at (parts_seen p.parts) p.first p.places.items) }
+    ensures made { IfOk result
+        (λ p. IsPlacedOfLog drop merge limit spread (length aligned.log.nodes)
+        aligned.log.events.items clock p.import p.events.items p.logged p.left_at
+        (parts_seen p.parts) p.first p.places.items) }
     ensures given { IfOk result (λ p. AreGiven aligned lateness clock p) }
     ensures long { IfOk result (λ p. length p.places.items ≡ length p.import.trace.steps) }
-    ensures refused { IfErr result (IsUnmadeUnlessMemory drop merge limit spread (cow_slice_items text.entry) aligned.log.nodes aligned.log.events.items clock) }
+    ensures refused { IfErr result
+        (IsUnmadeUnlessMemory drop merge limit spread (cow_slice_items text.entry) aligned.log.nodes
+        aligned.log.events.items clock) }
 {
     let mut left = taken_events(alloc, &aligned.log, &clock, drop, merge)?;
     let n = aligned.log.nodes.len() as u64;
@@ -101,7 +109,17 @@ fn left_import_of(
     first: i128,
     clock: Clock,
 ) -> PlacedImport
-    ensures import { result.import ≡ record { trace = made.trace; nodes = aligned.log.nodes; moved = moved_in (Some left.places.items) made.moved; lateness = lateness; offsets = aligned.offsets; idle = made.idle; lost = counts.lost; merged = counts.merged } }
+    ensures import { result.import
+        ≡ record {
+          trace = made.trace;
+          nodes = aligned.log.nodes;
+          moved = moved_in (Some left.places.items) made.moved;
+          lateness = lateness;
+          offsets = aligned.offsets;
+          idle = made.idle;
+          lost = counts.lost;
+          merged = counts.merged;
+        } }
     ensures events { result.events.items ≡ left.events.items }
     ensures logged { result.logged ≡ counts.logged }
     ensures at { result.left_at ≡ Some left.places.items }
@@ -148,12 +166,15 @@ pub(crate) fn left_error(
     why: IdleError,
 ) -> LogError
     requires sound { IsSound (seen_log log.now) }
-    requires within { (k : ℕ) → k < length left.now.places.items → slice_index left.now.places.items k < MAX_EVENTS }
+    requires within { (k : ℕ) → k < length left.now.places.items
+        → slice_index left.now.places.items k < MAX_EVENTS }
     requires parts { ArePartsWithin left.now.parts (length log.now.events.items) }
     requires few { length left.now.events.items ≤ MAX_EVENTS }
     requires processors { AreOfProcessors left.now.events.items }
-    requires behind { (i : ℕ) → why ≡ IdleError.Events (EventError.Cycle i) → IsBehindCycle left.now.events.items i }
-    ensures { IsPlacedErrorUnlessMemory text.now log.now.nodes log.now.events.items left.now.events.items left.now.places.items (parts_seen left.now.parts) why result }
+    requires behind { (i : ℕ) → why ≡ IdleError.Events (EventError.Cycle i)
+        → IsBehindCycle left.now.events.items i }
+    ensures { IsPlacedErrorUnlessMemory text.now log.now.nodes log.now.events.items
+        left.now.events.items left.now.places.items (parts_seen left.now.parts) why result }
 {
     match why {
         IdleError::Events(why) => event_error(alloc, text, log, left, why),
@@ -170,12 +191,15 @@ fn event_error(
     why: EventError,
 ) -> LogError
     requires sound { IsSound (seen_log log.now) }
-    requires within { (k : ℕ) → k < length left.now.places.items → slice_index left.now.places.items k < MAX_EVENTS }
+    requires within { (k : ℕ) → k < length left.now.places.items
+        → slice_index left.now.places.items k < MAX_EVENTS }
     requires parts { ArePartsWithin left.now.parts (length log.now.events.items) }
     requires few { length left.now.events.items ≤ MAX_EVENTS }
     requires processors { AreOfProcessors left.now.events.items }
     requires behind { (i : ℕ) → why ≡ EventError.Cycle i → IsBehindCycle left.now.events.items i }
-    ensures { IsPlacedErrorUnlessMemory text.now log.now.nodes log.now.events.items left.now.events.items left.now.places.items (parts_seen left.now.parts) (IdleError.Events why) result }
+    ensures { IsPlacedErrorUnlessMemory text.now log.now.nodes log.now.events.items
+        left.now.events.items left.now.places.items (parts_seen left.now.parts)
+        (IdleError.Events why) result }
 {
     match why {
         EventError::Cycle { event } => cycle_error(alloc, text, log, left, event),
@@ -192,10 +216,13 @@ fn placed_error(
     why: EventError,
 ) -> LogError
     requires sound { IsSound (seen_log log.now) }
-    requires within { (k : ℕ) → k < length left.now.places.items → slice_index left.now.places.items k < MAX_EVENTS }
+    requires within { (k : ℕ) → k < length left.now.places.items
+        → slice_index left.now.places.items k < MAX_EVENTS }
     requires parts { ArePartsWithin left.now.parts (length log.now.events.items) }
     requires other { (i : ℕ) → ¬ (why ≡ EventError.Cycle i) }
-    ensures { IsErrorUnlessMemory text.now log.now.nodes log.now.events.items (reason_in log.now.events.items left.now.places.items (parts_seen left.now.parts) why) result }
+    ensures { IsErrorUnlessMemory text.now log.now.nodes log.now.events.items
+        (reason_in log.now.events.items left.now.places.items (parts_seen left.now.parts) why)
+        result }
 {
     let why = reason_in(log.events.as_slice(), &left.places, &left.parts, why);
     error_of(alloc, text, &log.nodes, log.events.as_slice(), why)
@@ -209,11 +236,14 @@ fn cycle_error(
     left: &TakenEvents,
     event: usize,
 ) -> LogError
-    requires within { (k : ℕ) → k < length left.now.places.items → slice_index left.now.places.items k < MAX_EVENTS }
+    requires within { (k : ℕ) → k < length left.now.places.items
+        → slice_index left.now.places.items k < MAX_EVENTS }
     requires few { length left.now.events.items ≤ MAX_EVENTS }
     requires processors { AreOfProcessors left.now.events.items }
     requires behind { IsBehindCycle left.now.events.items event }
-    ensures { MatchBool (is_memory result) ⊤ (IsLeftCycleError text.now log.now.nodes log.now.events.items left.now.events.items left.now.places.items event result) }
+    ensures { MatchBool (is_memory result) ⊤
+        (IsLeftCycleError text.now log.now.nodes log.now.events.items left.now.events.items
+        left.now.places.items event result) }
 {
     match told_cycle(alloc, text, log, left, event) {
         Ok(error) => error,
@@ -228,11 +258,13 @@ fn told_cycle(
     left: &TakenEvents,
     event: usize,
 ) -> Result<LogError, AllocError>
-    requires within { (k : ℕ) → k < length left.now.places.items → slice_index left.now.places.items k < MAX_EVENTS }
+    requires within { (k : ℕ) → k < length left.now.places.items
+        → slice_index left.now.places.items k < MAX_EVENTS }
     requires few { length left.now.events.items ≤ MAX_EVENTS }
     requires processors { AreOfProcessors left.now.events.items }
     requires behind { IsBehindCycle left.now.events.items event }
-    ensures { IfOk result (λ error. IsLeftCycleError text.now log.now.nodes log.now.events.items left.now.events.items left.now.places.items event error) }
+    ensures { IfOk result (λ error. IsLeftCycleError text.now log.now.nodes log.now.events.items
+        left.now.events.items left.now.places.items event error) }
 {
     let cycle = cycle_of_causes(alloc, left.events.as_slice())?;
     let hops = hops_in(alloc, &left.places, &cycle)?;

@@ -1,6 +1,7 @@
 //! Where the events that are left of a log are in it.
 
-ghost use Rattle.std.specs.Prelude.{◌≡◌, ◌<◌, ◌^◌, ℕ, [], IfOk, None, Some, length, map, option_map, slice_index, slice_index_or};
+ghost use Rattle.std.specs.Prelude.{◌≡◌, ◌<◌, ◌^◌, ℕ, [], IfOk, None, Some, length};
+ghost use Rattle.std.specs.Prelude.{map, option_map, slice_index, slice_index_or};
 ghost use Rattle.timed_events.specs.declared.cause_cycles.Hop.{Hop};
 ghost use Rattle.merged_receives.specs.MergeWalks.{AreParts, lists_of};
 ghost use Rattle.event_log.specs.Imports.{hop_in, log_place, moved_in, place_in, reason_in, source_in, source_of};

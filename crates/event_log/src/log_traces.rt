@@ -75,8 +75,12 @@ pub(crate) fn trace_of_passed(
     requires few { length events.old.items ≤ MAX_STEPS }
     requires meant { AreMeant events.old.items n }
     requires passed { HavePassed limit spread n events.old.items clock.now passed }
-    ensures trace { IfOk result (λ made. IsMadeBy limit spread n events.old.items clock.now made.trace made.moved made.idle) }
-    ensures places { IfOk result (λ made. ArePlacedBy limit spread n events.old.items clock.now events.new.items made.places.items) }
+    ensures trace { IfOk result
+        (λ made. IsMadeBy limit spread n events.old.items clock.now made.trace
+        made.moved made.idle) }
+    ensures places { IfOk result
+        (λ made. ArePlacedBy limit spread n events.old.items clock.now events.new.items
+        made.places.items) }
     ensures long { IfOk result (λ made. length made.places.items ≡ length made.trace.steps) }
 {
     match (limit, passed) {

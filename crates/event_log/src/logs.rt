@@ -40,7 +40,8 @@ pub fn events_of_log(
     listed: Option<&NameSet>,
     nodes: NameSet,
 ) -> Result<NamedEvents, LogError>
-    ensures exact { GivesUnless is_memory seen_log result (staged_log unit listed.entry nodes text.now) }
+    ensures exact { GivesUnless is_memory seen_log result
+        (staged_log unit listed.entry nodes text.now) }
     ensures sound { IfOk result (λ log. IsSound (seen_log log)) }
     ensures more { result ≡ Err LogError.Memory → length text.now ≤ MAX_TEXT_BYTES }
 {
@@ -54,7 +55,8 @@ fn read_log(
     listed: Option<&NameSet>,
     nodes: NameSet,
 ) -> Result<NamedEvents, LogError>
-    ensures exact { GivesUnless is_memory seen_log result (events_in unit listed.entry nodes text.now) }
+    ensures exact { GivesUnless is_memory seen_log result
+        (events_in unit listed.entry nodes text.now) }
     ensures more { result ≡ Err LogError.Memory → length text.now ≤ MAX_TEXT_BYTES }
 {
     let (kind, names) = read_names(alloc, text, unit, listed, nodes)?;

@@ -1,9 +1,11 @@
 //! The events of a log but the sends of messages that no record receives.
 
-ghost use Rattle.std.specs.Prelude.{◌≡◌, ◌==◌, ◌||◌, ◌∷◌, ◌++◌, [], ◌<◌, ◌≤◌, if◌then◌else◌, ℕ, IfOk, OnOk, Some, false, length, map, slice_index, slice_index_or};
+ghost use Rattle.std.specs.Prelude.{◌≡◌, ◌==◌, ◌||◌, ◌∷◌, ◌++◌, [], ◌<◌, ◌≤◌, if◌then◌else◌, ℕ, IfOk};
+ghost use Rattle.std.specs.Prelude.{OnOk, Some, false, length, map, slice_index, slice_index_or};
 ghost use Rattle.std.specs.List.{list_any};
 ghost use Rattle.event_log.specs.Events.{seen};
-ghost use Rattle.event_log.specs.LostSends.{AreLeft, is_lost, is_received, renumbered_at, left_event, left_message, left_places, new_places};
+ghost use Rattle.event_log.specs.LostSends.{AreLeft, is_lost, is_received, renumbered_at, left_event};
+ghost use Rattle.event_log.specs.LostSends.{left_message, left_places, new_places};
 
 use crate::reading::MAX_EVENTS;
 use std::alloc::{AllocError, Global};
@@ -22,7 +24,8 @@ pub(crate) struct LeftEvents {
 pub(crate) fn events_left(alloc: Global, events: &[Event]) -> Result<LeftEvents, AllocError>
     requires few { length events.now ≤ MAX_EVENTS }
     ensures left { IfOk result (λ left. AreLeft events.now left.events.items left.places.items) }
-    ensures within { IfOk result (λ left. (k : ℕ) → k < length left.places.items → slice_index left.places.items k < length events.now) }
+    ensures within { IfOk result (λ left. (k : ℕ) → k < length left.places.items
+        → slice_index left.places.items k < length events.now) }
 {
     let received = received_sends(alloc, events)?;
     let places = places_left(alloc, events, &received)?;
@@ -36,7 +39,8 @@ pub(crate) fn events_left(alloc: Global, events: &[Event]) -> Result<LeftEvents,
 /// Of each event whether some event received its message.
 fn received_sends(alloc: Global, events: &[Event]) -> Result<Vec<bool>, AllocError>
     requires few { length events.now ≤ MAX_EVENTS }
-    ensures received { IfOk result (λ v. (s : ℕ) → s < length events.now → slice_index_or v.items s false ≡ is_received events.now s) }
+    ensures received { IfOk result (λ v. (s : ℕ) → s < length events.now
+        → slice_index_or v.items s false ≡ is_received events.now s) }
 {
     let hops = hops_of(alloc, events)?;
     marked(alloc, &hops, events.len())
@@ -44,7 +48,8 @@ fn received_sends(alloc: Global, events: &[Event]) -> Result<Vec<bool>, AllocErr
 
 /// Of each of so many places whether some hop has its message.
 fn marked(alloc: Global, hops: &[Hop], count: usize) -> Result<Vec<bool>, AllocError>
-    ensures { IfOk result (λ v. (s : ℕ) → s < count → slice_index_or v.items s false ≡ list_any (λ hop. hop.message == s) hops.now) }
+    ensures { IfOk result (λ v. (s : ℕ) → s < count
+        → slice_index_or v.items s false ≡ list_any (λ hop. hop.message == s) hops.now) }
 {
     let mut marks = vec![in alloc; false; count]?;
     for hop in hops {
@@ -56,7 +61,9 @@ fn marked(alloc: Global, hops: &[Hop], count: usize) -> Result<Vec<bool>, AllocE
 /// Marks a place, if there is such a one.
 fn mark(marks: &mut Vec<bool>, place: usize)
     ensures long { length marks.new.items ≡ length marks.old.items }
-    ensures marked { (s : ℕ) → s < length marks.old.items → slice_index_or marks.new.items s false ≡ (slice_index_or marks.old.items s false || place == s) }
+    ensures marked { (s : ℕ) → s < length marks.old.items
+        → slice_index_or marks.new.items s false
+        ≡ (slice_index_or marks.old.items s false || place == s) }
 {
     if place < marks.len() {
         marks[place] = true;
@@ -73,10 +80,12 @@ struct Places {
 /// The places of the events but lost sends.
 fn places_left(alloc: Global, events: &[Event], received: &[bool]) -> Result<Places, AllocError>
     requires few { length events.now ≤ MAX_EVENTS }
-    requires received { (s : ℕ) → s < length events.now → slice_index_or received.now s false ≡ is_received events.now s }
+    requires received { (s : ℕ) → s < length events.now
+        → slice_index_or received.now s false ≡ is_received events.now s }
     ensures old { IfOk result (λ places. places.old.items ≡ left_places events.now) }
     ensures new { IfOk result (λ places. places.new.items ≡ new_places events.now) }
-    ensures within { IfOk result (λ places. (k : ℕ) → k < length places.old.items → slice_index places.old.items k < length events.now) }
+    ensures within { IfOk result (λ places. (k : ℕ) → k < length places.old.items
+        → slice_index places.old.items k < length events.now) }
 {
     let mut old = Vec::with_capacity(alloc, events.len())?;
     let mut new = Vec::with_capacity(alloc, events.len())?;
@@ -90,7 +99,8 @@ fn places_left(alloc: Global, events: &[Event], received: &[bool]) -> Result<Pla
 /// Puts a place last, unless its event is lost.
 fn push_left(places: &mut Vec<u32>, place: usize, lost: bool) -> Result<(), AllocError>
     requires { place < MAX_EVENTS }
-    ensures { OnOk result (places.new.items ≡ (if lost then places.old.items else places.old.items ++ place ∷ [])) }
+    ensures { OnOk result
+        (places.new.items ≡ (if lost then places.old.items else places.old.items ++ place ∷ [])) }
 {
     if lost {
         return Ok(());
@@ -119,7 +129,8 @@ fn renumbered(
     new: &[u32],
 ) -> Result<Vec<Event>, AllocError>
     requires { (k : ℕ) → k < length old.now → slice_index old.now k < length events.now }
-    ensures { IfOk result (λ left. map (λ e. Some (seen e)) left.items ≡ map (renumbered_at events.now new.now) old.now) }
+    ensures { IfOk result (λ left. map (λ e. Some (seen e)) left.items ≡ map
+        (renumbered_at events.now new.now) old.now) }
 {
     let mut left = Vec::with_capacity(alloc, old.len())?;
     for place in old {

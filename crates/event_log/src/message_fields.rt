@@ -21,7 +21,8 @@ pub(crate) fn message_fields(alloc: Global, text: &[u8]) -> Result<Vec<Name>, Al
 
 /// The fields at a place of all records that csv reads from a text; empty ones if there are fewer.
 fn fields_at(alloc: Global, text: &[u8], column: usize) -> Result<Vec<Name>, AllocError>
-    ensures { IfOk result (λ fields. fields.items ≡ map (λ fields. field_of fields column) (records_of_text text.now)) }
+    ensures { IfOk result (λ fields. fields.items ≡ map (λ fields. field_of fields column)
+        (records_of_text text.now)) }
 {
     let mut reader = ReaderBuilder::new()
         .has_headers(false)

@@ -87,7 +87,8 @@ impl<'a> Eq for NameKey<'a> {
 impl<'a> Hash for NameKey<'a> {
     ghost hash_input = { λ key. name_of key ∷ [] };
 
-    ghost respects_eq = { λ a b h. ap (λ name. name ∷ []) ((bytes_decides (name_of a) (name_of b)).0 h) };
+    ghost respects_eq = { λ a b h. ap (λ name. name ∷ [])
+        ((bytes_decides (name_of a) (name_of b)).0 h) };
 
     // One write of the whole name: a slice would write its bytes one by one.
     fn hash<H: Hasher>(&self, state: &mut H) {

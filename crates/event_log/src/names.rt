@@ -1,10 +1,12 @@
 //! The names of nodes and messages.
 
-ghost use Rattle.std.specs.Prelude.{◌≡◌, ◌<◌, ℕ, List, [], IfSome, IfOk, OnOk, OnErr, is_some, length, not, option_map, position, slice_get};
+ghost use Rattle.std.specs.Prelude.{◌≡◌, ◌<◌, ℕ, List, [], IfSome, IfOk, OnOk, OnErr, is_some};
+ghost use Rattle.std.specs.Prelude.{length, not, option_map, position, slice_get};
 ghost use Rattle.std.specs.List.{list_any, position_or_len};
 ghost use Rattle.std.specs.Str.{bytes_eq};
 ghost use Rattle.event_log.specs.NameKeys.{name_of};
-ghost use Rattle.event_log.specs.Names.{are_message_names, has_name, is_control, is_message_name, is_name, is_node_name, names_in, with_name};
+ghost use Rattle.event_log.specs.Names.{are_message_names, has_name, is_control, is_message_name};
+ghost use Rattle.event_log.specs.Names.{is_name, is_node_name, names_in, with_name};
 
 use crate::name_keys::NameKey;
 use crate::times::text_of;
@@ -194,9 +196,12 @@ fn insert(
     names: &mut IndexSet<NameKey<'static>>,
     key: NameKey<'static>,
 ) -> Result<(usize, bool), AllocError>
-    ensures names { OnOk result (names_in names.new ≡ with_name (names_in names.old) (name_of key.entry)) }
-    ensures place { IfOk result (λ r. r.0 ≡ position_or_len (bytes_eq (name_of key.entry)) (names_in names.old)) }
-    ensures added { IfOk result (λ r. r.1 ≡ not (has_name (names_in names.old) (name_of key.entry))) }
+    ensures names { OnOk result
+        (names_in names.new ≡ with_name (names_in names.old) (name_of key.entry)) }
+    ensures place { IfOk result
+        (λ r. r.0 ≡ position_or_len (bytes_eq (name_of key.entry)) (names_in names.old)) }
+    ensures added { IfOk result
+        (λ r. r.1 ≡ not (has_name (names_in names.old) (name_of key.entry))) }
     ensures within { IfOk result (λ r. r.0 < length (names_in names.new)) }
     ensures kept { OnErr result (names_in names.new ≡ names_in names.old) }
 {

@@ -2,7 +2,9 @@
 
 ghost use Rattle.std.specs.Prelude.{◌≡◌, ◌+◌, ℕ, true, IfOk, OnOk, length, map, not};
 ghost use Rattle.trace_text.specs.Records.{GivesUnless, ReachesUnless};
-ghost use Rattle.event_log.specs.Naming.{IsUnless, Named, act_after, after_said, begun, is_memory, is_send_to, nodes_after, number_of, number_to, sends_to, sent_after, was_sent, was_sent_to};
+ghost use Rattle.event_log.specs.Naming.{IsUnless, Named, act_after, after_said, begun, is_memory, is_send_to};
+ghost use Rattle.event_log.specs.Naming.{nodes_after, number_of, number_to, sends_to, sent_after, was_sent};
+ghost use Rattle.event_log.specs.Naming.{was_sent_to};
 ghost use Rattle.event_log.specs.SentMessages.{with_send};
 ghost use Rattle.event_log.specs.Events.{resolved, seen};
 ghost use Rattle.event_log.specs.LogRecords.{said};
@@ -58,7 +60,8 @@ impl Naming {
     /// The nodes, and the events with the places of sends in place of the names of messages.
     pub(crate) fn into_events(self, alloc: Global) -> Result<(NameSet, Vec<Event>), AllocError>
         ensures nodes { IfOk result (λ r. r.0 ≡ self.nodes) }
-        ensures events { IfOk result (λ r. map seen r.1.items ≡ map (resolved self.sent) self.events) }
+        ensures events { IfOk result
+            (λ r. map seen r.1.items ≡ map (resolved self.sent) self.events) }
     {
         let events = events_of(alloc, self.sent, self.events);
         both(Ok(self.nodes), events)
@@ -174,7 +177,8 @@ fn name_act<'a>(
     told: &Told<'a>,
 ) -> Result<LentAct<'a>, LogError>
     ensures sent { OnOk result (sent.new ≡ sent_after place to sent.old (said told.now)) }
-    ensures act { GivesUnless is_memory lent_act result (act_after (place + 2) to sent.old events.now (said told.now)) }
+    ensures act { GivesUnless is_memory lent_act result
+        (act_after (place + 2) to sent.old events.now (said told.now)) }
 {
     if let Verb::Receive = told.verb {
         return Ok(LentAct::Receive {
@@ -199,7 +203,8 @@ fn put_send(
     name: &[u8],
 ) -> Result<bool, AllocError>
     ensures is_new { IfOk result (λ is_new. was_sent sent.old events.now to name.now ≡ not is_new) }
-    ensures sent { IfOk result (λ is_new. is_new ≡ true → sent.new ≡ with_send place to name.now sent.old) }
+    ensures sent { IfOk result (λ is_new. is_new ≡ true
+        → sent.new ≡ with_send place to name.now sent.old) }
 {
     if sent.add_first(alloc, name, place)? {
         return Ok(true);

@@ -1,7 +1,10 @@
 //! How a log is read, as texts give it.
 
-ghost use Rattle.std.specs.Prelude.{◌≡◌, ◌<◌, ◌^◌, ◌∷◌, [], ◌++◌, Err, IfErr, IfOk, IfSome, IsSome, OnOk, option_map, true, false, None};
-ghost use Rattle.event_log.specs.Options.{AreNodes, AreNodesIn, AreOptions, HasBadNodes, HasBadTick, HasBadUnit, HasBadUntil, IsIdleIn, IsNodeFault, IsOptionFault, IsTimeFault, IsUnitIn, IsUntilIn, IsWidthIn, is_next_node, parts_between_commas};
+ghost use Rattle.std.specs.Prelude.{◌≡◌, ◌<◌, ◌^◌, ◌∷◌, [], ◌++◌, Err, IfErr, IfOk, IfSome};
+ghost use Rattle.std.specs.Prelude.{IsSome, OnOk, option_map, true, false, None};
+ghost use Rattle.event_log.specs.Options.{AreNodes, AreNodesIn, AreOptions, HasBadNodes, HasBadTick, HasBadUnit};
+ghost use Rattle.event_log.specs.Options.{HasBadUntil, IsIdleIn, IsNodeFault, IsOptionFault, IsTimeFault, IsUnitIn};
+ghost use Rattle.event_log.specs.Options.{IsUntilIn, IsWidthIn, is_next_node, parts_between_commas};
 ghost use Rattle.event_log.specs.Times.{nanoseconds_of};
 
 use crate::names::{MAX_NODES, NameSet, is_node_name};
@@ -30,8 +33,14 @@ pub fn read_options(
     drop_lost: bool,
     merge: bool,
 ) -> Result<Options, OptionError>
-    ensures options { IfOk result (λ o. AreOptions (option_map (λ t. t.now) nodes.entry) (option_map (λ t. t.now) unit.entry) (option_map (λ t. t.now) tick.entry) (option_map (λ t. t.now) until.entry) (option_map (λ t. t.now) idle.entry) spread align drop_lost merge o) }
-    ensures refused { IfErr result (λ why. IsOptionFault (option_map (λ t. t.now) nodes.entry) (option_map (λ t. t.now) unit.entry) (option_map (λ t. t.now) tick.entry) (option_map (λ t. t.now) until.entry) (option_map (λ t. t.now) idle.entry) why) }
+    ensures options { IfOk result
+        (λ o. AreOptions (option_map (λ t. t.now) nodes.entry) (option_map (λ t. t.now) unit.entry)
+        (option_map (λ t. t.now) tick.entry) (option_map (λ t. t.now) until.entry)
+        (option_map (λ t. t.now) idle.entry) spread align drop_lost merge o) }
+    ensures refused { IfErr result
+        (λ why. IsOptionFault (option_map (λ t. t.now) nodes.entry)
+        (option_map (λ t. t.now) unit.entry) (option_map (λ t. t.now) tick.entry)
+        (option_map (λ t. t.now) until.entry) (option_map (λ t. t.now) idle.entry) why) }
     ensures more { result ≡ Err OptionError.Memory → IsSome nodes.entry }
 {
     let nodes = listed_nodes(alloc, nodes);
@@ -53,7 +62,8 @@ pub fn read_options(
 /// The nodes that a text lists, if there is one.
 fn listed_nodes(alloc: Global, text: Option<&str>) -> Result<Option<NameSet>, OptionError>
     ensures listed { IfOk result (λ nodes. AreNodesIn (option_map (λ t. t.now) text.entry) nodes) }
-    ensures refused { IfErr result (IsNodeFault (HasBadNodes (option_map (λ t. t.now) text.entry))) }
+    ensures refused { IfErr result
+        (IsNodeFault (HasBadNodes (option_map (λ t. t.now) text.entry))) }
     ensures more { result ≡ Err OptionError.Memory → IsSome text.entry }
 {
     let Some(text) = text else {
@@ -78,7 +88,9 @@ fn told_times(
     ensures short { IfOk result (λ t. nanoseconds_of t.1 < 2 ^ 94) }
     ensures until { IfOk result (λ t. IsUntilIn (option_map (λ t. t.now) until.entry) t.2) }
     ensures idle { IfOk result (λ t. IsIdleIn (option_map (λ t. t.now) idle.entry) t.3) }
-    ensures refused { IfErr result (IsTimeFault (option_map (λ t. t.now) unit.entry) (option_map (λ t. t.now) tick.entry) (option_map (λ t. t.now) until.entry) (option_map (λ t. t.now) idle.entry)) }
+    ensures refused { IfErr result
+        (IsTimeFault (option_map (λ t. t.now) unit.entry) (option_map (λ t. t.now) tick.entry)
+        (option_map (λ t. t.now) until.entry) (option_map (λ t. t.now) idle.entry)) }
 {
     let Some(unit) = told_unit(unit) else {
         return Err(OptionError::Unit);
@@ -151,7 +163,8 @@ fn told_idle(text: Option<&str>) -> Option<Option<Width>>
 
 /// The nodes whose names are the parts of a text between its commas.
 fn node_list(alloc: Global, text: &[u8]) -> Result<NameSet, OptionError>
-    ensures listed { IfOk result (λ nodes. AreNodes (parts_between_commas text.now) × (nodes ≡ parts_between_commas text.now)) }
+    ensures listed { IfOk result (λ nodes. AreNodes (parts_between_commas text.now)
+        × (nodes ≡ parts_between_commas text.now)) }
     ensures refused { IfErr result (IsNodeFault (¬ AreNodes (parts_between_commas text.now))) }
 {
     let mut nodes = NameSet::new(alloc);

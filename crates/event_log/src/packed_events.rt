@@ -3,7 +3,8 @@
 ghost use Rattle.std.specs.Prelude.{◌≡◌, ◌++◌, ◌∷◌, [], IfOk, OnOk, length, map, option_map, slice_get};
 ghost use Rattle.event_log.specs.Events.{resolved};
 ghost use Rattle.event_log.specs.KeptEvents.{names_of};
-ghost use Rattle.event_log.specs.PackedEvents.{ActIsWithin, IsWithin, lent_act, lent_event, packed_act, packed_event, unpacked, unpacked_act};
+ghost use Rattle.event_log.specs.PackedEvents.{ActIsWithin, IsWithin, lent_act, lent_event, packed_act};
+ghost use Rattle.event_log.specs.PackedEvents.{packed_event, unpacked, unpacked_act};
 
 use crate::placed_events::PlacedEvents;
 use crate::sent_messages::SentMessages;

@@ -44,7 +44,8 @@ impl PlacedEvents {
         mut events: Vec<PackedEvent>,
     ) -> Result<PlacedEvents, AllocError>
         requires { All (IsWithin (length names.now)) events.items }
-        ensures { IfOk result (λ p. p ≡ map (resolved sent.now) (map (unpacked names.now) events.items)) }
+        ensures { IfOk result
+            (λ p. p ≡ map (resolved sent.now) (map (unpacked names.now) events.items)) }
     {
         let messages = place_all(alloc, sent, names, &mut events)?;
         Ok(PlacedEvents { events, messages })
@@ -67,7 +68,9 @@ fn place_all(
 ) -> Result<Vec<Option<u32>>, AllocError>
     requires { All (IsWithin (length names.now)) events.old }
     ensures within { IfOk result (λ messages. All (IsWithin (length messages.items)) events.new) }
-    ensures placed { IfOk result (λ messages. map (placed messages.items) events.new ≡ map (resolved sent.now) (map (unpacked names.now) events.old)) }
+    ensures placed { IfOk result
+        (λ messages. map (placed messages.items) events.new ≡ map (resolved sent.now)
+        (map (unpacked names.now) events.old)) }
 {
     let mut messages = Vec::new(alloc);
     for i in 0..events.len() {
@@ -87,9 +90,12 @@ fn placed_act(
     messages: &mut Vec<Option<u32>>,
 ) -> Result<PackedAct, AllocError>
     requires { IsWithin (length names.now) event.now }
-    ensures messages { OnOk result (messages.new.items ≡ messages.old.items ++ received (resolved sent.now (unpacked names.now event.now)).act) }
+    ensures messages { OnOk result (messages.new.items ≡ messages.old.items
+        ++ received (resolved sent.now (unpacked names.now event.now)).act) }
     ensures within { IfOk result (λ act. ActIsWithin (length messages.new.items) act) }
-    ensures placed { IfOk result (λ act. placed_act messages.new.items act ≡ (resolved sent.now (unpacked names.now event.now)).act) }
+    ensures placed { IfOk result
+        (λ act. placed_act messages.new.items act
+        ≡ (resolved sent.now (unpacked names.now event.now)).act) }
 {
     let event = unpacked(names, event);
     match event.act {
@@ -111,7 +117,8 @@ fn push_places(
     names: &[u8],
     places: &mut Vec<Option<u32>>,
 ) -> Result<(), AllocError>
-    ensures { OnOk result (places.new.items ≡ places.old.items ++ map (place_for sent.now processor) (parts_of names.now)) }
+    ensures { OnOk result (places.new.items ≡ places.old.items
+        ++ map (place_for sent.now processor) (parts_of names.now)) }
 {
     if names.len() == 0 {
         return Ok(());

@@ -53,7 +53,8 @@ pub(crate) fn read_names(
     listed: Option<&NameSet>,
     nodes: NameSet,
 ) -> Result<(TimeKind, Naming), LogError>
-    ensures names { GivesUnless is_memory (λ x. x) result (named_of unit listed.entry nodes text.now) }
+    ensures names { GivesUnless is_memory (λ x. x) result
+        (named_of unit listed.entry nodes text.now) }
     ensures more { result ≡ Err LogError.Memory → length text.now ≤ MAX_TEXT_BYTES }
 {
     let mut reading = Reading {
@@ -70,8 +71,10 @@ pub(crate) fn read_names(
 
 /// Takes in all records of a text, and gives the kind of the times at its end.
 fn read_kind(alloc: Global, text: &[u8], reading: &mut Reading<'_>) -> Result<TimeKind, LogError>
-    ensures kind { IfOk result (λ kind. named_from reading.old text.now ≡ both (Ok kind) reading.new.names) }
-    ensures refused { IfErr result (λ why. MatchBool (is_memory why) ⊤ (named_from reading.old text.now ≡ Err why)) }
+    ensures kind { IfOk result
+        (λ kind. named_from reading.old text.now ≡ both (Ok kind) reading.new.names) }
+    ensures refused { IfErr result
+        (λ why. MatchBool (is_memory why) ⊤ (named_from reading.old text.now ≡ Err why)) }
     ensures large { MAX_TEXT_BYTES < length text.now → result ≡ Err LogError.TooLarge }
 {
     if text.len() > MAX_TEXT_BYTES {
@@ -83,7 +86,8 @@ fn read_kind(alloc: Global, text: &[u8], reading: &mut Reading<'_>) -> Result<Ti
 
 /// The kind of the times at the end of the text, unless something else than the names is missing.
 fn kind_at_end(reading: &Reading<'_>) -> Result<TimeKind, LogError>
-    ensures kind { IfOk result (λ kind. named_at_end reading.now ≡ both (Ok kind) reading.now.names) }
+    ensures kind { IfOk result
+        (λ kind. named_at_end reading.now ≡ both (Ok kind) reading.now.names) }
     ensures refused { IfErr result (λ why. named_at_end reading.now ≡ Err why) }
 {
     if reading.columns.is_none() {

@@ -2,7 +2,8 @@
 
 ghost use Rattle.std.specs.Prelude.{◌≡◌, Ok, Err, IfOk, MatchBool, MatchResult, ⊤};
 ghost use Rattle.csv.specs.Records.{fields_of};
-ghost use Rattle.event_log.specs.LogRecords.{are_messages, are_nodes, bad_node, is_node, moment_as, name_in, said, said_by, said_of, verb_of};
+ghost use Rattle.event_log.specs.LogRecords.{are_messages, are_nodes, bad_node, is_node, moment_as};
+ghost use Rattle.event_log.specs.LogRecords.{name_in, said, said_by, said_of, verb_of};
 ghost use Rattle.event_log.specs.Naming.{IsUnless, is_memory};
 
 use crate::columns::Columns;
@@ -126,7 +127,8 @@ fn is_node(listed: Option<&NameSet>, name: &[u8]) -> bool
 
 /// The refusal of an event whose nodes may not be named, or Memory.
 fn node_refusal(alloc: Global, no: u64, listed: Option<&NameSet>, told: &Told<'_>) -> LogError
-    ensures { IsUnless is_memory result (LogError.BadNode no (bad_node listed.entry (said told.now))) }
+    ensures { IsUnless is_memory result
+        (LogError.BadNode no (bad_node listed.entry (said told.now))) }
 {
     match name_in(alloc, bad_node(listed, told)) {
         Ok(name) => LogError::BadNode(no, name),

@@ -25,7 +25,13 @@ pub(crate) struct SentMessages {
 impl Model for SentMessages {
     ghost Value = { Sent };
 
-    ghost view = { λ m. record { names = m.names; firsts = m.firsts.items; copies = m.copies; copied = m.copied.items } };
+    ghost view = { λ m.
+        record {
+          names = m.names;
+          firsts = m.firsts.items;
+          copies = m.copies;
+          copied = m.copied.items;
+        } };
 }
 
 impl SentMessages {
@@ -49,8 +55,11 @@ impl SentMessages {
         name: &[u8],
         place: u32,
     ) -> Result<bool, AllocError>
-        ensures is_first { IfOk result (λ is_first. has_name self.old.names name.now ≡ not is_first) }
-        ensures sent { IfOk result (λ is_first. self.new ≡ (if is_first then with_first place name.now self.old else self.old)) }
+        ensures is_first { IfOk result
+            (λ is_first. has_name self.old.names name.now ≡ not is_first) }
+        ensures sent { IfOk result
+            (λ is_first. self.new
+            ≡ (if is_first then with_first place name.now self.old else self.old)) }
     {
         let (_, is_first) = self.names.add_new(alloc, name)?;
         if !is_first {

@@ -1,6 +1,7 @@
 //! The table of the steps of a log's trace: a record for each step, with the record of the log that it is.
 
-ghost use Rattle.std.specs.Prelude.{◌≡◌, ◌+◌, ◌-◌, ◌*◌, ◌^◌, ◌<◌, ◌≤◌, ◌++◌, ◌∷◌, [], pos, Err, IfErr, IfOk, OnOk, decimal, length, slice_index, slice_index_or, string_bytes};
+ghost use Rattle.std.specs.Prelude.{◌≡◌, ◌+◌, ◌-◌, ◌*◌, ◌^◌, ◌<◌, ◌≤◌, ◌++◌, ◌∷◌, [], pos, Err, IfErr, IfOk};
+ghost use Rattle.std.specs.Prelude.{OnOk, decimal, length, slice_index, slice_index_or, string_bytes};
 ghost use Rattle.std.proofs.Common.{◌+ℤ◌};
 ghost use Rattle.std.specs.Fmt.{signed_decimal};
 ghost use Rattle.csv.specs.Records.{fields_of, partial_of};
@@ -9,7 +10,9 @@ ghost use Rattle.timed_events.specs.Checks.{processor_at, time_at};
 ghost use Rattle.trace_text.specs.RecordWriting.{IsReady, our_writer, written};
 ghost use Rattle.event_log.specs.Imports.{IsLogRefusal, log_place};
 ghost use Rattle.event_log.specs.MergedLogs.{parts_seen};
-ghost use Rattle.event_log.specs.StepTables.{IsTableOf, begin_of, field_at, if_logged, joined_fields, message_fields, receiver_name_at, record_of_step, step_record, table_header, table_text, with_field, word_at};
+ghost use Rattle.event_log.specs.StepTables.{IsTableOf, begin_of, field_at, if_logged, joined_fields, message_fields};
+ghost use Rattle.event_log.specs.StepTables.{receiver_name_at, record_of_step, step_record, table_header, table_text};
+ghost use Rattle.event_log.specs.StepTables.{with_field, word_at};
 ghost use Rattle.event_log.specs.ToldNames.{node_name};
 
 use crate::event_refusals::processor_at;
@@ -64,7 +67,10 @@ pub fn read_table(alloc: Global, text: &[u8], options: &Options) -> Result<LogTa
 fn table_of(alloc: Global, text: &[u8], placed: &PlacedImport) -> Result<Vec<u8>, AllocError>
     requires long { length placed.now.places.items ≡ length placed.now.import.trace.steps }
     requires short { placed.now.clock.width < 2 ^ 94 }
-    ensures { IfOk result (λ table. table.items ≡ table_text text.now placed.now.import.nodes placed.now.events.items placed.now.logged placed.now.left_at (parts_seen placed.now.parts) placed.now.first placed.now.clock.width placed.now.import.trace.ticks placed.now.places.items) }
+    ensures { IfOk result
+        (λ table. table.items ≡ table_text text.now placed.now.import.nodes placed.now.events.items
+        placed.now.logged placed.now.left_at (parts_seen placed.now.parts) placed.now.first
+        placed.now.clock.width placed.now.import.trace.ticks placed.now.places.items) }
 {
     let messages = message_fields(alloc, text)?;
     let mut writer = record_writer(alloc);
@@ -79,7 +85,8 @@ fn table_of(alloc: Global, text: &[u8], placed: &PlacedImport) -> Result<Vec<u8>
 fn write_names(writer: &mut Writer<Vec<u8>>) -> Result<(), AllocError>
     requires { IsReady writer.old }
     ensures ready { OnOk result (IsReady writer.new) }
-    ensures text { OnOk result (written writer.new ≡ written writer.old ++ row_text our_writer table_header) }
+    ensures text { OnOk result
+        (written writer.new ≡ written writer.old ++ row_text our_writer table_header) }
 {
     let Ok(()) = writer.write_fields(&NAMES) else {
         return Err(AllocError);
@@ -102,7 +109,9 @@ fn write_step(
     requires short { placed.now.clock.width < 2 ^ 94 }
     ensures ready { OnOk result (IsReady writer.new) }
     ensures text { OnOk result (written writer.new ≡ written writer.old ++ row_text our_writer
-        (record_of_step messages.now placed.now.import.nodes placed.now.events.items placed.now.logged placed.now.left_at (parts_seen placed.now.parts) placed.now.first placed.now.clock.width placed.now.import.trace.ticks placed.now.places.items k)) }
+        (record_of_step messages.now placed.now.import.nodes placed.now.events.items
+        placed.now.logged placed.now.left_at (parts_seen placed.now.parts) placed.now.first
+        placed.now.clock.width placed.now.import.trace.ticks placed.now.places.items k)) }
 {
     let place = placed.places[k] as usize;
     let tick = tick_of(&placed.import.trace, k);
@@ -140,7 +149,8 @@ fn push_number(alloc: Global, fields: &mut ByteRecord, n: u64) -> Result<(), All
 fn push_time(alloc: Global, fields: &mut ByteRecord, time: i128) -> Result<(), AllocError>
     requires { partial_of fields.old ≡ [] }
     ensures whole { OnOk result (partial_of fields.new ≡ []) }
-    ensures fields { OnOk result (fields_of fields.new ≡ fields_of fields.old ++ signed_decimal time ∷ []) }
+    ensures fields { OnOk result
+        (fields_of fields.new ≡ fields_of fields.old ++ signed_decimal time ∷ []) }
 {
     let text = time.to_string(alloc)?;
     fields.push_field(text.as_bytes())
@@ -158,7 +168,9 @@ fn push_source(
     requires small { place < 2 ^ 32 }
     ensures whole { OnOk result (partial_of fields.new ≡ []) }
     ensures fields { OnOk result (fields_of fields.new ≡ fields_of fields.old
-        ++ if_logged placed.now.logged place (decimal (log_place placed.now.left_at place + 2)) ∷ if_logged placed.now.logged place (signed_decimal (time_at placed.now.events.items place)) ∷ []) }
+        ++ if_logged placed.now.logged place (decimal (log_place placed.now.left_at place + 2))
+        ∷ if_logged placed.now.logged place
+        (signed_decimal (time_at placed.now.events.items place)) ∷ []) }
 {
     if place < placed.logged {
         push_number(alloc, fields, placed.left_at.at(place) as u64 + 2)?;
@@ -180,7 +192,8 @@ fn push_begin(
     requires short { width < 2 ^ 94 }
     requires tick { tick ≤ MAX_TICKS }
     ensures whole { OnOk result (partial_of fields.new ≡ []) }
-    ensures fields { OnOk result (fields_of fields.new ≡ fields_of fields.old ++ signed_decimal (begin_of first width tick) ∷ []) }
+    ensures fields { OnOk result (fields_of fields.new ≡ fields_of fields.old
+        ++ signed_decimal (begin_of first width tick) ∷ []) }
 {
     let text = begin_text(alloc, first, width, tick)?;
     fields.push_field(text.as_bytes())
@@ -209,7 +222,8 @@ fn push_event(
     requires { partial_of fields.old ≡ [] }
     ensures whole { OnOk result (partial_of fields.new ≡ []) }
     ensures fields { OnOk result (fields_of fields.new ≡ fields_of fields.old
-        ++ node_name nodes.now (processor_at events.now place) ∷ word_at events.now place ∷ receiver_name_at nodes.now events.now place ∷ []) }
+        ++ node_name nodes.now (processor_at events.now place) ∷ word_at events.now place
+        ∷ receiver_name_at nodes.now events.now place ∷ []) }
 {
     fields.push_field(name_of(nodes, processor_at(events, place)))?;
     fields.push_field(word_at(events, place))?;
@@ -264,7 +278,9 @@ fn push_message(
     requires whole { partial_of fields.old ≡ [] }
     requires small { place < 2 ^ 32 }
     ensures whole { OnOk result (partial_of fields.new ≡ []) }
-    ensures fields { OnOk result (fields_of fields.new ≡ fields_of fields.old ++ if_logged placed.now.logged place (field_at messages.now placed.now.left_at (parts_seen placed.now.parts) place) ∷ []) }
+    ensures fields { OnOk result (fields_of fields.new ≡ fields_of fields.old
+        ++ if_logged placed.now.logged place
+        (field_at messages.now placed.now.left_at (parts_seen placed.now.parts) place) ∷ []) }
 {
     if place >= placed.logged {
         return fields.push_field(&[]);
@@ -319,7 +335,8 @@ fn push_words(text: &mut Vec<u8>, words: &[u8]) -> Result<(), AllocError>
 fn write_fields(writer: &mut Writer<Vec<u8>>, fields: &ByteRecord) -> Result<(), AllocError>
     requires { IsReady writer.old }
     ensures ready { OnOk result (IsReady writer.new) }
-    ensures text { OnOk result (written writer.new ≡ written writer.old ++ row_text our_writer (fields_of fields.now)) }
+    ensures text { OnOk result
+        (written writer.new ≡ written writer.old ++ row_text our_writer (fields_of fields.now)) }
 {
     let Ok(()) = writer.write_byte_record(fields) else {
         return Err(AllocError);

@@ -1,6 +1,7 @@
 //! The events of a log of which its trace is made, if lost sends are left out or receives are merged.
 
-ghost use Rattle.std.specs.Prelude.{◌≡◌, ◌<◌, ◌≤◌, ◌⊎◌, ℕ, [], Err, IfErr, IfOk, MatchBool, None, Some, ⊤, false, length, map, option_map, slice_index, true};
+ghost use Rattle.std.specs.Prelude.{◌≡◌, ◌<◌, ◌≤◌, ◌⊎◌, ℕ, [], Err, IfErr, IfOk, MatchBool, None};
+ghost use Rattle.std.specs.Prelude.{Some, ⊤, false, length, map, option_map, slice_index, true};
 ghost use Rattle.timed_events.specs.Checks.{AreOfProcessors, IsEventRefusal};
 ghost use Rattle.timed_events.specs.Times.{times_refusal};
 ghost use Rattle.event_log.specs.Imports.{AreTaken, IsEmptied, IsTimesError, IsUnmergedOf, kept_count, log_place};
@@ -47,12 +48,17 @@ pub(crate) fn taken_events(
     requires sound { IsSound (seen_log log.now) }
     requires width { 0 < clock.now.width }
     requires asked { drop ≡ false → merge ≡ true }
-    ensures taken { IfOk result (λ t. AreTaken drop merge log.now.events.items clock.now t.events.items (Some t.places.items) (parts_seen t.parts)) }
+    ensures taken { IfOk result
+        (λ t. AreTaken drop merge log.now.events.items clock.now t.events.items
+        (Some t.places.items) (parts_seen t.parts)) }
     ensures kept { IfOk result (λ t. t.kept ≡ kept_count drop log.now.events.items) }
-    ensures within { IfOk result (λ t. (k : ℕ) → k < length t.places.items → slice_index t.places.items k < MAX_EVENTS) }
+    ensures within { IfOk result (λ t. (k : ℕ) → k < length t.places.items
+        → slice_index t.places.items k < MAX_EVENTS) }
     ensures parts { IfOk result (λ t. ArePartsWithin t.parts (length log.now.events.items)) }
     ensures some { IfOk result (λ t. 0 < length t.places.items) }
-    ensures refused { IfErr result (λ why. MatchBool (is_memory why) ⊤ (IsEmptied drop log.now.events.items why ⊎ IsUnmergedOf drop merge log.now.events.items clock.now why)) }
+    ensures refused { IfErr result
+        (λ why. MatchBool (is_memory why) ⊤ (IsEmptied drop log.now.events.items why
+        ⊎ IsUnmergedOf drop merge log.now.events.items clock.now why)) }
 {
     if !drop {
         return merged_in(alloc, log.events.as_slice(), clock, &LogPlaces::all());
@@ -70,10 +76,14 @@ pub(crate) fn taken_events(
 /// Refuses NoEvents if none is left, and Memory.
 fn kept_events(alloc: Global, log: &NamedEvents) -> Result<LeftEvents, LogError>
     requires sound { IsSound (seen_log log.now) }
-    ensures left { IfOk result (λ left. AreLeft log.now.events.items left.events.items left.places.items) }
-    ensures within { IfOk result (λ left. (k : ℕ) → k < length left.places.items → slice_index left.places.items k < length log.now.events.items) }
+    ensures left { IfOk result
+        (λ left. AreLeft log.now.events.items left.events.items left.places.items) }
+    ensures within { IfOk result (λ left. (k : ℕ) → k < length left.places.items
+        → slice_index left.places.items k < length log.now.events.items) }
     ensures some { IfOk result (λ left. 0 < length left.places.items) }
-    ensures refused { IfErr result (λ why. MatchBool (is_memory why) ⊤ ((left_places log.now.events.items ≡ []) × (why ≡ LogError.NoEvents))) }
+    ensures refused { IfErr result
+        (λ why. MatchBool (is_memory why) ⊤ ((left_places log.now.events.items ≡ [])
+        × (why ≡ LogError.NoEvents))) }
 {
     let Ok(left) = events_left(alloc, log.events.as_slice()) else {
         return Err(LogError::Memory);
@@ -114,9 +124,13 @@ fn merged_in(
     requires few { length events.now ≤ MAX_EVENTS }
     requires processors { AreOfProcessors events.now }
     requires width { 0 < clock.now.width }
-    ensures merged { IfOk result (λ t. AreMergedIn events.now clock.now at.now t.events.items t.places.items (parts_seen t.parts)) }
+    ensures merged { IfOk result
+        (λ t. AreMergedIn events.now clock.now at.now t.events.items t.places.items
+        (parts_seen t.parts)) }
     ensures kept { IfOk result (λ t. t.kept ≡ length events.now) }
-    ensures refused { IfErr result (λ why. MatchBool (is_memory why) ⊤ ((reason : EventError) × (times_refusal events.now clock.now ≡ Some reason) × IsTimesError reason why)) }
+    ensures refused { IfErr result
+        (λ why. MatchBool (is_memory why) ⊤ ((reason : EventError)
+        × (times_refusal events.now clock.now ≡ Some reason) × IsTimesError reason why)) }
 {
     let merged = match merged_events(alloc, events, clock) {
         Ok(merged) => merged,
@@ -147,8 +161,12 @@ fn placed_in(
     at: &LogPlaces,
 ) -> Result<TakenEvents, AllocError>
     ensures events { IfOk result (λ t. t.events.items ≡ merged.events.items) }
-    ensures parts { IfOk result (λ t. parts_seen t.parts ≡ Some (map (map (log_place at.now)) (lists_of merged.parts.items))) }
-    ensures places { IfOk result (λ t. t.places.items ≡ map (λ part. slice_index part 0) (map (map (log_place at.now)) (lists_of merged.parts.items))) }
+    ensures parts { IfOk result
+        (λ t. parts_seen t.parts ≡ Some
+        (map (map (log_place at.now)) (lists_of merged.parts.items))) }
+    ensures places { IfOk result
+        (λ t. t.places.items ≡ map (λ part. slice_index part 0)
+        (map (map (log_place at.now)) (lists_of merged.parts.items))) }
     ensures kept { IfOk result (λ t. t.kept ≡ kept) }
 {
     let MergedEvents { events, parts } = merged;
@@ -168,7 +186,8 @@ fn placed_parts(
     parts: &[Vec<u32>],
     at: &LogPlaces,
 ) -> Result<Vec<Vec<u32>>, AllocError>
-    ensures { IfOk result (λ placed. lists_of placed.items ≡ map (map (log_place at.now)) (lists_of parts.now)) }
+    ensures { IfOk result
+        (λ placed. lists_of placed.items ≡ map (map (log_place at.now)) (lists_of parts.now)) }
 {
     let mut placed = Vec::with_capacity(alloc, parts.len())?;
     for part in parts {
@@ -191,7 +210,8 @@ fn placed_part(alloc: Global, part: &[u32], at: &LogPlaces) -> Result<Vec<u32>, 
 
 /// The first place of each list; 0 if it is empty.
 fn first_places(alloc: Global, parts: &[Vec<u32>]) -> Result<Vec<u32>, AllocError>
-    ensures { IfOk result (λ places. places.items ≡ map (λ part. slice_index part 0) (lists_of parts.now)) }
+    ensures { IfOk result
+        (λ places. places.items ≡ map (λ part. slice_index part 0) (lists_of parts.now)) }
 {
     let mut places = Vec::with_capacity(alloc, parts.len())?;
     for part in parts {

@@ -5,7 +5,8 @@ ghost use Rattle.std.specs.List.{All};
 ghost use Rattle.timed_events.specs.Checks.{AreMeant};
 ghost use Rattle.timed_events.specs.Spreads.{IsTimedRefusal};
 ghost use Rattle.timed_events.specs.Times.{greatest_time, times_refusal};
-ghost use Rattle.event_log.specs.TickRows.{AreNumbersOf, IsPlacedBy, IsRowOf, IsRowRefusal, clock_of, far_count, is_far, is_told, log_length, tick_nanoseconds, tick_width, told_widths};
+ghost use Rattle.event_log.specs.TickRows.{AreNumbersOf, IsPlacedBy, IsRowOf, IsRowRefusal, clock_of, far_count};
+ghost use Rattle.event_log.specs.TickRows.{is_far, is_told, log_length, tick_nanoseconds, tick_width, told_widths};
 
 use crate::imports::units_in;
 use crate::step_tables::tick_of;
@@ -72,7 +73,9 @@ pub(crate) fn tick_rows(
     requires some { 0 < length events.now }
     requires few { length events.now ≤ MAX_STEPS }
     requires meant { AreMeant events.now n }
-    ensures widths { IfOk result (λ rows. map (λ row. row.width) rows.items ≡ told_widths kind (log_length events.now until)) }
+    ensures widths { IfOk result
+        (λ rows. map (λ row. row.width) rows.items ≡ told_widths kind
+        (log_length events.now until)) }
     ensures each { IfOk result (λ rows. All (IsRowOf n events.now kind until) rows.items) }
     ensures refused { IfErr result (IsRowRefusal events.now kind until) }
 {
@@ -209,7 +212,8 @@ fn placing_of(
     requires width { 0 < clock.now.width }
     requires passed { times_refusal events.now clock.now ≡ None }
     requires long { length placed.now.places.items ≡ length placed.now.timed.trace.steps }
-    ensures { IfOk result (AreNumbersOf events.now clock.now placed.now.timed.trace placed.now.timed.moved placed.now.places.items) }
+    ensures { IfOk result (AreNumbersOf events.now clock.now placed.now.timed.trace
+        placed.now.timed.moved placed.now.places.items) }
 {
     let own = ticks_of(alloc, events, clock, least_time(events))?;
     let moved = placed.timed.moved;

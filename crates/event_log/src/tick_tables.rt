@@ -58,8 +58,10 @@ fn log_rows(
     drop: bool,
 ) -> Result<Vec<TickRow>, LogError>
     requires sound { IsSound (seen_log log.now) }
-    ensures rows { IfOk result (λ rows. AreLogRows drop log.now.kind (length log.now.nodes) log.now.events.items until rows.items) }
-    ensures refused { IfErr result (IsLogRowRefusal drop text.now log.now.nodes log.now.events.items log.now.kind until) }
+    ensures rows { IfOk result (λ rows. AreLogRows drop log.now.kind
+        (length log.now.nodes) log.now.events.items until rows.items) }
+    ensures refused { IfErr result
+        (IsLogRowRefusal drop text.now log.now.nodes log.now.events.items log.now.kind until) }
 {
     if drop {
         return left_rows(alloc, text, log, until);
@@ -75,8 +77,10 @@ fn whole_rows(
     until: Option<i128>,
 ) -> Result<Vec<TickRow>, LogError>
     requires sound { IsSound (seen_log log.now) }
-    ensures rows { IfOk result (λ rows. AreLogRows false log.now.kind (length log.now.nodes) log.now.events.items until rows.items) }
-    ensures refused { IfErr result (IsLogRowRefusal false text.now log.now.nodes log.now.events.items log.now.kind until) }
+    ensures rows { IfOk result (λ rows. AreLogRows false log.now.kind
+        (length log.now.nodes) log.now.events.items until rows.items) }
+    ensures refused { IfErr result
+        (IsLogRowRefusal false text.now log.now.nodes log.now.events.items log.now.kind until) }
 {
     let n = log.nodes.len() as u64;
     match tick_rows(alloc, n, log.events.as_slice(), log.kind, until) {
@@ -93,8 +97,10 @@ fn left_rows(
     until: Option<i128>,
 ) -> Result<Vec<TickRow>, LogError>
     requires sound { IsSound (seen_log log.now) }
-    ensures rows { IfOk result (λ rows. AreLogRows true log.now.kind (length log.now.nodes) log.now.events.items until rows.items) }
-    ensures refused { IfErr result (IsLogRowRefusal true text.now log.now.nodes log.now.events.items log.now.kind until) }
+    ensures rows { IfOk result (λ rows. AreLogRows true log.now.kind
+        (length log.now.nodes) log.now.events.items until rows.items) }
+    ensures refused { IfErr result
+        (IsLogRowRefusal true text.now log.now.nodes log.now.events.items log.now.kind until) }
 {
     let clock = clock_of(log.kind, until, 1);
     let left = taken_events(alloc, log, &clock, true, false)?;

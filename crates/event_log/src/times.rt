@@ -1,9 +1,12 @@
 //! The times of a log, and the options that give times: numbers, or nanoseconds.
 
-ghost use Rattle.std.specs.Prelude.{◌≡◌, ℤ, ◌*◌, ◌<◌, ◌≤◌, ◌^◌, ◌∷◌, [], ◌++◌, ◌==◌, None, Some, IfSome, length, option_map, position};
+ghost use Rattle.std.specs.Prelude.{◌≡◌, ℤ, ◌*◌, ◌<◌, ◌≤◌, ◌^◌, ◌∷◌, [], ◌++◌, ◌==◌, None};
+ghost use Rattle.std.specs.Prelude.{Some, IfSome, length, option_map, position};
 ghost use Rattle.std.specs.Char.{is_ascii_digit};
 ghost use Rattle.std.specs.List.{list_all};
-ghost use Rattle.event_log.specs.Times.{IsDuration, IsEnd, IsWidth, decimal_of, digit_at, fraction_of, local_of, moment_in, moment_of, nanoseconds_in, nanoseconds_of, seconds_by, settled, stamp_of, text_of, three_from, time_as, time_of_end, unit_of, whole_of};
+ghost use Rattle.event_log.specs.Times.{IsDuration, IsEnd, IsWidth, decimal_of, digit_at, fraction_of, local_of};
+ghost use Rattle.event_log.specs.Times.{moment_in, moment_of, nanoseconds_in, nanoseconds_of, seconds_by, settled};
+ghost use Rattle.event_log.specs.Times.{stamp_of, text_of, three_from, time_as, time_of_end, unit_of, whole_of};
 
 use jiff::{SignedDuration, Timestamp};
 use std::str::{FromStr, from_utf8};

@@ -1,5 +1,7 @@
 -- What the answer for the records of a text means for the text.
-use Rattle.std.proofs.Common.{ℕ, ◌≡◌, ◌+◌, ◌≤◌, ◌==◌, ◌∙◌, inl, inr, List, [], ◌∷◌, length, map, Option, Some, None, Result, Ok, Err, Bool, true, false, cond, All, IfOk, IfErr, IfSome, MatchResult, MatchBool, refl, sym, ap, subst, arith}
+use Rattle.std.proofs.Common.{ℕ, ◌≡◌, ◌+◌, ◌≤◌, ◌==◌, ◌∙◌, inl, inr, List, [], ◌∷◌, length, map, Option, Some, None}
+use Rattle.std.proofs.Common.{Result, Ok, Err, Bool, true, false, cond, All, IfOk, IfErr, IfSome, MatchResult}
+use Rattle.std.proofs.Common.{MatchBool, refl, sym, ap, subst, arith}
 use Rattle.std.specs.Prelude.{⊤, nat_le}
 use Rattle.std.proofs.lemmas.Bool.Decides.{nat_tests}
 use Rattle.step_trace.specs.declared.rows.Row.{Row}

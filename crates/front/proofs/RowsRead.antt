@@ -1,5 +1,7 @@
 -- Records are read as the rows that they are the records of, and as no others.
-use Rattle.std.proofs.Common.{ℕ, ◌≡◌, ◌+◌, ◌<◌, ◌^◌, ◌∙◌, ◌==◌, ◌&&◌, ◌⊎◌, inl, inr, List, [], ◌∷◌, ◌++◌, length, map, Option, Some, None, Result, Ok, Err, Bool, true, false, cond, All, IfSome, option_map, decimal, append_assoc, refl, sym, ap, suc, take, get_or, arith}
+use Rattle.std.proofs.Common.{ℕ, ◌≡◌, ◌+◌, ◌<◌, ◌^◌, ◌∙◌, ◌==◌, ◌&&◌, ◌⊎◌, inl, inr, List, [], ◌∷◌, ◌++◌, length, map}
+use Rattle.std.proofs.Common.{Option, Some, None, Result, Ok, Err, Bool, true, false, cond, All, IfSome, option_map}
+use Rattle.std.proofs.Common.{decimal, append_assoc, refl, sym, ap, suc, take, get_or, arith}
 use Rattle.std.specs.Cmp.Lexicographic.{pointwise}
 use Rattle.std.specs.Option.{ok_or}
 use Rattle.std.specs.Str.{bytes_eq}
@@ -88,7 +90,9 @@ row_of_entries-refused at _ e h = inl (cc h)
 row_of_entries-entries : (at : ℕ) (r : Row) → row_of_entries at (map (λ e. Some e) (entries_of r)) ≡ Ok r
 row_of_entries-entries at r = go r.gst r.delta r.phi r.miss r.gap where
   go : (gst delta phi : ℕ) (miss : Option Miss) (gap : Option Gap)
-      → row_of_entries at (map (λ e. Some e) (entries_of (record { gst = gst; delta = delta; phi = phi; miss = miss; gap = gap }))) ≡ Ok (record { gst = gst; delta = delta; phi = phi; miss = miss; gap = gap })
+      → row_of_entries at (map (λ e. Some e)
+      (entries_of (record { gst = gst; delta = delta; phi = phi; miss = miss; gap = gap }))) ≡ Ok
+      (record { gst = gst; delta = delta; phi = phi; miss = miss; gap = gap })
   go gst delta phi None None = refl
   go gst delta phi (Some m) None = refl
   go gst delta phi None (Some w) = refl

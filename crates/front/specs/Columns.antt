@@ -1,5 +1,6 @@
 -- The columns of a report: the name of each, its entry for a row, and the row that entries make.
-use Rattle.std.specs.Prelude.{ℕ, ◌<◌, List, [], ◌∷◌, Option, Some, None, IfSome, Result, Err, codes, decimal, option_map}
+use Rattle.std.specs.Prelude.{ℕ, ◌<◌, List, [], ◌∷◌, Option, Some, None, IfSome}
+use Rattle.std.specs.Prelude.{Result, Err, codes, decimal, option_map}
 use Rattle.std.specs.Option.{ok_or}
 use Rattle.step_trace.specs.declared.rows.Miss.{Miss}
 use Rattle.step_trace.specs.declared.rows.Gap.{Gap}
@@ -9,7 +10,8 @@ use Rattle.front.specs.declared.refusals.ReportError.TheVariants.{BadNumber, Hal
 
 -- their names
 abbrev pub report_header : List (List ℕ)
-report_header = codes "gst" ∷ codes "delta" ∷ codes "phi" ∷ codes "sent" ∷ codes "missed" ∷ codes "proc" ∷ codes "from" ∷ codes "to" ∷ []
+report_header = codes "gst" ∷ codes "delta" ∷ codes "phi" ∷ codes "sent" ∷ codes "missed" ∷ codes "proc" ∷ codes "from"
+    ∷ codes "to" ∷ []
 
 -- the entry of a row for each: a number, or nothing if the row has no such witness
 abbrev pub entries_of : Row → List (Option ℕ)
@@ -35,13 +37,15 @@ gap_of (Some proc) (Some from) None = None
 
 -- the row of these bounds, if its witnesses are whole
 abbrev pub with_witnesses : ℕ → ℕ → ℕ → Option (Option Miss) → Option (Option Gap) → Option Row
-with_witnesses gst delta phi (Some miss) (Some gap) = Some (record { gst = gst; delta = delta; phi = phi; miss = miss; gap = gap })
+with_witnesses gst delta phi (Some miss) (Some gap) =
+    Some (record { gst = gst; delta = delta; phi = phi; miss = miss; gap = gap })
 with_witnesses gst delta phi (Some miss) None = None
 with_witnesses gst delta phi None gap = None
 
 -- the row of entries, which is to have this number; None denotes a field that is neither empty nor a number
 abbrev pub row_of_entries : ℕ → List (Option (Option ℕ)) → Result Row ReportError
-row_of_entries at (Some (Some gst) ∷ Some (Some delta) ∷ Some (Some phi) ∷ Some sent ∷ Some missed ∷ Some proc ∷ Some from ∷ Some to ∷ []) =
+row_of_entries at (Some (Some gst) ∷ Some (Some delta) ∷ Some (Some phi) ∷ Some sent ∷ Some missed ∷ Some proc
+    ∷ Some from ∷ Some to ∷ []) =
     ok_or (with_witnesses gst delta phi (miss_of sent missed) (gap_of proc from to)) (HalfWitness at)
 row_of_entries at _ = Err (BadNumber at)
 

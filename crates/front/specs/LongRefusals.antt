@@ -16,4 +16,5 @@ not_eight front more long =
 
 pub refuses_long : RefusesLong next_rows
 refuses_long None front long = (BadHeader, λ more. (let other = not_eight front more long in rw other refl))
-refuses_long (Some rows) front long = (BadFields (length rows + 1), λ more. (let other = not_eight front more long in rw other refl))
+refuses_long (Some rows) front long =
+    (BadFields (length rows + 1), λ more. (let other = not_eight front more long in rw other refl))

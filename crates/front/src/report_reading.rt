@@ -1,6 +1,7 @@
 //! Reading of report text, record by record. The first record that is refused decides.
 
-ghost use Rattle.std.specs.Prelude.{◌≡◌, ◌+◌, ◌≤◌, ◌∷◌, [], ◌++◌, ℕ, All, List, IfOk, IfErr, IfSome, IsErrOf, MatchResult, OnOk, Some, Ok, Err, length, is_ok};
+ghost use Rattle.std.specs.Prelude.{◌≡◌, ◌+◌, ◌≤◌, ◌∷◌, [], ◌++◌, ℕ, All, List, IfOk, IfErr, IfSome};
+ghost use Rattle.std.specs.Prelude.{IsErrOf, MatchResult, OnOk, Some, Ok, Err, length, is_ok};
 ghost use Rattle.std.specs.Io.KnownBytes.{IsAtEnd};
 ghost use Rattle.csv.specs.Records.{fields_of};
 ghost use Rattle.trace_text.specs.ByteLoops.{bytes_read};
@@ -8,7 +9,8 @@ ghost use Rattle.trace_text.specs.Records.{ReachesUnless, WantsOnlyWhere, record
 ghost use Rattle.trace_text.specs.Faults.{inner_of, faults_of};
 ghost use Rattle.front.specs.ReportTexts.{StandsFor, IsRow64};
 ghost use Rattle.front.specs.ReportReading.{RefusedFor, IsDeviceRefusal, faults_after_report};
-ghost use Rattle.front.specs.ReportRefusals.{Gives, is_memory, next_rows, record_keeps, row_of, rows_at_end, rows_of_records, with_row};
+ghost use Rattle.front.specs.ReportRefusals.{Gives, is_memory, next_rows, record_keeps, row_of};
+ghost use Rattle.front.specs.ReportRefusals.{rows_at_end, rows_of_records, with_row};
 ghost use Rattle.front.specs.LongRefusals.{refuses_long};
 
 use crate::refusals::ReportError;
@@ -58,7 +60,8 @@ pub fn read_report<R: Read>(
         (λ e. RefusedFor e (faults_of reader.old) (faults_of reader.new)
         (R.remaining (inner_of reader.old))) }
     ensures within { IsErrOf result ReportError.Memory
-        → IfSome (bytes_read (R.remaining (inner_of reader.old)) (R.remaining (inner_of reader.new))) (λ n. n ≤ MAX_TEXT_BYTES) }
+        → IfSome (bytes_read (R.remaining (inner_of reader.old))
+        (R.remaining (inner_of reader.new))) (λ n. n ≤ MAX_TEXT_BYTES) }
     ensures unique { (text : List ℕ) (xs ys : List Row) → All IsRow64 xs → All IsRow64 ys
         → StandsFor text xs → StandsFor text ys → xs ≡ ys }
 {

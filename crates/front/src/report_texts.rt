@@ -35,7 +35,8 @@ pub fn write_report<W: Write>(
     ensures whole { OnOk result (Wrote W.contents writer.old writer.new (report_text rows.now)) }
     ensures flushed { OnOk result (IsTrue (is_flushed writer.new)) }
     ensures faultless { OnOk result (WasFaultless writer.old writer.new) }
-    ensures part { IfErr result (WrotePart W.contents writer.old writer.new (report_text rows.now)) }
+    ensures part { IfErr result
+        (WrotePart W.contents writer.old writer.new (report_text rows.now)) }
     ensures cause { IfErr result (λ e. IsWriteCause e writer.old writer.new) }
     ensures stands { All IsRow64 rows.now → StandsFor (report_text rows.now) rows.now }
     ensures short { (set : ℕ) (trace : Recorded) → IsTrace trace → IsReport set trace rows.now
@@ -90,7 +91,8 @@ pub fn push_entry(
 ) -> Result<(), AllocError>
     requires { partial_of fields.old ≡ [] }
     ensures whole { OnOk result (partial_of fields.new ≡ []) }
-    ensures text { OnOk result (fields_of fields.new ≡ fields_of fields.old ++ entry_text entry ∷ []) }
+    ensures text { OnOk result
+        (fields_of fields.new ≡ fields_of fields.old ++ entry_text entry ∷ []) }
     ensures plain { OnOk result (IsPlain (entry_text entry)) }
 {
     match entry {

@@ -61,9 +61,9 @@ impl Report {
     /// smaller positive bound from `g`.
     pub fn at(&self, g: u64) -> Option<Row>
         ensures row { result ≡ row_at self.now g }
-        ensures serves { (set : ℕ) (trace : Recorded) → IsTimed trace → IsReport set trace self.now.rows
-            → self.now.len ≡ trace.last → 1 ≤ g → g ≤ self.now.len
-            → IsSomeAnd result (Serves set trace g) }
+        ensures serves { (set : ℕ) (trace : Recorded) → IsTimed trace
+            → IsReport set trace self.now.rows → self.now.len ≡ trace.last → 1 ≤ g
+            → g ≤ self.now.len → IsSomeAnd result (Serves set trace g) }
     {
         let Report { len, rows } = self;
         if g == 0 || (*len as u64) < g {
@@ -81,7 +81,8 @@ pub fn front(alloc: Global, stairs: &Stairs) -> Result<Report, AllocError>
         (λ r. (set : ℕ) (trace : Recorded) → AreLevels set trace stairs.now
         → IsReport set trace r.rows) }
     ensures only { IfOk result
-        (λ r. (set : ℕ) (trace : Recorded) (rows : List Row) → IsTimed trace → AreLevels set trace stairs.now
+        (λ r. (set : ℕ) (trace : Recorded) (rows : List Row) → IsTimed trace
+        → AreLevels set trace stairs.now
         → IsReport set trace rows → rows ≡ r.rows) }
     ensures len { IfOk result (λ r. r.len ≡ length stairs.now) }
     ensures rising { IfOk result (λ r. IsStrictlyIncreasing (map (λ row. row.gst) r.rows)) }

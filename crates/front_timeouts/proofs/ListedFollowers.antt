@@ -32,7 +32,9 @@ later : (steps : List Step) (p x n : ℕ) → SendsBefore steps p x n → SendsB
 later steps p x n (s, below, sends) = (s, omega (arith, below), sends)
 
 -- a step that sends to q
-pub AreReceivers-more : (steps : List Step) (p q n old new : ℕ) → IsFrom steps p q n → IsTrue (has_proc new q) → ((x : ℕ) → ¬ (x ≡ q) → has_proc new x ≡ has_proc old x) → AreReceivers steps p n old → AreReceivers steps p (n + 1) new
+pub AreReceivers-more : (steps : List Step) (p q n old new : ℕ) → IsFrom steps p q n → IsTrue (has_proc new q)
+    → ((x : ℕ) → ¬ (x ≡ q) → has_proc new x ≡ has_proc old x) → AreReceivers steps p n old
+    → AreReceivers steps p (n + 1) new
 AreReceivers-more steps p q n old new sends added others known x = elim (cases_eq x q) [
   | inl same ↦ (
     λ has. (n, omega arith, subst (λ (z : ℕ). IsFrom steps p z n) (sym same) sends),

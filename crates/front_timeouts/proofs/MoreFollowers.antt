@@ -8,8 +8,10 @@ use Rattle.timeouts.specs.declared.timeouts.Turns.{Turns}
 use Rattle.front_timeouts.specs.declared.tables.FollowerTimeouts.{FollowerTimeouts}
 use Rattle.front_timeouts.specs.Tables.{IsFollowed, AreFollowed}
 
-pub AreFollowed-more : (trace : Recorded) (p : ℕ) (given : Turns) (at : Option ℕ) (followers : List ℕ) (i : ℕ) (old : List FollowerTimeouts) (f : FollowerTimeouts) → i < length followers → f.follower ≡ get_or followers i 0 → IsFollowed trace p given at f
-    → AreFollowed trace p given at (take i followers) old → AreFollowed trace p given at (take (i + 1) followers) (old ++ f ∷ [])
+pub AreFollowed-more : (trace : Recorded) (p : ℕ) (given : Turns) (at : Option ℕ) (followers : List ℕ) (i : ℕ)
+    (old : List FollowerTimeouts) (f : FollowerTimeouts) → i < length followers → f.follower ≡ get_or followers i 0
+    → IsFollowed trace p given at f → AreFollowed trace p given at (take i followers) old
+    → AreFollowed trace p given at (take (i + 1) followers) (old ++ f ∷ [])
 AreFollowed-more trace p given at followers i old f inside is here known = record {
   order = map-append (λ f. f.follower) old (f ∷ [])
       ∙ ap (λ xs. xs ++ f.follower ∷ []) known.order

@@ -25,7 +25,9 @@ lines-timeouts q (t ∷ ts) h = (omega arith, plain-numbers (numbers_of q t) (Al
 
 lines-followers : (all : List FollowerTimeouts) → All AreOf64 all → AreLines (flat_map follower_records all)
 lines-followers [] h = tt
-lines-followers (f ∷ all) h = AreLines-append (follower_records f) (flat_map follower_records all) (lines-timeouts f.follower f.timeouts.items (All-head AreOf64 f all h).each) (lines-followers all (All-tail AreOf64 f all h))
+lines-followers (f ∷ all) h = AreLines-append (follower_records f) (flat_map follower_records all)
+    (lines-timeouts f.follower f.timeouts.items (All-head AreOf64 f all h).each)
+    (lines-followers all (All-tail AreOf64 f all h))
 
 no-mark : (all : List FollowerTimeouts) → strip_bom (timeouts_text all) ≡ timeouts_text all
 unfolding strip_bom
@@ -48,7 +50,10 @@ map_more ns k inside =
 -- one follower more
 pub timeouts_text-more : (all : List FollowerTimeouts) (f : FollowerTimeouts) → timeouts_text (all ++ f ∷ []) ≡ timeouts_text all ++ text_of_records (follower_records f)
 timeouts_text-more all f =
-    ap (flat_map record_line) (ap (λ (rs : List (List (List ℕ))). timeouts_header ∷ rs) (flat_map-append follower_records all (f ∷ []) ∙ ap (λ (rs : List (List (List ℕ))). flat_map follower_records all ++ rs) (append-nil (follower_records f))))
+    ap (flat_map record_line) (ap (λ (rs : List (List (List ℕ))). timeouts_header ∷ rs)
+    (flat_map-append follower_records all (f ∷ [])
+    ∙ ap (λ (rs : List (List (List ℕ))). flat_map follower_records all ++ rs)
+    (append-nil (follower_records f))))
     ∙ flat_map-append record_line (timeouts_records all) (follower_records f)
 
 -- the header alone

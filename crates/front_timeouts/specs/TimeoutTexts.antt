@@ -7,11 +7,13 @@ use Rattle.trace_text.specs.Records.{records_of_text, text_of_records}
 
 -- the names of the columns
 abbrev pub timeouts_header : List (List ℕ)
-timeouts_header = codes "follower" ∷ codes "gst" ∷ codes "delta" ∷ codes "phi" ∷ codes "heartbeat" ∷ codes "poll" ∷ codes "timeout" ∷ codes "delay" ∷ codes "quick" ∷ codes "least" ∷ codes "tried" ∷ []
+timeouts_header = codes "follower" ∷ codes "gst" ∷ codes "delta" ∷ codes "phi" ∷ codes "heartbeat" ∷ codes "poll"
+    ∷ codes "timeout" ∷ codes "delay" ∷ codes "quick" ∷ codes "least" ∷ codes "tried" ∷ []
 
 -- the number in each
 abbrev pub numbers_of : ℕ → Timeout → List ℕ
-numbers_of q t = q ∷ t.gst ∷ t.delta ∷ t.phi ∷ t.heartbeat ∷ t.poll ∷ t.timeout ∷ t.delay ∷ t.quick ∷ t.least ∷ t.tried ∷ []
+numbers_of q t = q ∷ t.gst ∷ t.delta ∷ t.phi ∷ t.heartbeat ∷ t.poll ∷ t.timeout ∷ t.delay ∷ t.quick ∷ t.least
+    ∷ t.tried ∷ []
 
 -- the record of a timeout
 abbrev pub timeout_record : ℕ → Timeout → List (List ℕ)

@@ -57,7 +57,8 @@ pub fn timeouts_text_of(
     requires every { given.every ≤ MAX_TURNS }
     requires polls { given.polls ≤ MAX_TURNS }
     requires at { IfSome at (IsInside trace.now) }
-    ensures { IfOk result (λ v. IsTimeoutsText trace.now p (members_to followers MAX_MEMBER) given at v.items) }
+    ensures { IfOk result
+        (λ v. IsTimeoutsText trace.now p (members_to followers MAX_MEMBER) given at v.items) }
 {
     let followers = members(alloc, followers)?;
     listed_text(alloc, trace, p, &followers, given, at)
@@ -100,7 +101,8 @@ fn write_follower(
     requires { IsReady writer.old }
     ensures ready { OnOk result (IsReady writer.new) }
     ensures text { OnOk result
-        (written writer.new ≡ written writer.old ++ text_of_records (follower_records follower.now)) }
+        (written writer.new ≡ written writer.old
+        ++ text_of_records (follower_records follower.now)) }
 {
     for timeout in &follower.timeouts {
         write_timeout(writer, fields, follower.follower, timeout)?;

@@ -19,7 +19,8 @@ get-right (x ∷ xs) ys zero j e = absurd (omega arith)
 get-right (x ∷ xs) ys (suc i) j e = get-right xs ys i j (omega arith)
 
 -- the receive of nothing at a place
-pub receive-at : (polls : List IdleTick) (added : List Event) (j : ℕ) (d : IdleTick) → AreReceives polls added → j < length polls → (e : Event) × (slice_get added j ≡ Some e) × IsIdleReceive (get_or polls j d) e
+pub receive-at : (polls : List IdleTick) (added : List Event) (j : ℕ) (d : IdleTick) → AreReceives polls added
+    → j < length polls → (e : Event) × (slice_get added j ≡ Some e) × IsIdleReceive (get_or polls j d) e
 receive-at [] added j d r l = absurd (omega arith)
 receive-at (x ∷ polls) [] j d r l = absurd r
 receive-at (x ∷ polls) (e ∷ added) zero d r l = (e, refl, r.0)

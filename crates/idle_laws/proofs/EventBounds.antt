@@ -6,7 +6,10 @@ use Rattle.std.proofs.lemmas.Bool.{cases_lt}
 use Rattle.std.proofs.lemmas.List.Elements.{Contains-get_or}
 use Rattle.std.proofs.lemmas.List.Sorted.{Contains-permutation}
 use Rattle.std.proofs.lemmas.Option.{same_Some, slice_get_within}
-use Rattle.idle_laws.proofs.Common.{Act, Step, DeltaHolds, IsDelivered, IsMessage, StepsIn, tick_of, IsReceiveOf, Recorded, step_at, Contains-from_map, Contains-map, Contains-nil, Event, EventAct, Send, Receive, IdleTick, messages_at, received_in, AreReceives, HasEventIn, IsOfNothing, ticks_of, IsActOf, IsTraceOf, sent_number, ids-from}
+use Rattle.idle_laws.proofs.Common.{Act, Step, DeltaHolds, IsDelivered, IsMessage, StepsIn, tick_of, IsReceiveOf}
+use Rattle.idle_laws.proofs.Common.{Recorded, step_at, Contains-from_map, Contains-map, Contains-nil, Event, EventAct}
+use Rattle.idle_laws.proofs.Common.{Send, Receive, IdleTick, messages_at, received_in, AreReceives, HasEventIn}
+use Rattle.idle_laws.proofs.Common.{IsOfNothing, ticks_of, IsActOf, IsTraceOf, sent_number, ids-from}
 use Rattle.step_trace.specs.declared.steps.Act.TheVariants as act
 use Rattle.step_trace.specs.Processors.{has_proc}
 use Rattle.step_trace.specs.Steps.{act_dest, act_ids}
@@ -117,7 +120,9 @@ record PollAt (numbers : List ℕ) (trace : Recorded) (p y : ℕ) : Type 0 where
   step_of : StepAt numbers trace place event y
 
 -- a trace of events and of receives of nothing behind them
-module _ (n : ℕ) (events added : List Event) (ticks : List ℕ) (last : ℕ) (polls : List IdleTick) (trace : Recorded) (long : length ticks ≡ length events) (r : AreReceives polls added) (t : IsTraceOf n (events ++ added) (ticks ++ ticks_of polls) last trace) where
+module _ (n : ℕ) (events added : List Event) (ticks : List ℕ) (last : ℕ) (polls : List IdleTick) (trace : Recorded)
+    (long : length ticks ≡ length events) (r : AreReceives polls added)
+    (t : IsTraceOf n (events ++ added) (ticks ++ ticks_of polls) last trace) where
   abbrev all : List Event
   all = events ++ added
 
@@ -236,7 +241,9 @@ module _ (n : ℕ) (events added : List Event) (ticks : List ℕ) (last : ℕ) (
 
   sending : (set s b : ℕ) → (m : IsMessage set trace.steps s b) → (i : ℕ) × IsSending set events i b × (slice_index t.numbers i ≡ s) × (tick_of trace s ≡ slice_index ticks i)
   sending set s b m = go (step-cases s (record { proc = m.from; act = act.Send b }) m.sent) where
-    go : OldStep events ticks t.numbers trace s (record { proc = m.from; act = act.Send b }) ⊎ NewStep t.numbers polls trace s (record { proc = m.from; act = act.Send b }) → (i : ℕ) × IsSending set events i b × (slice_index t.numbers i ≡ s) × (tick_of trace s ≡ slice_index ticks i)
+    go : OldStep events ticks t.numbers trace s (record { proc = m.from; act = act.Send b })
+        ⊎ NewStep t.numbers polls trace s (record { proc = m.from; act = act.Send b })
+        → (i : ℕ) × IsSending set events i b × (slice_index t.numbers i ≡ s) × (tick_of trace s ≡ slice_index ticks i)
     go (inl o) = (
       o.place,
       record {
@@ -265,7 +272,9 @@ module _ (n : ℕ) (events added : List Event) (ticks : List ℕ) (last : ℕ) (
 
   looks-at : (k p : ℕ) → IsReceiveOf trace.steps k p → Looks events ticks polls p (tick_of trace k)
   looks-at k p h = go (step-cases k (record { proc = p; act = act.Receive h.ends h.ids }) h.step) where
-    go : OldStep events ticks t.numbers trace k (record { proc = p; act = act.Receive h.ends h.ids }) ⊎ NewStep t.numbers polls trace k (record { proc = p; act = act.Receive h.ends h.ids }) → Looks events ticks polls p (tick_of trace k)
+    go : OldStep events ticks t.numbers trace k (record { proc = p; act = act.Receive h.ends h.ids })
+        ⊎ NewStep t.numbers polls trace k (record { proc = p; act = act.Receive h.ends h.ids })
+        → Looks events ticks polls p (tick_of trace k)
     go (inl o) = inl (record {
       place = o.place;
       event = o.event;
@@ -323,7 +332,10 @@ module _ (n : ℕ) (events added : List Event) (ticks : List ℕ) (last : ℕ) (
         let k = receive-of b y looks in
         let e = f.tick_is in
         let q = k.2 in
-        taken-by i y (slice_get_within events i s.event s.at) (subst (IsDelivered trace (slice_index t.numbers i)) q ((h.each (slice_index t.numbers i) (omega arith)).on_time k.0 b (message set i b s) k.1 (omega arith))) e);
+        taken-by i y (slice_get_within events i s.event s.at)
+        (subst (IsDelivered trace (slice_index t.numbers i)) q
+        ((h.each (slice_index t.numbers i) (omega arith)).on_time k.0 b (message set i b s) k.1 (omega arith)))
+        e);
   }
 
   pub from-events : (set g d : ℕ) → DeltaOfEvents set events ticks polls g d → DeltaHolds set trace g d

@@ -6,7 +6,9 @@ use Rattle.std.proofs.lemmas.Bool.{cases_lt, eqb-true}
 use Rattle.std.proofs.lemmas.List.{length-map}
 use Rattle.std.proofs.lemmas.List.Elements.{All-contains}
 use Rattle.std.proofs.lemmas.Option.{slice_get_within}
-use Rattle.idle_laws.proofs.Common.{Contains-nil, Event, Clock, IdleTick, processor_at, sends_to, AreIdle, HasEventIn, IsIdleTick, AreTicks, HavePassed, time_tick, AreSilent, IsInShortSilence, IsSilentTick}
+use Rattle.idle_laws.proofs.Common.{Contains-nil, Event, Clock, IdleTick, processor_at, sends_to, AreIdle, HasEventIn}
+use Rattle.idle_laws.proofs.Common.{IsIdleTick, AreTicks, HavePassed, time_tick, AreSilent, IsInShortSilence}
+use Rattle.idle_laws.proofs.Common.{IsSilentTick}
 use Rattle.idle_laws.proofs.AddedEvents.{poll_of}
 use Rattle.idle_laws.proofs.EventBounds.{Acts, DeltaOfEvents, IsSending, IsTakenBy, Looks}
 use Rattle.idle_laws.proofs.ReceivedMessages.{received-for}
@@ -17,14 +19,18 @@ ticks-long false events clock ticks e = ap length e ∙ length-map events (λ x.
 ticks-long true events clock ticks h = h.long
 
 -- the receiver of a message takes it
-taker-own : (spread : Bool) (events : List Event) (clock : Clock) (ticks : List ℕ) (set i b y : ℕ) → HavePassed spread events clock → IsSending set events i b → (h : IsTakenBy events ticks i y) → processor_at events h.place ≡ b
+taker-own : (spread : Bool) (events : List Event) (clock : Clock) (ticks : List ℕ) (set i b y : ℕ)
+    → HavePassed spread events clock → IsSending set events i b → (h : IsTakenBy events ticks i y)
+    → processor_at events h.place ≡ b
 taker-own spread events clock ticks set i b y passed s h =
     let inside = slice_get_within events i s.event s.at in
     let for = received-for spread events clock h.place i passed h.inside inside h.takes in
     let sends = sym (ap (λ o. option_map_or (λ (e : Event). sends_to e.act (processor_at events h.place)) o false) s.at ∙ ap (λ a. sends_to a (processor_at events h.place)) s.act) ∙ for in
     sym (eqb-true b (processor_at events h.place) sends)
 
-module _ (n : ℕ) (events : List Event) (clock : Clock) (spread : Bool) (ticks : List ℕ) (last limit : ℕ) (passed : HavePassed spread events clock) (idles polls : List IdleTick) (idle : AreIdle n events ticks last limit idles) (silent : AreSilent n events ticks last limit polls) where
+module _ (n : ℕ) (events : List Event) (clock : Clock) (spread : Bool) (ticks : List ℕ) (last limit : ℕ)
+    (passed : HavePassed spread events clock) (idles polls : List IdleTick)
+    (idle : AreIdle n events ticks last limit idles) (silent : AreSilent n events ticks last limit polls) where
   -- the last tick of a short silence is one of its ticks
   idle-polled : (p y : ℕ) → Contains idles (poll_of p y) → Contains polls (poll_of p y)
   idle-polled p y c =
@@ -68,7 +74,9 @@ module _ (n : ℕ) (events : List Event) (clock : Clock) (spread : Bool) (ticks 
     q : IsSilentTick n events ticks last limit (poll_of p y)
     q = polled p y c
 
-    go : (q.inside.end < x + f) ⊎ (x + f ≤ q.inside.end) → (q.inside.is.silence.since ≡ 0) ⊎ HasEventIn events ticks p q.inside.is.silence.since → (z : ℕ) × (x ≤ z) × (z < x + f) × Acts events ticks idles p z
+    go : (q.inside.end < x + f) ⊎ (x + f ≤ q.inside.end) → (q.inside.is.silence.since ≡ 0)
+        ⊎ HasEventIn events ticks p q.inside.is.silence.since
+        → (z : ℕ) × (x ≤ z) × (z < x + f) × Acts events ticks idles p z
     go (inl within) since = let u = q.inside.until in (q.inside.end, omega arith, within, inr (idle.all p q.inside.end q.least q.most q.inside.is))
     go (inr past) (inl start) = let s = q.inside.is.silence.short in absurd (omega arith)
     go (inr past) (inr event) = let s = q.inside.is.silence.short in let a = q.inside.after in (q.inside.is.silence.since, omega arith, omega arith, inl event)

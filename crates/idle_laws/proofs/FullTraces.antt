@@ -3,7 +3,9 @@ use Rattle.std.proofs.Common.{ℕ, ◌≡◌, ◌+◌, ◌-◌, ◌<◌, ◌≤�
 use Rattle.std.specs.Prelude.{slice_index}
 use Rattle.std.specs.Option.{option_map_or}
 use Rattle.std.proofs.lemmas.Bool.{cases_lt}
-use Rattle.idle_laws.proofs.Common.{MAX_PROCESSORS, Recorded, Event, EventAct, Clock, IdleTick, AreReceives, IsOfNothing, ticks_of, AreTicks, HavePassed, last_of, last_tick, time_ticks, times_refusal, or_none, least-moments, moment-parts, IsFull, IsSparse, Log}
+use Rattle.idle_laws.proofs.Common.{MAX_PROCESSORS, Recorded, Event, EventAct, Clock, IdleTick, AreReceives}
+use Rattle.idle_laws.proofs.Common.{IsOfNothing, ticks_of, AreTicks, HavePassed, last_of, last_tick, time_ticks}
+use Rattle.idle_laws.proofs.Common.{times_refusal, or_none, least-moments, moment-parts, IsFull, IsSparse, Log}
 use Rattle.timed_events.specs.Checks.{AreMeant, AreOfProcessors, HaveOwnMoments, events_refusal, moment_at, moment_of, processor_at}
 use Rattle.timed_events.proofs.MovedEvents.{greatest-each}
 use Rattle.timed_events.proofs.PassedEvents.{one-at_moment}
@@ -17,12 +19,19 @@ use Rattle.idle_laws.proofs.SilentTicks.{AllSilent, all-silent}
 in-time-apart : (events : List Event) (ticks : List ℕ) → events_refusal events ticks ≡ None → HaveOwnMoments events ticks
 in-time-apart events ticks passed j i l m e = let one = one-at_moment events ticks j i passed (omega arith) m e in omega arith
 
-events-apart : (spread : Bool) (events : List Event) (clock : Clock) (ticks : List ℕ) → AreOfProcessors events → HavePassed spread events clock → AreTicks spread events clock ticks → HaveOwnMoments events ticks
-events-apart false events clock ticks o passed e = subst (HaveOwnMoments events) (sym e) (in-time-apart events (time_ticks events clock) (or_none (times_refusal events clock) (events_refusal events (time_ticks events clock)) passed).1)
+events-apart : (spread : Bool) (events : List Event) (clock : Clock) (ticks : List ℕ) → AreOfProcessors events
+    → HavePassed spread events clock → AreTicks spread events clock ticks → HaveOwnMoments events ticks
+events-apart false events clock ticks o passed e =
+    subst (HaveOwnMoments events) (sym e)
+    (in-time-apart events (time_ticks events clock)
+    (or_none (times_refusal events clock) (events_refusal events (time_ticks events clock)) passed).1)
 events-apart true events clock ticks o passed h = least-moments events (time_ticks events clock) ticks o h
 
 -- so are they with receives of nothing in the ticks of short silences
-module _ (n : ℕ) (events added : List Event) (ticks : List ℕ) (last limit : ℕ) (within : (i : ℕ) → i < length events → slice_index ticks i ≤ last) (few : n ≤ MAX_PROCESSORS) (o : AreOfProcessors events) (own : HaveOwnMoments events ticks) (long : length ticks ≡ length events) (a : AllSilent n events ticks last limit within) (r : AreReceives a.polls added) where
+module _ (n : ℕ) (events added : List Event) (ticks : List ℕ) (last limit : ℕ)
+    (within : (i : ℕ) → i < length events → slice_index ticks i ≤ last) (few : n ≤ MAX_PROCESSORS)
+    (o : AreOfProcessors events) (own : HaveOwnMoments events ticks) (long : length ticks ≡ length events)
+    (a : AllSilent n events ticks last limit within) (r : AreReceives a.polls added) where
   abbrev all : List Event
   all = events ++ added
 

@@ -4,7 +4,9 @@ use Rattle.std.specs.Prelude.{slice_index}
 use Rattle.std.specs.List.{AllZip, range_with_len}
 use Rattle.std.specs.List.Sorted.{IsNonDecreasingBy, IsPermutation}
 use Rattle.std.proofs.lemmas.Bool.{cases_lt}
-use Rattle.idle_laws.proofs.Common.{Act, Step, Recorded, Event, EventAct, Send, Receive, HaveOwnMoments, moment_at, IsOrder, IsActOf, IsStepAt, IsTraceOf, sent_number, setup_of, places-apart, places-inside}
+use Rattle.idle_laws.proofs.Common.{Act, Step, Recorded, Event, EventAct, Send, Receive, HaveOwnMoments, moment_at}
+use Rattle.idle_laws.proofs.Common.{IsOrder, IsActOf, IsStepAt, IsTraceOf, sent_number, setup_of, places-apart}
+use Rattle.idle_laws.proofs.Common.{places-inside}
 use Rattle.step_trace.specs.declared.steps.Act.TheVariants as act
 use Rattle.idle_laws.proofs.EventSteps.{event-at}
 use Rattle.idle_laws.proofs.SortedPlaces.{numbered, sorted}
@@ -23,7 +25,9 @@ steps-at events numbers (p ∷ places) h =
     let rest = steps-at events numbers places (λ k l. h (suc k) (omega arith)) in
     (record { proc = e.0.processor; act = a.0 } ∷ rest.0, (record { event = e.0; at = e.1; proc = refl; does = a.1 }, rest.1))
 
-ordered : (events : List Event) (ticks order : List ℕ) → HaveOwnMoments events ticks → IsPermutation (range_with_len 0 (length events)) order → IsNonDecreasingBy (moment_at events ticks) order → IsOrder events ticks order
+ordered : (events : List Event) (ticks order : List ℕ) → HaveOwnMoments events ticks
+    → IsPermutation (range_with_len 0 (length events)) order → IsNonDecreasingBy (moment_at events ticks) order
+    → IsOrder events ticks order
 ordered events ticks order own h up = record { places = h; rising = rising } where
   rising : (j k : ℕ) → j < k → k < length order → moment_at events ticks (slice_index order j) < moment_at events ticks (slice_index order k)
   rising j k l m =

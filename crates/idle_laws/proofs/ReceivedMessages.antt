@@ -9,7 +9,8 @@ use Rattle.timed_events.proofs.FittingEvents.{named-may, names-message}
 use Rattle.timed_events.proofs.MessageFaults.{received-by}
 
 -- nothing is against the messages of events of which none is refused
-received-in_time : (events : List Event) (ticks : List ℕ) (k i : ℕ) → events_refusal events ticks ≡ None → k < length events → Contains (messages_at events k) (Some i) → is_for events i (processor_at events k) ≡ true
+received-in_time : (events : List Event) (ticks : List ℕ) (k i : ℕ) → events_refusal events ticks ≡ None
+    → k < length events → Contains (messages_at events k) (Some i) → is_for events i (processor_at events k) ≡ true
 received-in_time events ticks k i passed inside c =
     let m = named-may events ticks k c.0 passed inside c.1 in
     let same = same_Some i m.0 (sym c.2 ∙ get_or_default (messages_at events k) c.0 (Some i) None c.1 ∙ m.1) in
@@ -19,7 +20,9 @@ after-passed : (why : Option EventError) (events : List Event) → IsAfterTimes 
 after-passed (Some reason) events h = absurd (cc)
 after-passed None events h = h.0
 
-pub received-for : (spread : Bool) (events : List Event) (clock : Clock) (k i : ℕ) → HavePassed spread events clock → k < length events → i < length events → Contains (messages_at events k) (Some i) → is_for events i (processor_at events k) ≡ true
+pub received-for : (spread : Bool) (events : List Event) (clock : Clock) (k i : ℕ) → HavePassed spread events clock
+    → k < length events → i < length events → Contains (messages_at events k) (Some i)
+    → is_for events i (processor_at events k) ≡ true
 received-for false events clock k i passed inside sent c = received-in_time events (time_ticks events clock) k i (or_none (times_refusal events clock) (events_refusal events (time_ticks events clock)) passed).1 inside c
 received-for true events clock k i passed inside sent c =
     received-by events (after-passed (times_refusal events clock) events passed) k i inside (record {

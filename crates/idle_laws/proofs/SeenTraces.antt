@@ -19,7 +19,10 @@ seen-plain log trace h =
       added = [];
       receives = tt;
       long = ticks-long log.spread log.events log.clock h.is.ticks h.is.are;
-      is = subst (IsTraceOf log.n (log.events ++ []) (h.is.ticks ++ []) last) (sym h.same) (subst (λ ts. IsTraceOf log.n (log.events ++ []) ts last h.timed.trace) (sym (append-nil h.is.ticks)) (subst (λ es. IsTraceOf log.n es h.is.ticks last h.timed.trace) (sym (append-nil log.events)) h.is.trace));
+      is = subst (IsTraceOf log.n (log.events ++ []) (h.is.ticks ++ []) last) (sym h.same)
+          (subst (λ ts. IsTraceOf log.n (log.events ++ []) ts last h.timed.trace) (sym (append-nil h.is.ticks))
+          (subst (λ es. IsTraceOf log.n es h.is.ticks last h.timed.trace)
+          (sym (append-nil log.events)) h.is.trace));
     }
 
 seen-sparse : (log : Log) (limit : ℕ) (trace : Recorded) → (h : IsSparse log limit trace) → IsSeen log h.is.ticks h.is.idles trace
@@ -74,7 +77,8 @@ module _ (log : Log) (ticks : List ℕ) (few many : List IdleTick) (a b : Record
   }
 
   -- if each step of the second leaves one of the first within the bound
-  phi-fewer : (set g f : ℕ) → ((p x y : ℕ) → g ≤ x → x ≤ y → y < x + f → Acts log.events ticks many p y → (z : ℕ) × (x ≤ z) × (z < x + f) × Acts log.events ticks few p z) → PhiHolds set b g f → PhiHolds set a g f
+  phi-fewer : (set g f : ℕ) → ((p x y : ℕ) → g ≤ x → x ≤ y → y < x + f → Acts log.events ticks many p y
+      → (z : ℕ) × (x ≤ z) × (z < x + f) × Acts log.events ticks few p z) → PhiHolds set b g f → PhiHolds set a g f
   phi-fewer set g f fewer h = record {
     each = λ x lo inside p m. (
         let e = same-end in
@@ -100,16 +104,25 @@ module _ (log : Log) (limit : ℕ) (sparse full : Recorded) (s : IsSparse log li
   many = subst (λ ts. IsSeen log ts f.polls full) same-ticks (seen-full log limit full f)
 
   pub delta-full : (set g d : ℕ) → DeltaHolds set sparse g d → DeltaHolds set full g d
-  delta-full set g d h = of-trace log ticks f.polls full many set g d (more-polls log.n log.events log.clock log.spread ticks (last_of log.events log.clock ticks) limit s.is.passed s.is.idles f.polls s.is.idle silent set g d (of-events log ticks s.is.idles sparse few set g d h))
+  delta-full set g d h = of-trace log ticks f.polls full many set g d
+      (more-polls log.n log.events log.clock log.spread ticks (last_of log.events log.clock ticks) limit s.is.passed
+      s.is.idles f.polls s.is.idle silent set g d (of-events log ticks s.is.idles sparse few set g d h))
 
   pub delta-sparse : (set g d : ℕ) → DeltaHolds set full g d → DeltaHolds set sparse g d
-  delta-sparse set g d h = of-trace log ticks s.is.idles sparse few set g d (fewer-polls log.n log.events log.clock log.spread ticks (last_of log.events log.clock ticks) limit s.is.passed s.is.idles f.polls s.is.idle silent set g d (of-events log ticks f.polls full many set g d h))
+  delta-sparse set g d h = of-trace log ticks s.is.idles sparse few set g d
+      (fewer-polls log.n log.events log.clock log.spread ticks (last_of log.events log.clock ticks) limit s.is.passed
+      s.is.idles f.polls s.is.idle silent set g d (of-events log ticks f.polls full many set g d h))
 
   pub phi-full : (set g e : ℕ) → PhiHolds set sparse g e → PhiHolds set full g e
-  phi-full set g e h = phi-more log ticks s.is.idles f.polls sparse full few many set g e (sparse-full log.n log.events log.clock log.spread ticks (last_of log.events log.clock ticks) limit s.is.passed s.is.idles f.polls s.is.idle silent) h
+  phi-full set g e h = phi-more log ticks s.is.idles f.polls sparse full few many set g e
+      (sparse-full log.n log.events log.clock log.spread ticks (last_of log.events log.clock ticks) limit s.is.passed
+      s.is.idles f.polls s.is.idle silent) h
 
   pub phi-sparse : (set g e : ℕ) → 1 ≤ g → limit ≤ e → PhiHolds set full g e → PhiHolds set sparse g e
-  phi-sparse set g e one far h = phi-fewer log ticks s.is.idles f.polls sparse full few many set g e (λ p x y lo from until a. full-sparse log.n log.events log.clock log.spread ticks (last_of log.events log.clock ticks) limit s.is.passed s.is.idles f.polls s.is.idle silent p x e y (omega arith) far from until a) h
+  phi-sparse set g e one far h = phi-fewer log ticks s.is.idles f.polls sparse full few many set g e
+      (λ p x y lo from until a. full-sparse log.n log.events log.clock log.spread ticks
+      (last_of log.events log.clock ticks) limit s.is.passed s.is.idles f.polls s.is.idle silent p x e y
+      (omega arith) far from until a) h
 
 module _ (log : Log) (limit : ℕ) (sparse plain : Recorded) (s : IsSparse log limit sparse) (l : IsPlain log plain) where
   same-own : l.is.ticks ≡ s.is.ticks

@@ -64,7 +64,10 @@ module _ (n : ℕ) (events : List Event) (ticks : List ℕ) (last limit : ℕ) (
 
   spans : (p y end since : ℕ) → Decided (Spans p y end since)
   spans p y end since =
-      both _ _ (below since y) (both _ _ (most y end) (both _ _ (most end (since + limit)) (both _ _ (either _ _ (cases_eq since 0) (has-event p since)) (both _ _ (either _ _ (cases_eq end last) (has-event p (end + 1))) (is-silent p since end)))))
+      both _ _ (below since y)
+      (both _ _ (most y end) (both _ _ (most end (since + limit))
+      (both _ _ (either _ _ (cases_eq since 0) (has-event p since))
+      (both _ _ (either _ _ (cases_eq end last) (has-event p (end + 1))) (is-silent p since end)))))
 
   spans-some : (p y end : ℕ) → Decided ((since : ℕ) × Spans p y end since)
   spans-some p y end = elim (some_upto (Spans p y end) (spans p y end) y) [
@@ -109,7 +112,9 @@ module _ (n : ℕ) (events : List Event) (ticks : List ℕ) (last limit : ℕ) (
     each : All (IsSilentTick n events ticks last limit) polls
     below : All (λ x. moment_of x.tick x.processor < k) polls
     all : (p y : ℕ) → IsSilentTick n events ticks last limit (poll_of p y) → moment_of y p < k → Contains polls (poll_of p y)
-    apart : (i j : ℕ) (d : IdleTick) → i < j → j < length polls → ¬ (moment_of (slice_index_or polls i d).tick (slice_index_or polls i d).processor ≡ moment_of (slice_index_or polls j d).tick (slice_index_or polls j d).processor)
+    apart : (i j : ℕ) (d : IdleTick) → i < j → j < length polls
+        → ¬ (moment_of (slice_index_or polls i d).tick (slice_index_or polls i d).processor ≡ moment_of
+        (slice_index_or polls j d).tick (slice_index_or polls j d).processor)
 
   abbrev poll_at : ℕ → IdleTick
   poll_at k = poll_of (k % MAX_PROCESSORS + 1) (k / MAX_PROCESSORS)
@@ -124,7 +129,10 @@ module _ (n : ℕ) (events : List Event) (ticks : List ℕ) (last limit : ℕ) (
   one-more few k r s = record {
     polls = poll_at k ∷ r.polls;
     each = All-cons (IsSilentTick n events ticks last limit) (poll_at k) r.polls s r.each;
-    below = All-cons (λ x. moment_of x.tick x.processor < suc k) (poll_at k) r.polls (let e = poll-moment k in omega arith) (All-weaker (λ x. moment_of x.tick x.processor < k) (λ x. moment_of x.tick x.processor < suc k) (λ x l. omega arith) r.polls r.below);
+    below = All-cons (λ x. moment_of x.tick x.processor < suc k) (poll_at k) r.polls
+        (let e = poll-moment k in omega arith)
+        (All-weaker (λ x. moment_of x.tick x.processor < k) (λ x. moment_of x.tick x.processor < suc k)
+        (λ x l. omega arith) r.polls r.below);
     all = all;
     apart = apart;
   } where
@@ -137,7 +145,10 @@ module _ (n : ℕ) (events : List Event) (ticks : List ℕ) (last limit : ℕ) (
       | inr d ↦ Contains-rest (poll_at k) (poll_of p y) r.polls (r.all p y h (omega (arith, d, l)))
     ]
 
-    apart : (i j : ℕ) (d : IdleTick) → i < j → j < length (poll_at k ∷ r.polls) → ¬ (moment_of (slice_index_or (poll_at k ∷ r.polls) i d).tick (slice_index_or (poll_at k ∷ r.polls) i d).processor ≡ moment_of (slice_index_or (poll_at k ∷ r.polls) j d).tick (slice_index_or (poll_at k ∷ r.polls) j d).processor)
+    apart : (i j : ℕ) (d : IdleTick) → i < j → j < length (poll_at k ∷ r.polls)
+        → ¬ (moment_of (slice_index_or (poll_at k ∷ r.polls) i d).tick
+        (slice_index_or (poll_at k ∷ r.polls) i d).processor ≡ moment_of
+        (slice_index_or (poll_at k ∷ r.polls) j d).tick (slice_index_or (poll_at k ∷ r.polls) j d).processor)
     apart i zero d l m e = absurd (omega arith)
     apart zero (suc j) d l m e = let b = r.below j d (omega arith) in let c = poll-moment k in omega arith
     apart (suc i) (suc j) d l m e = r.apart i j d (omega arith) (omega arith) e
@@ -173,7 +184,9 @@ module _ (n : ℕ) (events : List Event) (ticks : List ℕ) (last limit : ℕ) (
   pub record AllSilent : Type 0 where
     pub polls : List IdleTick
     pub silent : AreSilent n events ticks last limit polls
-    pub apart : (i j : ℕ) (d : IdleTick) → i < j → j < length polls → ¬ (moment_of (slice_index_or polls i d).tick (slice_index_or polls i d).processor ≡ moment_of (slice_index_or polls j d).tick (slice_index_or polls j d).processor)
+    pub apart : (i j : ℕ) (d : IdleTick) → i < j → j < length polls
+        → ¬ (moment_of (slice_index_or polls i d).tick (slice_index_or polls i d).processor ≡ moment_of
+        (slice_index_or polls j d).tick (slice_index_or polls j d).processor)
 
   pub all-silent : n ≤ MAX_PROCESSORS → AllSilent
   all-silent few =

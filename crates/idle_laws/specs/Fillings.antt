@@ -33,9 +33,11 @@ pub record IsSilentTick (n : ℕ) (events : List Event) (ticks : List ℕ) (last
   pub inside : IsInShortSilence events ticks last limit x.processor x.tick
 
 -- the list has the ticks of the short silences of n processors, each of them and no other
-pub record AreSilent (n : ℕ) (events : List Event) (ticks : List ℕ) (last limit : ℕ) (polls : List IdleTick) : Type 0 where
+pub record AreSilent (n : ℕ) (events : List Event) (ticks : List ℕ) (last limit : ℕ)
+    (polls : List IdleTick) : Type 0 where
   pub each : All (IsSilentTick n events ticks last limit) polls
-  pub all : (p y : ℕ) → 1 ≤ p → p ≤ n → IsInShortSilence events ticks last limit p y → Contains polls (record { processor = p; tick = y })
+  pub all : (p y : ℕ) → 1 ≤ p → p ≤ n → IsInShortSilence events ticks last limit p y
+      → Contains polls (record { processor = p; tick = y })
 
 -- the trace of the log alone
 pub record IsPlain (log : Log) (trace : Recorded) : Type 0 where

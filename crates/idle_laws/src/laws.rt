@@ -15,12 +15,15 @@ ghost use Rattle.idle_laws.specs.Fillings.{IsFull, IsPlain, IsSparse, Log};
 ///
 /// Theorems over the definitions: they quantify over all logs, limits, sets, ticks and bounds. Calling it does nothing.
 pub fn delta_laws()
-    ensures holds { (log : Log) (limit set g d : ℕ) (sparse full : Recorded) → IsSparse log limit sparse
+    ensures holds { (log : Log) (limit set g d : ℕ) (sparse full : Recorded)
+        → IsSparse log limit sparse
         → IsFull log limit full → (DeltaHolds set sparse g d ↔ DeltaHolds set full g d) }
-    ensures least { (log : Log) (limit set g d : ℕ) (sparse full : Recorded) → IsSparse log limit sparse
-        → IsFull log limit full → (IsDelta set sparse g d ↔ IsDelta set full g d) }
-    ensures plain { (log : Log) (limit set g d : ℕ) (sparse plain : Recorded) → IsSparse log limit sparse
-        → IsPlain log plain → DeltaHolds set sparse g d → DeltaHolds set plain g d }
+    ensures least { (log : Log) (limit set g d : ℕ) (sparse full : Recorded)
+        → IsSparse log limit sparse → IsFull log limit full
+        → (IsDelta set sparse g d ↔ IsDelta set full g d) }
+    ensures plain { (log : Log) (limit set g d : ℕ) (sparse plain : Recorded)
+        → IsSparse log limit sparse → IsPlain log plain → DeltaHolds set sparse g d
+        → DeltaHolds set plain g d }
 {}
 
 /// The processor bounds of a log with receives of nothing.
@@ -32,14 +35,18 @@ pub fn delta_laws()
 ///
 /// Theorems over the definitions, as those of `delta_laws`.
 pub fn phi_laws()
-    ensures holds { (log : Log) (limit set g f : ℕ) (sparse full : Recorded) → IsSparse log limit sparse
-        → IsFull log limit full → 1 ≤ g → limit ≤ f → (PhiHolds set sparse g f ↔ PhiHolds set full g f) }
-    ensures above { (log : Log) (limit set g f : ℕ) (sparse full : Recorded) → IsSparse log limit sparse
-        → IsFull log limit full → 1 ≤ g → limit < f → (IsPhi set sparse g f ↔ IsPhi set full g f) }
-    ensures between { (log : Log) (limit set g f e : ℕ) (sparse full : Recorded) → IsSparse log limit sparse
-        → IsFull log limit full → 1 ≤ g → IsPhi set sparse g f → IsPhi set full g e → (e ≤ f) × (f ≤ max e limit) }
-    ensures plain { (log : Log) (limit set g f : ℕ) (sparse plain : Recorded) → IsSparse log limit sparse
-        → IsPlain log plain → PhiHolds set plain g f → PhiHolds set sparse g f }
+    ensures holds { (log : Log) (limit set g f : ℕ) (sparse full : Recorded)
+        → IsSparse log limit sparse → IsFull log limit full
+        → 1 ≤ g → limit ≤ f → (PhiHolds set sparse g f ↔ PhiHolds set full g f) }
+    ensures above { (log : Log) (limit set g f : ℕ) (sparse full : Recorded)
+        → IsSparse log limit sparse → IsFull log limit full → 1 ≤ g → limit < f
+        → (IsPhi set sparse g f ↔ IsPhi set full g f) }
+    ensures between { (log : Log) (limit set g f e : ℕ) (sparse full : Recorded)
+        → IsSparse log limit sparse → IsFull log limit full → 1 ≤ g → IsPhi set sparse g f
+        → IsPhi set full g e → (e ≤ f) × (f ≤ max e limit) }
+    ensures plain { (log : Log) (limit set g f : ℕ) (sparse plain : Recorded)
+        → IsSparse log limit sparse → IsPlain log plain → PhiHolds set plain g f
+        → PhiHolds set sparse g f }
 {}
 
 /// The traces of which the other laws speak.
@@ -49,6 +56,7 @@ pub fn phi_laws()
 ///
 /// A theorem over the definitions, as those of `delta_laws`.
 pub fn filling_laws()
-    ensures exists { (log : Log) (limit : ℕ) (sparse : Recorded) → log.n ≤ MAX_PROCESSORS → AreMeant log.events log.n
-        → IsSparse log limit sparse → (full : Recorded) × IsFull log limit full }
+    ensures exists { (log : Log) (limit : ℕ) (sparse : Recorded)
+        → log.n ≤ MAX_PROCESSORS → AreMeant log.events log.n → IsSparse log limit sparse
+        → (full : Recorded) × IsFull log limit full }
 {}

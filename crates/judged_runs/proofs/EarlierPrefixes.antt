@@ -118,8 +118,10 @@ ahead_of_look set trace cut rows decisions due x a monotone sound at report kept
     }
 
 -- Rows of the last ticks set the least deadline of bounds that become old, too.
-pub old_in_sight : (set : ℕ) (trace cut : Recorded) (rows : List Row) (due : Triple → ℕ) (x next after old since least : ℕ) → IsMonotone due → IsTrace cut → IsCutAt trace x cut
-    → AreRowsAfter set cut after rows → (after < since → AreNoEarlier rows due since least) → since ≤ x → x ≤ next → least ≤ old → AreOldLater set trace due x after old → AreOldLater set trace due next since least
+pub old_in_sight : (set : ℕ) (trace cut : Recorded) (rows : List Row) (due : Triple → ℕ)
+    (x next after old since least : ℕ) → IsMonotone due → IsTrace cut → IsCutAt trace x cut
+    → AreRowsAfter set cut after rows → (after < since → AreNoEarlier rows due since least) → since ≤ x → x ≤ next
+    → least ≤ old → AreOldLater set trace due x after old → AreOldLater set trace due next since least
 old_in_sight set trace cut rows due x next after old since least monotone sound at last none order later less earlier = record {
   each = λ t z other l timed there feasible aged. elim (cases_lt after t.gst) [
     | inr before ↦ (let m = earlier.each t z other (omega (arith, later, l)) timed there feasible before in omega (arith, m, less))
@@ -164,7 +166,8 @@ glance_here set trace due a order old = record {
 }
 
 -- so each deadline before y is kept
-pub before_sight : (set : ℕ) (trace : Recorded) (decisions : List Decision) (due : Triple → ℕ) (x y : ℕ) → AreNoneDue set trace due x y → KeepsBefore set trace decisions due x → KeepsBefore set trace decisions due y
+pub before_sight : (set : ℕ) (trace : Recorded) (decisions : List Decision) (due : Triple → ℕ) (x y : ℕ)
+    → AreNoneDue set trace due x y → KeepsBefore set trace decisions due x → KeepsBefore set trace decisions due y
 before_sight set trace decisions due x y none before = record {
   each = λ t cut l sound at feasible. elim (cases_lt (due t) x) [
     | inl m ↦ before.each t cut m sound at feasible
@@ -183,8 +186,10 @@ before_all set trace decisions due x decided before = record {
 }
 
 -- a row that refutes the claim in a prefix is late in time, if each earlier deadline was kept
-pub late_in_time : (set : ℕ) (trace cut : Recorded) (rows : List Row) (decisions : List Decision) (due : Triple → ℕ) (x : ℕ) (w : Late) → IsTrace cut → IsCutAt trace x cut → IsLater due → IsReport set cut rows
-    → KeepsBefore set trace decisions due x → IsFirstLate set cut rows decisions due w → IsLateInTime set trace decisions due w
+pub late_in_time : (set : ℕ) (trace cut : Recorded) (rows : List Row) (decisions : List Decision) (due : Triple → ℕ)
+    (x : ℕ) (w : Late) → IsTrace cut → IsCutAt trace x cut → IsLater due → IsReport set cut rows
+    → KeepsBefore set trace decisions due x → IsFirstLate set cut rows decisions due w
+    → IsLateInTime set trace decisions due w
 late_in_time set trace cut rows decisions due x w sound at later report before late =
     let last = at.last in
     let end = at.extends.last in

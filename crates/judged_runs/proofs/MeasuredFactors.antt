@@ -70,8 +70,11 @@ pub old_times : (set : ℕ) (trace : Recorded) (config : Setup) (start : ℕ) (t
 old_times set trace config start terms product c x after y times = old_same set trace _ _ x after y (λ t. sym (same_times config start terms product c times t))
 
 -- The search goes on after a glance by the formula times the factor.
-pub glanced : (set : ℕ) (trace : Recorded) (decisions : List Decision) (start : ℕ) (terms product : Terms) (c x : ℕ) (a : Ahead) → IsTimes c terms product
-    → KeepsBefore set trace decisions (deadline_times trace.config start terms c) x → IsGlance set trace (deadline trace.config start product) x a → IsAhead set trace decisions (deadline_times trace.config start terms c) a
+pub glanced : (set : ℕ) (trace : Recorded) (decisions : List Decision) (start : ℕ) (terms product : Terms) (c x : ℕ)
+    (a : Ahead) → IsTimes c terms product
+    → KeepsBefore set trace decisions (deadline_times trace.config start terms c) x
+    → IsGlance set trace (deadline trace.config start product) x a
+    → IsAhead set trace decisions (deadline_times trace.config start terms c) a
 glanced set trace decisions start terms product c x a times before glance =
     let same = same_times trace.config start terms product c times in
     record {

@@ -18,7 +18,8 @@ told_factor None = codes "factor none" ++ 10 ∷ []
 told_factor (Some c) = codes "factor" ++ (more c ++ 10 ∷ [])
 
 -- The text is the line of the least factor with which the claim is kept, in the meaning that is demanded.
-pub record IsFactorLine (set : ℕ) (trace : Recorded) (decisions : List Decision) (terms : Terms) (d : Demands) (text : List ℕ) : Type 0 where
+pub record IsFactorLine (set : ℕ) (trace : Recorded) (decisions : List Decision) (terms : Terms) (d : Demands)
+    (text : List ℕ) : Type 0 where
   pub factor : Option ℕ
   pub least : IsFrom (λ c. Keeps d.whole set trace decisions (deadline_times trace.config d.start terms c)) factor
   pub told : text ≡ told_factor factor
@@ -29,7 +30,8 @@ IsAsked true Right text = Right text
 IsAsked false Right text = text ≡ []
 
 -- The text has the details that are asked for: the factor, and then the rows.
-pub record AreDetails (set : ℕ) (trace : Recorded) (decisions : List Decision) (terms : Terms) (d : Demands) (details : Details) (text : List ℕ) : Type 0 where
+pub record AreDetails (set : ℕ) (trace : Recorded) (decisions : List Decision) (terms : Terms) (d : Demands)
+    (details : Details) (text : List ℕ) : Type 0 where
   pub factor : List ℕ
   pub rows : List ℕ
   pub of_factor : IsAsked details.factor (IsFactorLine set trace decisions terms d) factor
@@ -37,7 +39,8 @@ pub record AreDetails (set : ℕ) (trace : Recorded) (decisions : List Decision)
   pub told : text ≡ factor ++ rows
 
 -- This is the verdict, and the text has its line and the details.
-pub record IsJudgement (set : ℕ) (trace : Recorded) (decisions : List Decision) (terms : Terms) (d : Demands) (details : Details) (v : Verdict) (text : List ℕ) : Type 0 where
+pub record IsJudgement (set : ℕ) (trace : Recorded) (decisions : List Decision) (terms : Terms) (d : Demands)
+    (details : Details) (v : Verdict) (text : List ℕ) : Type 0 where
   pub exact : IsVerdict set trace decisions terms d v
   pub after : List ℕ
   pub detailed : AreDetails set trace decisions terms d details after

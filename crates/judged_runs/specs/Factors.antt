@@ -13,7 +13,8 @@ IsNeeded set trace decisions due None = (c : ℕ) → ¬ KeepsClaimInTime set tr
 IsNeeded set trace decisions due (Some needed) = (c : ℕ) → KeepsClaimInTime set trace decisions (due c) → needed ≤ c
 
 -- No smaller factor is enough. With this one the search for a late deadline would go on here.
-pub record IsReached (set : ℕ) (trace : Recorded) (decisions : List Decision) (due : ℕ → Triple → ℕ) (m : Measured) : Type 0 where
+pub record IsReached (set : ℕ) (trace : Recorded) (decisions : List Decision) (due : ℕ → Triple → ℕ)
+    (m : Measured) : Type 0 where
   pub needed : IsNeeded set trace decisions due (Some m.factor)
   pub ahead : IsAhead set trace decisions (due m.factor) m.ahead
 

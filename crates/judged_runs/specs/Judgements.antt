@@ -28,7 +28,8 @@ Keeps true = KeepsClaim
 Keeps false = KeepsClaimInTime
 
 -- the first row of the report that refutes the claim
-pub record IsLateInWhole (set : ℕ) (trace : Recorded) (decisions : List Decision) (deadline : Triple → ℕ) (w : Late) : Type 0 where
+pub record IsLateInWhole (set : ℕ) (trace : Recorded) (decisions : List Decision) (deadline : Triple → ℕ)
+    (w : Late) : Type 0 where
   pub rows : List Row
   pub report : IsReport set trace rows
   pub first : IsFirstLate set trace rows decisions deadline w
@@ -39,7 +40,8 @@ IsRefutedBy true = IsLateInWhole
 IsRefutedBy false = IsLateInTime
 
 -- The claim is kept, and this was tested of it by the rows of the report: at least so many of them are due.
-pub record IsEnough (set : ℕ) (trace : Recorded) (decisions : List Decision) (deadline : Triple → ℕ) (due : ℕ) (tested : Tested) : Type 0 where
+pub record IsEnough (set : ℕ) (trace : Recorded) (decisions : List Decision) (deadline : Triple → ℕ) (due : ℕ)
+    (tested : Tested) : Type 0 where
   pub rows : List Row
   pub report : IsReport set trace rows
   pub tested_is : IsTested set trace rows decisions deadline tested
@@ -54,13 +56,18 @@ pub record AreTooFew (set : ℕ) (trace : Recorded) (deadline : Triple → ℕ) 
 
 -- nothing is wrong with the decisions, and the claim is kept
 abbrev pub AreKept : ℕ → Recorded → List Decision → Terms → Demands → Type 0
-AreKept set trace decisions terms d = AreSound set trace.config.init decisions d.valid × Keeps d.whole set trace decisions (deadline trace.config d.start terms)
+AreKept set trace decisions terms d = AreSound set trace.config.init decisions d.valid
+    × Keeps d.whole set trace decisions (deadline trace.config d.start terms)
 
 -- The verdict names the first thing that is wrong: of agreement, of validity if it was asked, of the claim, and of how
 -- much was tested.
 abbrev pub IsVerdict : ℕ → Recorded → List Decision → Terms → Demands → Verdict → Type 0
-IsVerdict set trace decisions terms d (Yes tested) = AreKept set trace decisions terms d × IsEnough set trace decisions (deadline trace.config d.start terms) d.due tested
+IsVerdict set trace decisions terms d (Yes tested) = AreKept set trace decisions terms d
+    × IsEnough set trace decisions (deadline trace.config d.start terms) d.due tested
 IsVerdict set trace decisions terms d (Differ a b) = AreFirstToDiffer set decisions a b
-IsVerdict set trace decisions terms d (Foreign x) = IsTrue d.valid × Agree set decisions × IsFirstForeign set trace.config.init decisions x
-IsVerdict set trace decisions terms d (LateBy w) = AreSound set trace.config.init decisions d.valid × IsRefutedBy d.whole set trace decisions (deadline trace.config d.start terms) w
-IsVerdict set trace decisions terms d (Untested count) = AreKept set trace decisions terms d × AreTooFew set trace (deadline trace.config d.start terms) d.due count
+IsVerdict set trace decisions terms d (Foreign x) = IsTrue d.valid × Agree set decisions
+    × IsFirstForeign set trace.config.init decisions x
+IsVerdict set trace decisions terms d (LateBy w) = AreSound set trace.config.init decisions d.valid
+    × IsRefutedBy d.whole set trace decisions (deadline trace.config d.start terms) w
+IsVerdict set trace decisions terms d (Untested count) = AreKept set trace decisions terms d
+    × AreTooFew set trace (deadline trace.config d.start terms) d.due count

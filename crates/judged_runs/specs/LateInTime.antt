@@ -14,12 +14,15 @@ use Rattle.judged_runs.specs.declared.prefixes.Looked.{Looked}
 use Rattle.judged_runs.specs.declared.prefixes.Looked.TheVariants.{LateBy, GoOn}
 
 -- the deadlines before tick x are kept in time
-pub record KeepsBefore (set : ℕ) (trace : Recorded) (decisions : List Decision) (deadline : Triple → ℕ) (x : ℕ) : Type 0 where
-  pub each : (t : Triple) (cut : Recorded) → deadline t < x → IsTrace cut → IsCutAt trace (deadline t) cut → IsFeasible set cut t → HaveDecidedBy set decisions (deadline t)
+pub record KeepsBefore (set : ℕ) (trace : Recorded) (decisions : List Decision) (deadline : Triple → ℕ)
+    (x : ℕ) : Type 0 where
+  pub each : (t : Triple) (cut : Recorded) → deadline t < x → IsTrace cut → IsCutAt trace (deadline t) cut
+      → IsFeasible set cut t → HaveDecidedBy set decisions (deadline t)
 
 -- The bounds of the row hold from its stabilization time up to the deadline, a tick of the trace. The processor is the
 -- least member that had not decided by it. Each earlier deadline was kept.
-pub record IsLateInTime (set : ℕ) (trace : Recorded) (decisions : List Decision) (deadline : Triple → ℕ) (w : Late) : Type 0 where
+pub record IsLateInTime (set : ℕ) (trace : Recorded) (decisions : List Decision) (deadline : Triple → ℕ)
+    (w : Late) : Type 0 where
   pub by : w.deadline ≡ deadline (triple_of w.row)
   pub due : w.deadline ≤ trace.last
   pub proc : IsLeastUndecided set decisions w.deadline w.proc
@@ -29,20 +32,24 @@ pub record IsLateInTime (set : ℕ) (trace : Recorded) (decisions : List Decisio
 -- No bounds that hold from tick `after` or an earlier one on, in a prefix that ends in tick x or later, have a deadline
 -- before tick y.
 pub record AreOldLater (set : ℕ) (trace : Recorded) (deadline : Triple → ℕ) (x after y : ℕ) : Type 0 where
-  pub each : (t : Triple) (z : ℕ) (cut : Recorded) → x ≤ z → IsTrace cut → IsCutAt trace z cut → IsFeasible set cut t → t.gst ≤ after → y ≤ deadline t
+  pub each : (t : Triple) (z : ℕ) (cut : Recorded) → x ≤ z → IsTrace cut → IsCutAt trace z cut → IsFeasible set cut t
+      → t.gst ≤ after → y ≤ deadline t
 
 -- No deadline falls into a tick from x on that is before y.
 pub record AreNoneDue (set : ℕ) (trace : Recorded) (deadline : Triple → ℕ) (x y : ℕ) : Type 0 where
-  pub each : (t : Triple) (cut : Recorded) → x ≤ deadline t → deadline t < y → IsTrace cut → IsCutAt trace (deadline t) cut → ¬ IsFeasible set cut t
+  pub each : (t : Triple) (cut : Recorded) → x ≤ deadline t → deadline t < y → IsTrace cut
+      → IsCutAt trace (deadline t) cut → ¬ IsFeasible set cut t
 
--- A glance at the prefix that ends in tick x goes on there: no deadline is due before, and none of old bounds is earlier than that.
+-- A glance at the prefix that ends in tick x goes on there: no deadline is due before, and none of old bounds is
+-- earlier than that.
 pub record IsGlance (set : ℕ) (trace : Recorded) (deadline : Triple → ℕ) (x : ℕ) (a : Ahead) : Type 0 where
   pub none : AreNoneDue set trace deadline x a.tick
   pub order : a.after ≤ a.tick
   pub old : AreOldLater set trace deadline a.tick a.after a.old
 
 -- A search goes on at this tick: each deadline before it is kept, and none of old bounds is earlier than that.
-pub record IsAhead (set : ℕ) (trace : Recorded) (decisions : List Decision) (deadline : Triple → ℕ) (a : Ahead) : Type 0 where
+pub record IsAhead (set : ℕ) (trace : Recorded) (decisions : List Decision) (deadline : Triple → ℕ)
+    (a : Ahead) : Type 0 where
   pub before : KeepsBefore set trace decisions deadline a.tick
   pub order : a.after ≤ a.tick
   pub old : AreOldLater set trace deadline a.tick a.after a.old
@@ -56,7 +63,8 @@ IsLook set trace decisions deadline x (GoOn next) = (x < next.tick) × IsAhead s
 abbrev pub begun_after : ℕ → Triple
 begun_after x = record { gst = x + 1; delta = 1; phi = 1 }
 
--- A tick after x. If it isn't the next one, no row that begins by x has an earlier deadline, and no bounds that hold from a tick after x on.
+-- A tick after x. If it isn't the next one, no row that begins by x has an earlier deadline, and no bounds that hold
+-- from a tick after x on.
 pub record IsNextTick (rows : List Row) (deadline : Triple → ℕ) (x next : ℕ) : Type 0 where
   pub later : x < next
   pub of_rows : x + 1 < next → (k : ℕ) (r : Row) → slice_get rows k ≡ Some r → r.gst ≤ x → next ≤ deadline (triple_of r)
@@ -71,7 +79,8 @@ pub record AreFalling (rows : List Row) : Type 0 where
   pub delta : (j k : ℕ) (a b : Row) → j < k → slice_get rows j ≡ Some a → slice_get rows k ≡ Some b → b.delta ≤ a.delta
   pub phi : (j k : ℕ) (a b : Row) → j < k → slice_get rows j ≡ Some a → slice_get rows k ≡ Some b → b.phi ≤ a.phi
 
--- The search goes on at such a tick, after the prefix that ends in tick x. By these rows none of old bounds has an earlier deadline.
+-- The search goes on at such a tick, after the prefix that ends in tick x. By these rows none of old bounds has an
+-- earlier deadline.
 pub record IsNextLook (rows : List Row) (deadline : Triple → ℕ) (x : ℕ) (a : Ahead) : Type 0 where
   pub tick : IsNextTick rows deadline x a.tick
   pub order : a.after ≤ x

@@ -1,5 +1,6 @@
 -- The text of a list of runs: a header, and a record for each run; and its first refusal, record by record (own).
-use Rattle.std.specs.Prelude.{ℕ, ◌≡◌, ◌<◌, ◌+◌, List, [], ◌∷◌, ◌++◌, length, Option, Some, None, Result, Ok, Err, Bool, true, false, ◌==◌, ◌&&◌, if◌then◌else◌, nat_le, nat_lt, is_ok, codes}
+use Rattle.std.specs.Prelude.{ℕ, ◌≡◌, ◌<◌, ◌+◌, List, [], ◌∷◌, ◌++◌, length, Option, Some, None, Result, Ok, Err}
+use Rattle.std.specs.Prelude.{Bool, true, false, ◌==◌, ◌&&◌, if◌then◌else◌, nat_le, nat_lt, is_ok, codes}
 use Rattle.std.specs.Str.{bytes_eq}
 use Rattle.std.proofs.Common.{refl, arith, length-append}
 use Rattle.trace_text.specs.declared.byte_loops.TheConstants.{MAX_TEXT_BYTES}
@@ -9,17 +10,24 @@ use Rattle.trace_text.specs.Records.{GivesUnless, after_records, field_of, recor
 use Rattle.trace_text.specs.Records as texts
 use Rattle.judged_runs.specs.declared.run_lists.TheConstants.{MAX_RUNS}
 use Rattle.judged_runs.specs.declared.refusals.RunListError.{RunListError}
-use Rattle.judged_runs.specs.declared.refusals.RunListError.TheVariants.{TooLarge, BadHeader, TooMany, BadFields, Memory}
+use Rattle.judged_runs.specs.declared.refusals.RunListError.TheVariants.{TooLarge, BadHeader, TooMany}
+use Rattle.judged_runs.specs.declared.refusals.RunListError.TheVariants.{BadFields, Memory}
 use Rattle.judged_runs.specs.Listed.{Listed, SoFar}
 
 -- whether the record has the names of the columns: trace, decisions, correct, start
 abbrev pub is_header : List (List ℕ) → Bool
-is_header fields = (length fields == 4) && (bytes_eq (field_of fields 0) (codes "trace") && (bytes_eq (field_of fields 1) (codes "decisions")
+is_header fields = (length fields == 4) &&
+    (bytes_eq (field_of fields 0) (codes "trace") && (bytes_eq (field_of fields 1) (codes "decisions")
     && (bytes_eq (field_of fields 2) (codes "correct") && bytes_eq (field_of fields 3) (codes "start"))))
 
 -- the run that the fields of a record say
 abbrev pub listed : List (List ℕ) → Listed
-listed fields = record { trace = field_of fields 0; decisions = field_of fields 1; correct = field_of fields 2; start = field_of fields 3 }
+listed fields = record {
+  trace = field_of fields 0;
+  decisions = field_of fields 1;
+  correct = field_of fields 2;
+  start = field_of fields 3;
+}
 
 -- the run that a record of this number says, if it has four fields
 abbrev pub run_of : ℕ → List (List ℕ) → Result Listed RunListError
@@ -81,10 +89,12 @@ not_four front more long =
       apart n h = grind arith
 
 -- and is refused as soon as it has them
-long_after : (runs : Option (List Listed)) (front : List (List ℕ)) → MAX_FIELDS < length front → (e : RunListError) × ((more : List (List ℕ)) → runs_after runs (front ++ more) ≡ Err e)
+long_after : (runs : Option (List Listed)) (front : List (List ℕ)) → MAX_FIELDS < length front
+    → (e : RunListError) × ((more : List (List ℕ)) → runs_after runs (front ++ more) ≡ Err e)
 long_after None front long = (BadHeader, λ more. (let other = not_four front more long in rw other refl))
 long_after (Some runs) front long = go (nat_lt MAX_RUNS (length runs + 1)) refl where
-  go : (b : Bool) → nat_lt MAX_RUNS (length runs + 1) ≡ b → (e : RunListError) × ((more : List (List ℕ)) → runs_after (Some runs) (front ++ more) ≡ Err e)
+  go : (b : Bool) → nat_lt MAX_RUNS (length runs + 1) ≡ b
+      → (e : RunListError) × ((more : List (List ℕ)) → runs_after (Some runs) (front ++ more) ≡ Err e)
   go true many = (TooMany, λ more. (rw many refl))
   go false few = (BadFields (length runs + 1), λ more. (let other = not_four front more long in rw (few, other) refl))
 

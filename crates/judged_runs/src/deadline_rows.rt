@@ -28,7 +28,8 @@ pub(crate) fn rows_text(
     start: u64,
     formula: &Formula,
 ) -> Result<String, AllocError>
-    ensures { IfOk result (λ text. string_bytes text ≡ told_rows trace.now (deadline trace.now.config start formula.now) decided rows.now) }
+    ensures { IfOk result (λ text. string_bytes text ≡ told_rows trace.now
+        (deadline trace.now.config start formula.now) decided rows.now) }
 {
     let mut text = String::from_str(alloc, HEADER)?;
     for row in rows {

@@ -3,7 +3,9 @@
 ghost use Rattle.std.specs.Prelude.{◌≡◌, ◌≤◌, ◌+◌, false, MatchResult, Some, Ok, Err, length, is_ok};
 ghost use Rattle.csv.specs.Records.{fields_of};
 ghost use Rattle.trace_text.specs.Records.{ReachesUnless, WantsOnlyWhere, records_of_text};
-ghost use Rattle.judged_runs.specs.DecisionTexts.{Gives, decision_of, decisions_at_end, decisions_of_records, decisions_of_text, is_header, is_memory, next_decisions, of_numbers, record_keeps, refuses_long, with_decision};
+ghost use Rattle.judged_runs.specs.DecisionTexts.{Gives, decision_of, decisions_at_end, decisions_of_records};
+ghost use Rattle.judged_runs.specs.DecisionTexts.{decisions_of_text, is_header, is_memory, next_decisions, of_numbers};
+ghost use Rattle.judged_runs.specs.DecisionTexts.{record_keeps, refuses_long, with_decision};
 
 use crate::refusals::DecisionsError;
 use csv::ByteRecord;
@@ -31,7 +33,8 @@ impl Model for Reading {
 
     ghost Value = { SoFar };
 
-    ghost view = { λ a. record { n = a.n; last = a.last; decisions = option_map (λ v. v.items) a.decisions } };
+    ghost view = { λ a.
+        record { n = a.n; last = a.last; decisions = option_map (λ v. v.items) a.decisions } };
 }
 
 /// The decisions that a text has, in its order, of a run with so many processors and with this last tick.
@@ -120,7 +123,8 @@ fn take_decision(
     fields: &ByteRecord,
 ) -> Result<(), DecisionsError>
     ensures decision { ReachesUnless is_memory result (Some decisions.new.items)
-        (with_decision decisions.old.items (decision_of n last (length decisions.old.items + 1) (fields_of fields.now))) }
+        (with_decision decisions.old.items
+        (decision_of n last (length decisions.old.items + 1) (fields_of fields.now))) }
     ensures more { WantsOnlyWhere is_memory result
         (is_ok (decision_of n last (length decisions.old.items + 1) (fields_of fields.now))) }
 {

@@ -44,7 +44,8 @@ pub fn judgement_of(
     details: Details,
 ) -> Result<Judgement, AllocError>
     requires { IsWithin set trace.now.config.n }
-    ensures { IfOk result (λ j. IsJudgement set trace.now decisions.now formula.now demands details j.verdict (string_bytes j.text)) }
+    ensures { IfOk result (λ j. IsJudgement set trace.now decisions.now formula.now demands details
+        j.verdict (string_bytes j.text)) }
 {
     let verdict = judge(alloc, trace, set, decisions, formula, demands)?;
     let mut text = verdict_text(alloc, verdict)?;
@@ -64,7 +65,9 @@ fn details_text(
     details: Details,
 ) -> Result<String, AllocError>
     requires { IsWithin set trace.now.config.n }
-    ensures text { IfOk result (λ text. AreDetails set trace.now decisions.now formula.now demands details (string_bytes text)) }
+    ensures text { IfOk result
+        (λ text. AreDetails set trace.now decisions.now formula.now demands details
+        (string_bytes text)) }
     ensures more { OnErr result (IsTrue details.factor ⊎ IsTrue details.rows) }
 {
     let mut text = String::new(alloc);
@@ -89,7 +92,8 @@ fn factor_line(
     demands: Demands,
 ) -> Result<String, AllocError>
     requires { IsWithin set trace.now.config.n }
-    ensures { IfOk result (λ text. IsFactorLine set trace.now decisions.now formula.now demands (string_bytes text)) }
+    ensures { IfOk result
+        (λ text. IsFactorLine set trace.now decisions.now formula.now demands (string_bytes text)) }
 {
     let Demands { start, whole, .. } = demands;
     let factor = factor_for(alloc, trace, set, decisions, start, formula, whole)?;
@@ -106,7 +110,8 @@ fn report_rows(
     start: u64,
 ) -> Result<String, AllocError>
     requires { IsWithin set trace.now.config.n }
-    ensures { IfOk result (λ text. IsRowsText set trace.now decisions.now (deadline trace.now.config start formula.now) (string_bytes text)) }
+    ensures { IfOk result (λ text. IsRowsText set trace.now decisions.now
+        (deadline trace.now.config start formula.now) (string_bytes text)) }
 {
     let stairs = Stairs::of_trace(alloc, trace, set)?;
     let report = front(alloc, &stairs)?;

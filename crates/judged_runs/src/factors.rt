@@ -40,7 +40,9 @@ pub fn factor_for(
     whole: bool,
 ) -> Result<Option<u64>, AllocError>
     requires { IsWithin set trace.now.config.n }
-    ensures { IfOk result (IsFrom (λ c. Keeps whole set trace.now decisions.now (deadline_times trace.now.config start formula.now c))) }
+    ensures { IfOk result
+        (IsFrom (λ c. Keeps whole set trace.now decisions.now
+        (deadline_times trace.now.config start formula.now c))) }
 {
     if whole {
         least_factor_in_whole(alloc, trace, set, decisions, start, formula)
@@ -59,7 +61,9 @@ fn least_factor_in_whole(
     formula: &Formula,
 ) -> Result<Option<u64>, AllocError>
     requires { IsWithin set trace.now.config.n }
-    ensures { IfOk result (IsFrom (λ c. KeepsClaim set trace.now decisions.now (deadline_times trace.now.config start formula.now c))) }
+    ensures { IfOk result
+        (IsFrom (λ c. KeepsClaim set trace.now decisions.now
+        (deadline_times trace.now.config start formula.now c))) }
 {
     let stairs = Stairs::of_trace(alloc, trace, set)?;
     let report = front(alloc, &stairs)?;
@@ -82,7 +86,9 @@ pub fn least_factor_in_time(
     start: u64,
     formula: &Formula,
 ) -> Result<Option<u64>, AllocError>
-    ensures factor { IfOk result (IsFrom (λ c. KeepsClaimInTime set trace.now decisions.now (deadline_times trace.now.config start formula.now c))) }
+    ensures factor { IfOk result
+        (IsFrom (λ c. KeepsClaimInTime set trace.now decisions.now
+        (deadline_times trace.now.config start formula.now c))) }
     ensures more { OnErr result (¬ HaveDecidedBy set decisions.now 0) }
 {
     let end = undecided_until(set, decisions, trace.last_tick());
@@ -103,7 +109,8 @@ fn needed_by_some(
     end: u64,
 ) -> Result<Option<u64>, AllocError>
     requires { end ≤ trace.now.last + 1 }
-    ensures needed { IfOk result (IsNeeded set trace.now decisions.now (deadline_times trace.now.config start formula.now)) }
+    ensures needed { IfOk result
+        (IsNeeded set trace.now decisions.now (deadline_times trace.now.config start formula.now)) }
     ensures more { OnErr result (0 < end) }
 {
     let mut analyst = PrefixAnalyst::new(trace, set);
@@ -132,7 +139,9 @@ fn needed_at(
     x: u64,
 ) -> Result<Option<u64>, AllocError>
     requires { x ≤ analyst.old.seen.last }
-    ensures needed { IfOk result (IsNeeded analyst.old.set analyst.old.seen decisions.now (deadline_times analyst.old.seen.config start formula.now)) }
+    ensures needed { IfOk result
+        (IsNeeded analyst.old.set analyst.old.seen decisions.now
+        (deadline_times analyst.old.seen.config start formula.now)) }
     ensures same { analyst.new ≡ analyst.old }
 {
     let report = report_until(alloc, analyst, x)?;
@@ -155,8 +164,11 @@ fn least_from(
 ) -> Result<Option<u64>, AllocError>
     requires inside { end ≤ trace.now.last + 1 }
     requires decided { (y : ℕ) → end ≤ y → y ≤ trace.now.last → HaveDecidedBy set decisions.now y }
-    requires needed { IsNeeded set trace.now decisions.now (deadline_times trace.now.config start formula.now) (Some needed) }
-    ensures factor { IfOk result (IsFrom (λ c. KeepsClaimInTime set trace.now decisions.now (deadline_times trace.now.config start formula.now c))) }
+    requires needed { IsNeeded set trace.now decisions.now
+        (deadline_times trace.now.config start formula.now) (Some needed) }
+    ensures factor { IfOk result
+        (IsFrom (λ c. KeepsClaimInTime set trace.now decisions.now
+        (deadline_times trace.now.config start formula.now c))) }
     ensures more { OnErr result (0 < end) }
 {
     let mut analyst = PrefixAnalyst::new(trace, set);
@@ -186,8 +198,11 @@ fn measure_at(
     so_far: Measured,
 ) -> Result<Option<Measured>, AllocError>
     requires inside { so_far.ahead.tick ≤ analyst.old.seen.last }
-    requires reached { IsReached analyst.old.set analyst.old.seen decisions.now (deadline_times analyst.old.seen.config start formula.now) so_far }
-    ensures measured { IfOk result (IsMeasured analyst.old.set analyst.old.seen decisions.now (deadline_times analyst.old.seen.config start formula.now) so_far.ahead.tick) }
+    requires reached { IsReached analyst.old.set analyst.old.seen decisions.now
+        (deadline_times analyst.old.seen.config start formula.now) so_far }
+    ensures measured { IfOk result
+        (IsMeasured analyst.old.set analyst.old.seen decisions.now
+        (deadline_times analyst.old.seen.config start formula.now) so_far.ahead.tick) }
     ensures same { analyst.new ≡ analyst.old }
 {
     let times = formula.times(alloc, so_far.factor)?;
@@ -208,8 +223,11 @@ fn measure_all(
     so_far: Measured,
 ) -> Result<Option<Measured>, AllocError>
     requires inside { so_far.ahead.tick ≤ analyst.old.seen.last }
-    requires reached { IsReached analyst.old.set analyst.old.seen decisions.now (deadline_times analyst.old.seen.config start formula.now) so_far }
-    ensures measured { IfOk result (IsMeasured analyst.old.set analyst.old.seen decisions.now (deadline_times analyst.old.seen.config start formula.now) so_far.ahead.tick) }
+    requires reached { IsReached analyst.old.set analyst.old.seen decisions.now
+        (deadline_times analyst.old.seen.config start formula.now) so_far }
+    ensures measured { IfOk result
+        (IsMeasured analyst.old.set analyst.old.seen decisions.now
+        (deadline_times analyst.old.seen.config start formula.now) so_far.ahead.tick) }
     ensures same { analyst.new ≡ analyst.old }
 {
     let x = so_far.ahead.tick;

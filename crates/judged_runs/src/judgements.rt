@@ -111,9 +111,15 @@ fn late_by(
 ) -> Result<Option<Late>, AllocError>
     requires set { IsWithin set trace.now.config.n }
     requires report { IsReport set trace.now rows.now }
-    ensures late { IfOk result (λ found. IfSome found (IsRefutedBy demands.whole set trace.now decisions.now (deadline trace.now.config demands.start formula.now))) }
-    ensures kept { IfOk result (λ found. IsNone found → Keeps demands.whole set trace.now decisions.now (deadline trace.now.config demands.start formula.now)) }
-    ensures rows { IfOk result (λ found. IsNone found → AllKept set trace.now rows.now decisions.now (deadline trace.now.config demands.start formula.now)) }
+    ensures late { IfOk result
+        (λ found. IfSome found (IsRefutedBy demands.whole set trace.now decisions.now
+        (deadline trace.now.config demands.start formula.now))) }
+    ensures kept { IfOk result (λ found. IsNone found
+        → Keeps demands.whole set trace.now decisions.now
+        (deadline trace.now.config demands.start formula.now)) }
+    ensures rows { IfOk result (λ found. IsNone found
+        → AllKept set trace.now rows.now decisions.now
+        (deadline trace.now.config demands.start formula.now)) }
 {
     if demands.whole {
         let end = trace.last_tick();

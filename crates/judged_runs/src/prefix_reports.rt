@@ -25,7 +25,8 @@ pub(crate) fn report_until(
     tick: u64,
 ) -> Result<Report, AllocError>
     requires { tick ≤ analyst.old.seen.last }
-    ensures report { IfOk result (λ report. (cut : Recorded) → IsTrace cut → IsCutAt analyst.old.seen tick cut → IsReport analyst.old.set cut report.rows) }
+    ensures report { IfOk result (λ report. (cut : Recorded) → IsTrace cut
+        → IsCutAt analyst.old.seen tick cut → IsReport analyst.old.set cut report.rows) }
     ensures same { analyst.new ≡ analyst.old }
     ensures sound { IsTrace analyst.old.seen }
 {
@@ -46,7 +47,8 @@ pub(crate) fn rows_after(
 ) -> Result<Vec<Row>, AllocError>
     requires order { after < tick }
     requires inside { tick ≤ analyst.old.seen.last }
-    ensures rows { IfOk result (λ rows. (cut : Recorded) → IsTrace cut → IsCutAt analyst.old.seen tick cut → AreRowsAfter analyst.old.set cut after rows.items) }
+    ensures rows { IfOk result (λ rows. (cut : Recorded) → IsTrace cut
+        → IsCutAt analyst.old.seen tick cut → AreRowsAfter analyst.old.set cut after rows.items) }
     ensures same { analyst.new ≡ analyst.old }
     ensures sound { IsTrace analyst.old.seen }
 {

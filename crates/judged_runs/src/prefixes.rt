@@ -1,6 +1,7 @@
 //! The search for a deadline that wasn't kept in time, by the prefixes of a run.
 
-ghost use Rattle.std.specs.Prelude.{ℕ, List, ◌≡◌, ◌≤◌, ◌<◌, ◌+◌, ◌↔◌, IfOk, IfSome, IsNone, MatchOption, OnErr, OnOk, max, min};
+ghost use Rattle.std.specs.Prelude.{ℕ, List, ◌≡◌, ◌≤◌, ◌<◌, ◌+◌, ◌↔◌, IfOk, IfSome};
+ghost use Rattle.std.specs.Prelude.{IsNone, MatchOption, OnErr, OnOk, max, min};
 ghost use Rattle.step_trace.specs.Fronts.{Triple, triple_of};
 ghost use Rattle.step_trace.specs.Traces.{Recorded};
 ghost use Rattle.step_trace.specs.declared.traces.TheConstants.{MAX_TICKS};
@@ -8,7 +9,8 @@ ghost use Rattle.decision_claims.specs.declared.decisions.Decision.{Decision as 
 ghost use Rattle.decision_claims.specs.Decisions.{HaveDecidedBy};
 ghost use Rattle.decision_claims.specs.Formulas.{deadline};
 ghost use Rattle.decision_claims.specs.Claims.{KeepsClaim, KeepsClaimInTime};
-ghost use Rattle.judged_runs.specs.LateInTime.{AreFalling, AreNoEarlier, AreOldLater, IsAhead, IsGlance, IsLateInTime, IsLook, IsNextLook, IsNextTick, KeepsBefore, begun_after};
+ghost use Rattle.judged_runs.specs.LateInTime.{AreFalling, AreNoEarlier, AreOldLater, IsAhead, IsGlance, IsLateInTime};
+ghost use Rattle.judged_runs.specs.LateInTime.{IsLook, IsNextLook, IsNextTick, KeepsBefore, begun_after};
 
 use crate::prefix_reports::{report_until, rows_after};
 use chunk_join::PrefixAnalyst;
@@ -58,9 +60,15 @@ pub fn first_late_in_time(
     start: u64,
     formula: &Formula,
 ) -> Result<Option<Late>, AllocError>
-    ensures late { IfOk result (λ found. IfSome found (IsLateInTime set trace.now decisions.now (deadline trace.now.config start formula.now))) }
-    ensures kept { IfOk result (λ found. IsNone found ↔ KeepsClaimInTime set trace.now decisions.now (deadline trace.now.config start formula.now)) }
-    ensures whole { IfOk result (λ found. IsNone found → KeepsClaim set trace.now decisions.now (deadline trace.now.config start formula.now)) }
+    ensures late { IfOk result
+        (λ found. IfSome found
+        (IsLateInTime set trace.now decisions.now
+        (deadline trace.now.config start formula.now))) }
+    ensures kept { IfOk result (λ found. IsNone found
+        ↔ KeepsClaimInTime set trace.now decisions.now
+        (deadline trace.now.config start formula.now)) }
+    ensures whole { IfOk result (λ found. IsNone found
+        → KeepsClaim set trace.now decisions.now (deadline trace.now.config start formula.now)) }
     ensures more { OnErr result (¬ HaveDecidedBy set decisions.now 0) }
 {
     let end = undecided_until(set, decisions, trace.last_tick());
@@ -79,7 +87,8 @@ pub fn first_late_in_time(
 
 /// Where each search begins.
 pub(crate) fn beginning() -> Ahead
-    ensures { (set : ℕ) (trace : Recorded) (decisions : List OneDecision) (due : Triple → ℕ) → IsAhead set trace decisions due result }
+    ensures { (set : ℕ) (trace : Recorded) (decisions : List OneDecision) (due : Triple → ℕ)
+        → IsAhead set trace decisions due result }
 {
     Ahead {
         tick: 0,
@@ -119,8 +128,10 @@ fn look_at(
     ahead: Ahead,
 ) -> Result<Looked, AllocError>
     requires inside { ahead.tick ≤ analyst.old.seen.last }
-    requires ahead { IsAhead analyst.old.set analyst.old.seen decisions.now (deadline analyst.old.seen.config start formula.now) ahead }
-    ensures look { IfOk result (IsLook analyst.old.set analyst.old.seen decisions.now (deadline analyst.old.seen.config start formula.now) ahead.tick) }
+    requires ahead { IsAhead analyst.old.set analyst.old.seen decisions.now
+        (deadline analyst.old.seen.config start formula.now) ahead }
+    ensures look { IfOk result (IsLook analyst.old.set analyst.old.seen decisions.now
+        (deadline analyst.old.seen.config start formula.now) ahead.tick) }
     ensures same { analyst.new ≡ analyst.old }
 {
     let next = glance_at(alloc, analyst, start, formula, ahead)?;
@@ -141,8 +152,11 @@ pub(crate) fn glance_at(
 ) -> Result<Ahead, AllocError>
     requires inside { ahead.tick ≤ analyst.old.seen.last }
     requires order { ahead.after ≤ ahead.tick }
-    requires old { AreOldLater analyst.old.set analyst.old.seen (deadline analyst.old.seen.config start formula.now) ahead.tick ahead.after ahead.old }
-    ensures glance { IfOk result (IsGlance analyst.old.set analyst.old.seen (deadline analyst.old.seen.config start formula.now) ahead.tick) }
+    requires old { AreOldLater analyst.old.set analyst.old.seen
+        (deadline analyst.old.seen.config start formula.now) ahead.tick ahead.after ahead.old }
+    ensures glance { IfOk result
+        (IsGlance analyst.old.set analyst.old.seen
+        (deadline analyst.old.seen.config start formula.now) ahead.tick) }
     ensures same { analyst.new ≡ analyst.old }
 {
     let x = ahead.tick;
@@ -174,7 +188,8 @@ fn aged(
     ensures tick { result.tick ≡ tick }
     ensures order { result.after ≤ max ahead.after ahead.tick }
     ensures old { result.old ≤ ahead.old }
-    ensures rows { ahead.after < result.after → AreNoEarlier rows.now (deadline trace.now.config start formula.now) result.after result.old }
+    ensures rows { ahead.after < result.after → AreNoEarlier rows.now
+        (deadline trace.now.config start formula.now) result.after result.old }
 {
     if ahead.tick.saturating_sub(ahead.after) <= MOST {
         return Ahead { tick, ..ahead };
@@ -198,8 +213,10 @@ fn look_at_all(
     x: u64,
 ) -> Result<Looked, AllocError>
     requires inside { x ≤ analyst.old.seen.last }
-    requires before { KeepsBefore analyst.old.set analyst.old.seen decisions.now (deadline analyst.old.seen.config start formula.now) x }
-    ensures look { IfOk result (IsLook analyst.old.set analyst.old.seen decisions.now (deadline analyst.old.seen.config start formula.now) x) }
+    requires before { KeepsBefore analyst.old.set analyst.old.seen decisions.now
+        (deadline analyst.old.seen.config start formula.now) x }
+    ensures look { IfOk result (IsLook analyst.old.set analyst.old.seen decisions.now
+        (deadline analyst.old.seen.config start formula.now) x) }
     ensures same { analyst.new ≡ analyst.old }
 {
     let report = report_until(alloc, analyst, x)?;
@@ -271,7 +288,8 @@ struct Nearest {
 fn before_deadlines(trace: &Trace, start: u64, formula: &Formula, rows: &[Row], until: u64) -> u64
     requires { AreFalling rows.now }
     ensures end { result ≤ trace.now.last + 1 }
-    ensures rows { AreNoEarlier rows.now (deadline trace.now.config start formula.now) until result }
+    ensures rows { AreNoEarlier rows.now (deadline trace.now.config start formula.now)
+        until result }
 {
     let mut nearest = Nearest {
         least: trace.last_tick() + 1,
@@ -292,10 +310,13 @@ fn nearer(
     until: u64,
     nearest: Nearest,
 ) -> Nearest
-    requires time { max row.now.gst start + nearest.time ≤ deadline trace.now.config start formula.now (triple_of row.now) }
+    requires time { max row.now.gst start + nearest.time ≤ deadline trace.now.config start
+        formula.now (triple_of row.now) }
     ensures least { result.least ≤ nearest.least }
-    ensures row { row.now.gst ≤ until → result.least ≤ deadline trace.now.config start formula.now (triple_of row.now) }
-    ensures time { max row.now.gst start + result.time ≤ deadline trace.now.config start formula.now (triple_of row.now) }
+    ensures row { row.now.gst ≤ until
+        → result.least ≤ deadline trace.now.config start formula.now (triple_of row.now) }
+    ensures time { max row.now.gst start + result.time ≤ deadline trace.now.config start formula.now
+        (triple_of row.now) }
 {
     if until < row.gst {
         return nearest;

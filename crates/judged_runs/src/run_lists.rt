@@ -3,7 +3,9 @@
 ghost use Rattle.std.specs.Prelude.{◌≡◌, ◌≤◌, ◌+◌, IfOk, MatchResult, Some, Ok, Err, length, is_ok};
 ghost use Rattle.csv.specs.Records.{fields_of};
 ghost use Rattle.trace_text.specs.Records.{ReachesUnless, WantsOnlyWhere, records_of_text};
-ghost use Rattle.judged_runs.specs.RunLists.{Gives, is_header, is_memory, listed, next_runs, record_keeps, refuses_long, run_of, runs_at_end, runs_of_records, runs_of_text, with_run};
+ghost use Rattle.judged_runs.specs.RunLists.{Gives, is_header, is_memory, listed, next_runs, record_keeps};
+ghost use Rattle.judged_runs.specs.RunLists.{refuses_long, run_of, runs_at_end, runs_of_records, runs_of_text};
+ghost use Rattle.judged_runs.specs.RunLists.{with_run};
 
 use crate::refusals::RunListError;
 use csv::ByteRecord;
@@ -33,7 +35,13 @@ impl Model for ListedRun {
 
     ghost Value = { Listed };
 
-    ghost view = { λ r. record { trace = r.trace.items; decisions = r.decisions.items; correct = r.correct.items; start = r.start.items } };
+    ghost view = { λ r.
+        record {
+          trace = r.trace.items;
+          decisions = r.decisions.items;
+          correct = r.correct.items;
+          start = r.start.items;
+        } };
 }
 
 /// What the records of a list give so far.
@@ -77,7 +85,8 @@ fn runs_in(alloc: Global, text: &[u8]) -> Result<Vec<ListedRun>, RunListError>
 
 /// What the end of the text says.
 fn runs_at_end(reading: Reading) -> Result<Vec<ListedRun>, RunListError>
-    ensures { MatchResult result (λ v. runs_at_end reading ≡ Ok v.items) (λ e. runs_at_end reading ≡ Err e) }
+    ensures { MatchResult result (λ v. runs_at_end reading ≡ Ok v.items)
+        (λ e. runs_at_end reading ≡ Err e) }
 {
     match reading.runs {
         Some(runs) => Ok(runs),
@@ -122,7 +131,8 @@ fn take_run(
 ) -> Result<(), RunListError>
     ensures run { ReachesUnless is_memory result (Some runs.new.items)
         (with_run runs.old.items (run_of (length runs.old.items + 1) (fields_of fields.now))) }
-    ensures more { WantsOnlyWhere is_memory result (is_ok (run_of (length runs.old.items + 1) (fields_of fields.now))) }
+    ensures more { WantsOnlyWhere is_memory result
+        (is_ok (run_of (length runs.old.items + 1) (fields_of fields.now))) }
 {
     test_record(runs.len() as u64 + 1, fields)?;
     let Ok(run) = ListedRun::of(alloc, fields) else {
@@ -147,7 +157,9 @@ fn is_header(fields: &ByteRecord) -> bool
 
 /// Refuses TooMany and then BadFields for a record that is to be the run of this number, from 1.
 fn test_record(no: u64, fields: &ByteRecord) -> Result<(), RunListError>
-    ensures { MatchResult result (λ _. run_of no (fields_of fields.now) ≡ Ok (listed (fields_of fields.now))) (λ e. run_of no (fields_of fields.now) ≡ Err e) }
+    ensures { MatchResult result
+        (λ _. run_of no (fields_of fields.now) ≡ Ok (listed (fields_of fields.now)))
+        (λ e. run_of no (fields_of fields.now) ≡ Err e) }
 {
     if no > MAX_RUNS as u64 {
         return Err(RunListError::TooMany);

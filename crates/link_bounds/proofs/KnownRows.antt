@@ -79,7 +79,8 @@ module _ (members : ℕ) (t : Recorded) (time : IsTimed t) (g done p q : ℕ) (b
         absurd (miss.undelivered ((holds.each m.sent from counts.miss.link).on_time m.missed miss.to miss.message miss.receive (omega arith))))
   ]
 
-  named : (w : Option Miss) → NamesLatest Miss (IsLaterMiss members t p q done) (λ m. m.sent) (λ m. tick_of t m.sent) (λ m. tick_of t m.missed) bound.least w → NamesLinkMiss members t p q g bound.least w
+  named : (w : Option Miss) → NamesLatest Miss (IsLaterMiss members t p q done) (λ m. m.sent) (λ m. tick_of t m.sent)
+      (λ m. tick_of t m.missed) bound.least w → NamesLinkMiss members t p q g bound.least w
   named None h = h
   named (Some m) h = let n = h.1 in let counts = n.counts in (
     h.0,

@@ -25,7 +25,8 @@ pub IsMessage-from_link : (members : ℕ) (steps : List Step) (p q s : ℕ) → 
 IsMessage-from_link members steps p q s m = record { from = p; sent = m.sent; sender = m.sender; receiver = m.receiver }
 
 -- back over a step that is no message of it, nothing changes on a link
-pub KnowsLink-pass : (members : ℕ) (t : Recorded) (p q x : ℕ) (slot : Option (LeastBound Miss)) → 1 ≤ x → ¬ IsMessageOn members t.steps p q x → KnowsLink members t p q x slot → KnowsLink members t p q (x - 1) slot
+pub KnowsLink-pass : (members : ℕ) (t : Recorded) (p q x : ℕ) (slot : Option (LeastBound Miss)) → 1 ≤ x
+    → ¬ IsMessageOn members t.steps p q x → KnowsLink members t p q x slot → KnowsLink members t p q (x - 1) slot
 KnowsLink-pass members t p q x None low other k = λ s later m. elim (cases_eq s x) [
   | inl e ↦ other (subst (λ (n : ℕ). IsMessageOn members t.steps p q n) e m)
   | inr ne ↦ k s (omega (arith, ne)) m
@@ -45,8 +46,10 @@ KnowsLink-pass members t p q x (Some bound) low other k =
       ]
 
 -- the misses from one message on are those of later messages, and its own, of which the last is the longest
-LaterMisses-grow : (members : ℕ) (t : Recorded) (p q x r : ℕ) → 1 ≤ x → IsMessageOn members t.steps p q x → IsLastMissOf members t x r
-    → GrowsBy Miss (λ m. m.sent) (λ m. tick_of t m.sent) (λ m. tick_of t m.missed) (IsLaterMiss members t p q x) (IsLaterMiss members t p q (x - 1)) (record { sent = x; missed = r }) (tick_of t r - tick_of t x)
+LaterMisses-grow : (members : ℕ) (t : Recorded) (p q x r : ℕ) → 1 ≤ x → IsMessageOn members t.steps p q x
+    → IsLastMissOf members t x r → GrowsBy Miss (λ m. m.sent) (λ m. tick_of t m.sent) (λ m. tick_of t m.missed)
+    (IsLaterMiss members t p q x) (IsLaterMiss members t p q (x - 1)) (record { sent = x; missed = r })
+    (tick_of t r - tick_of t x)
 LaterMisses-grow members t p q x r low message last = record {
   still = λ m o. record { miss = o.miss; after = let a = o.after in omega arith };
   before = λ m o some. o.after;
@@ -63,8 +66,10 @@ LaterMisses-grow members t p q x r low message last = record {
 }
 
 -- back over a message of a link, its bound takes the last miss
-pub KnowsLink-note : (members : ℕ) (t : Recorded) (p q x r : ℕ) (slot : Option (LeastBound Miss)) → 1 ≤ x → IsMessageOn members t.steps p q x → IsLastMissOf members t x r → KnowsLink members t p q x slot
-    → KnowsLink members t p q (x - 1) (Some (noted (unwrap_or slot without_evidence) (record { sent = x; missed = r }) (tick_of t r - tick_of t x)))
+pub KnowsLink-note : (members : ℕ) (t : Recorded) (p q x r : ℕ) (slot : Option (LeastBound Miss)) → 1 ≤ x
+    → IsMessageOn members t.steps p q x → IsLastMissOf members t x r → KnowsLink members t p q x slot
+    → KnowsLink members t p q (x - 1)
+    (Some (noted (unwrap_or slot without_evidence) (record { sent = x; missed = r }) (tick_of t r - tick_of t x)))
 KnowsLink-note members t p q x r slot low message last k = ((x, omega arith, message), grown (unwrap_or slot without_evidence) (before slot k)) where
   before : (s : Option (LeastBound Miss)) → KnowsLink members t p q x s → KnowsMissesOf members t p q x (unwrap_or s without_evidence)
   before None none = AllowsAll-nothing Miss (λ m. m.sent) (λ m. tick_of t m.sent) (λ m. tick_of t m.missed) (IsLaterMiss members t p q x) (λ m o. none m.sent o.after o.miss.link)
@@ -88,11 +93,16 @@ one_link members steps p q a b s m n =
     (ap (λ (x : Step). x.proc) same, same_Some q b (ap (λ (x : Step). act_dest x.act) same))
 
 -- back over a message, the bound of its link takes its last miss
-pub links_noted : (members : ℕ) (t : Recorded) (x from to r : ℕ) (bounds : List (Option (LeastBound Miss))) → 1 ≤ x → from ≤ t.config.n → to ≤ MAX_MEMBER → length bounds ≡ (t.config.n + 1) * RECEIVERS
+pub links_noted : (members : ℕ) (t : Recorded) (x from to r : ℕ) (bounds : List (Option (LeastBound Miss))) → 1 ≤ x
+    → from ≤ t.config.n → to ≤ MAX_MEMBER → length bounds ≡ (t.config.n + 1) * RECEIVERS
     → IsMessageOn members t.steps from to x → IsLastMissOf members t x r
     → ((p q : ℕ) → p ≤ t.config.n → q ≤ MAX_MEMBER → KnowsLink members t p q x (get_or bounds (place_of p q) None))
     → (p q : ℕ) → p ≤ t.config.n → q ≤ MAX_MEMBER
-    → KnowsLink members t p q (x - 1) (get_or (set bounds (place_of from to) (Some (noted (unwrap_or (get_or bounds (place_of from to) None) without_evidence) (record { sent = x; missed = r }) (tick_of t r - tick_of t x)))) (place_of p q) None)
+    → KnowsLink members t p q (x - 1)
+    (get_or
+    (set bounds (place_of from to)
+    (Some (noted (unwrap_or (get_or bounds (place_of from to) None) without_evidence)
+    (record { sent = x; missed = r }) (tick_of t r - tick_of t x)))) (place_of p q) None)
 links_noted members t x from to r bounds low inside few long message last k p q a b = elim (cases_eq (place_of p q) (place_of from to)) [
   | inl e ↦ (let same_p : p ≡ from = omega arith in
       let same_q : q ≡ to = omega arith in
@@ -101,7 +111,10 @@ links_noted members t x from to r bounds low inside few long message last k p q 
       (subst (λ (i : ℕ). KnowsLink members t from i (x - 1) (get_or (set bounds (place_of from to) new) (place_of from i) None)) (sym same_q)
       (rw (get_or-set_same bounds (place_of from to) new None place) (KnowsLink-note members t from to x r _ low message last (k from to inside few)))))
   | inr ne ↦ (let other : place_of p q ≢ place_of from to = ne in
-      rw (get_or-set_other bounds (place_of from to) (place_of p q) new None other) (KnowsLink-pass members t p q x _ low (λ m. ne (let same = one_link members t.steps p q from to x m message in let e = same.0 in let f = same.1 in omega arith)) (k p q a b)))
+      rw (get_or-set_other bounds (place_of from to) (place_of p q) new None other)
+      (KnowsLink-pass members t p q x _ low
+      (λ m. ne (let same = one_link members t.steps p q from to x m message in let e = same.0 in
+      let f = same.1 in omega arith)) (k p q a b)))
 ] where
   new : Option (LeastBound Miss)
   new = Some (noted (unwrap_or (get_or bounds (place_of from to) None) without_evidence) (record { sent = x; missed = r }) (tick_of t r - tick_of t x))

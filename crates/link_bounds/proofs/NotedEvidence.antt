@@ -19,7 +19,8 @@ module _ (E : Type 0) (place start end : E → ℕ) where
   AllowsAll-nothing Counts nothing = record { shorter = λ e c. absurd (nothing e c); named = refl }
 
   -- if the same counts, the bound stays
-  pub AllowsAll-same : (Old New : E → Type 0) (bound : LeastBound E) → ((o : E) → Old o → New o) → ((o : E) → New o → Old o) → AllowsAll E Old place start end bound → AllowsAll E New place start end bound
+  pub AllowsAll-same : (Old New : E → Type 0) (bound : LeastBound E) → ((o : E) → Old o → New o)
+      → ((o : E) → New o → Old o) → AllowsAll E Old place start end bound → AllowsAll E New place start end bound
   AllowsAll-same Old New bound still back k = record { shorter = λ e c. k.shorter e (back e c); named = go bound.witness k.named } where
     go : (w : Option E) → NamesLatest E Old place start end bound.least w → NamesLatest E New place start end bound.least w
     go None n = n
@@ -34,7 +35,8 @@ module _ (E : Type 0) (place start end : E → ℕ) where
     pub rest : (o : E) → New o → Old o ⊎ ((end o ≤ start o + long) × (start o + long ≡ end o → place o ≤ place e))
 
   -- the bound then takes this piece, if it allows none so long
-  pub AllowsAll-noted : (Old New : E → Type 0) (e : E) (long : ℕ) (bound : LeastBound E) → GrowsBy Old New e long → AllowsAll E Old place start end bound → AllowsAll E New place start end (noted bound e long)
+  pub AllowsAll-noted : (Old New : E → Type 0) (e : E) (long : ℕ) (bound : LeastBound E) → GrowsBy Old New e long
+      → AllowsAll E Old place start end bound → AllowsAll E New place start end (noted bound e long)
   AllowsAll-noted Old New e long bound grows k = go (nat_le bound.least long) refl where
     positive : 1 ≤ bound.least
     positive = AllowsAll-positive Old bound k

@@ -62,7 +62,9 @@ module _ (members : ℕ) (t : Recorded) (g : ℕ) where
   }
 
   -- no row at this place
-  pub ListsBefore-skip : (k : ℕ) (rows : List BoundRow) → ¬ IsTrue (has_proc members k) → ((p q s : ℕ) → RECEIVERS + place_of p q ≡ k → ¬ IsSentFrom members t p q g s) → ListsBefore members t g k rows → ListsBefore members t g (k + 1) rows
+  pub ListsBefore-skip : (k : ℕ) (rows : List BoundRow) → ¬ IsTrue (has_proc members k)
+      → ((p q s : ℕ) → RECEIVERS + place_of p q ≡ k → ¬ IsSentFrom members t p q g s) → ListsBefore members t g k rows
+      → ListsBefore members t g (k + 1) rows
   ListsBefore-skip k rows none unsent lists = record {
     right = λ r c. (let h = lists.right r c in let below = h.1 in (h.0, omega arith));
     processors = λ p m l. elim (cases_eq p k) [

@@ -26,10 +26,12 @@ pub record KnowsPaces (trace : Recorded) (done : ℕ) (paces : Paces) : Type 0 w
   pub few : trace.config.n ≤ MAX_MEMBER
   pub next : AreNextTicks (λ p. 1 ≤ p) trace done paces.next_steps.items
   pub long : length paces.bounds.items ≡ trace.config.n + 1
-  pub each : (p : ℕ) → 1 ≤ p → p ≤ trace.config.n → KnowsGapsOf trace p (slice_index paces.next_steps.items p) (slice_index_or paces.bounds.items p without_evidence)
+  pub each : (p : ℕ) → 1 ≤ p → p ≤ trace.config.n → KnowsGapsOf trace p (slice_index paces.next_steps.items p)
+      (slice_index_or paces.bounds.items p without_evidence)
 
 -- the bound of p, with the gap from tick g to before its next step if the bound allows none so long
 abbrev pub bound_from : Paces → ℕ → ℕ → LeastBound Gap
 bound_from paces p g =
     let until = slice_index paces.next_steps.items p in
-    noted (slice_index_or paces.bounds.items p without_evidence) (record { proc = p; from = g; to = until - 1 }) (until - g)
+    noted (slice_index_or paces.bounds.items p without_evidence)
+    (record { proc = p; from = g; to = until - 1 }) (until - g)

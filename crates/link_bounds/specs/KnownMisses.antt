@@ -17,12 +17,14 @@ pub record IsLaterMiss (set : ℕ) (trace : Recorded) (p q done : ℕ) (m : Miss
 
 -- all of these misses allow this bound; of equally long ones that of the last message is named
 abbrev pub KnowsMissesOf : ℕ → Recorded → ℕ → ℕ → ℕ → LeastBound Miss → Type 0
-KnowsMissesOf set trace p q done bound = AllowsAll Miss (IsLaterMiss set trace p q done) (λ m. m.sent) (λ m. tick_of trace m.sent) (λ m. tick_of trace m.missed) bound
+KnowsMissesOf set trace p q done bound = AllowsAll Miss (IsLaterMiss set trace p q done) (λ m. m.sent)
+    (λ m. tick_of trace m.sent) (λ m. tick_of trace m.missed) bound
 
 -- what is known of a link after number done: it has no message there, or it has one, and a bound
 abbrev pub KnowsLink : ℕ → Recorded → ℕ → ℕ → ℕ → Option (LeastBound Miss) → Type 0
 KnowsLink set trace p q done None = (s : ℕ) → done < s → ¬ IsMessageOn set trace.steps p q s
-KnowsLink set trace p q done (Some bound) = ((s : ℕ) × (done < s) × IsMessageOn set trace.steps p q s) × KnowsMissesOf set trace p q done bound
+KnowsLink set trace p q done (Some bound) = ((s : ℕ) × (done < s) × IsMessageOn set trace.steps p q s)
+    × KnowsMissesOf set trace p q done bound
 
 -- where the bound of a link is
 abbrev pub place_of : ℕ → ℕ → ℕ
@@ -31,4 +33,5 @@ place_of p q = p * RECEIVERS + q
 -- what is known of all links after number done
 pub record KnowsLinks (set : ℕ) (trace : Recorded) (done : ℕ) (links : Links) : Type 0 where
   pub long : length links.bounds.items ≡ (trace.config.n + 1) * RECEIVERS
-  pub each : (p q : ℕ) → p ≤ trace.config.n → q ≤ MAX_MEMBER → KnowsLink set trace p q done (slice_index_or links.bounds.items (place_of p q) None)
+  pub each : (p q : ℕ) → p ≤ trace.config.n → q ≤ MAX_MEMBER
+      → KnowsLink set trace p q done (slice_index_or links.bounds.items (place_of p q) None)

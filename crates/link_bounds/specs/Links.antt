@@ -20,7 +20,8 @@ pub record IsMessageOn (set : ℕ) (steps : List Step) (p q s : ℕ) : Type 0 wh
   pub sender : IsTrue (has_proc set p)
   pub receiver : IsTrue (has_proc set q)
 
--- The communication bound d holds from tick g on the link from p to q: it holds for each of its messages sent in g or later.
+-- The communication bound d holds from tick g on the link from p to q: it holds for each of its messages sent in g or
+-- later.
 pub record LinkHolds (set : ℕ) (trace : Recorded) (p q g d : ℕ) : Type 0 where
   pub each : (s : ℕ) → g ≤ tick_of trace s → IsMessageOn set trace.steps p q s → DeltaHoldsFor set trace s d
 
@@ -35,7 +36,8 @@ pub record IsNamedLinkMiss (set : ℕ) (trace : Recorded) (p q g d : ℕ) (m : M
   pub miss : IsLinkMiss set trace p q m
   pub from : g ≤ tick_of trace m.sent
   pub long : tick_of trace m.sent + d ≡ tick_of trace m.missed + 1
-  pub latest : (o : Miss) → IsLinkMiss set trace p q o → g ≤ tick_of trace o.sent → tick_of trace o.sent + d ≡ tick_of trace o.missed + 1 → tick_of trace o.sent ≤ tick_of trace m.sent
+  pub latest : (o : Miss) → IsLinkMiss set trace p q o → g ≤ tick_of trace o.sent
+      → tick_of trace o.sent + d ≡ tick_of trace o.missed + 1 → tick_of trace o.sent ≤ tick_of trace m.sent
 
 -- the witness of a communication bound of a link: none at 1, else the named miss
 abbrev pub NamesLinkMiss : ℕ → Recorded → ℕ → ℕ → ℕ → ℕ → Option Miss → Type 0

@@ -57,5 +57,6 @@ rank_of (Delta p q bound) = RECEIVERS + place_of p q
 pub record ListsBefore (set : ℕ) (trace : Recorded) (g k : ℕ) (rows : List BoundRow) : Type 0 where
   pub right : (r : BoundRow) → Contains rows r → IsRow set trace g r × (rank_of r < k)
   pub processors : (p : ℕ) → IsTrue (has_proc set p) → p < k → (bound : LeastBound Gap) × Contains rows (Phi p bound)
-  pub links : (p q s : ℕ) → IsSentFrom set trace p q g s → RECEIVERS + place_of p q < k → (bound : LeastBound Miss) × Contains rows (Delta p q bound)
+  pub links : (p q s : ℕ) → IsSentFrom set trace p q g s → RECEIVERS + place_of p q < k
+      → (bound : LeastBound Miss) × Contains rows (Delta p q bound)
   pub ordered : AllPairs Precedes rows

@@ -17,8 +17,10 @@ bound_name (Delta p q bound) = codes "delta"
 -- the entry in each column after that: a number, or nothing if the row has none. First and last are the ticks of a gap,
 -- or the numbers of the steps of a miss.
 abbrev pub entries_of : BoundRow → List (Option ℕ)
-entries_of (Phi p bound) = Some p ∷ None ∷ Some bound.least ∷ option_map (λ w. w.from) bound.witness ∷ option_map (λ w. w.to) bound.witness ∷ []
-entries_of (Delta p q bound) = Some p ∷ Some q ∷ Some bound.least ∷ option_map (λ m. m.sent) bound.witness ∷ option_map (λ m. m.missed) bound.witness ∷ []
+entries_of (Phi p bound) = Some p ∷ None ∷ Some bound.least ∷ option_map (λ w. w.from) bound.witness
+    ∷ option_map (λ w. w.to) bound.witness ∷ []
+entries_of (Delta p q bound) = Some p ∷ Some q ∷ Some bound.least ∷ option_map (λ m. m.sent) bound.witness
+    ∷ option_map (λ m. m.missed) bound.witness ∷ []
 
 -- the record of a row
 abbrev pub bound_record : BoundRow → List (List ℕ)

@@ -23,7 +23,8 @@ pub record IsPhiRow (set : ℕ) (trace : Recorded) (g p : ℕ) (bound : LeastBou
   pub least : IsPhi (only p) trace g bound.least
   pub named : NamesGap (only p) trace g bound.least bound.witness
 
--- the member p sends messages to the member q in tick g or later, and they have this communication bound, with this named miss
+-- the member p sends messages to the member q in tick g or later, and they have this communication bound, with this
+-- named miss
 pub record IsDeltaRow (set : ℕ) (trace : Recorded) (g p q : ℕ) (bound : LeastBound Miss) : Type 0 where
   pub sent : (s : ℕ) × IsSentFrom set trace p q g s
   pub least : IsLeastBound (LinkHolds set trace p q g) bound.least

@@ -32,7 +32,8 @@ pub(crate) struct Links {
 impl Links {
     /// What is known after the last step.
     pub(crate) fn after_all(alloc: Global, trace: &Trace) -> Result<Self, AllocError>
-        ensures { IfOk result (λ links. (set : ℕ) → KnowsLinks set trace.now (length trace.now.steps) links) }
+        ensures { IfOk result (λ links. (set : ℕ)
+            → KnowsLinks set trace.now (length trace.now.steps) links) }
     {
         let senders = trace.config().n() + 1;
         let places = senders * RECEIVERS;
@@ -64,8 +65,10 @@ impl Links {
 
     /// Pushes the row of each link that has a message, after those of processors.
     pub(crate) fn push_rows(&self, rows: &mut Vec<BoundRow>) -> Result<(), AllocError>
-        ensures { (set : ℕ) (trace : Recorded) (at : ℕ) → IsTimed trace → IsWithin set trace.config.n → KnowsLinksFrom set trace at self.now
-            → ListsBefore set trace at RECEIVERS rows.old.items → OnOk result (AreRows set trace at rows.new.items) }
+        ensures { (set : ℕ) (trace : Recorded) (at : ℕ) → IsTimed trace
+            → IsWithin set trace.config.n → KnowsLinksFrom set trace at self.now
+            → ListsBefore set trace at RECEIVERS rows.old.items
+            → OnOk result (AreRows set trace at rows.new.items) }
     {
         for place in 0..self.bounds.len() {
             if let Some(bound) = self.bounds[place] {

@@ -2,7 +2,9 @@
 use Rattle.std.proofs.Common.{ℕ, ◌≡◌, ◌+◌, ◌≤◌, ◌⊎◌, inl, inr, Bool, true, false, cond, eqb, eq-eqb, ◌&&◌, List, Option, Some, None, is_some, is_none, refl, sym, ap, ◌∙◌, arith}
 use Rattle.std.specs.Prelude.{unwrap_or}
 use Rattle.std.proofs.lemmas.Bool.{eqb-true, leb-true, le-leb}
-use Rattle.lock_phases.proofs.Common.{Setup, phase_of, part_of, owner, Acknowledging, State, Message, acks, heard_from, acknowledging, AcknowledgingKeeps, IsAcknowledged, IsDecidedByQuorum, IsAcknowledgedByQuorum}
+use Rattle.lock_phases.proofs.Common.{Setup, phase_of, part_of, owner, Acknowledging, State, Message, acks, heard_from}
+use Rattle.lock_phases.proofs.Common.{acknowledging, AcknowledgingKeeps, IsAcknowledged, IsDecidedByQuorum}
+use Rattle.lock_phases.proofs.Common.{IsAcknowledgedByQuorum}
 use Rattle.lock_phases.specs.NodeFunctions.{decides, next_in, next}
 use Rattle.lock_phases.proofs.HeardProcessors.{heard-few, heard-many}
 use Rattle.lock_phases.proofs.RoundLaws.{part_at-acknowledging, next-in, with_proper_heard}

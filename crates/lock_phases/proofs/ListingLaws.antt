@@ -3,7 +3,9 @@ use Rattle.std.proofs.Common.{ℕ, ◌≡◌, ◌≢◌, ◌-◌, ◌≤◌, inl
 use Rattle.std.specs.List.{range_with_len}
 use Rattle.std.proofs.lemmas.Bool.{not-true, ne_eqb, cases_lt, false_from_ne_true}
 use Rattle.std.proofs.lemmas.List.FromFn.{length-range_with_len}
-use Rattle.lock_phases.proofs.Common.{Setup, IsSetup, phase_of, part_of, owner, Listing, State, Message, least_listed, heard_from, lists_with, listing, ListingKeeps, IsProposal, IsMadeByQuorum, IsRefusedByFew}
+use Rattle.lock_phases.proofs.Common.{Setup, IsSetup, phase_of, part_of, owner, Listing, State, Message, least_listed}
+use Rattle.lock_phases.proofs.Common.{heard_from, lists_with, listing, ListingKeeps, IsProposal, IsMadeByQuorum}
+use Rattle.lock_phases.proofs.Common.{IsRefusedByFew}
 use Rattle.lock_phases.specs.NodeFunctions.{next}
 use Rattle.lock_phases.proofs.Counting.{count_by-disjoint}
 use Rattle.lock_phases.proofs.RoundLaws.{part_at-listing, next-in}

@@ -4,7 +4,11 @@ use Rattle.std.specs.Prelude.{Contains}
 use Rattle.std.specs.List.{list_any}
 use Rattle.std.specs.List.Sorted.{IsStrictlyIncreasing}
 use Rattle.std.proofs.lemmas.Bool.{eqb-true, ne_eqb, leb-true, le-leb, and_parts, not-true}
-use Rattle.lock_phases.proofs.Common.{Contains-head, Contains-rest, Contains-nil, Contains-filter, Contains-from_filter, Contains-map, list_any-found, list_any-at, rising-tail, rising-first, Kind, LockPair, value_of, phase_of_lock, Message, sender_of, body_of, locked_value, told_locks, is_acceptable, heard_lock, put_lock, releases, is_released, kept_locks, IsToldToLock, IsTold, IsReleasedByTold}
+use Rattle.lock_phases.proofs.Common.{Contains-head, Contains-rest, Contains-nil, Contains-filter, Contains-from_filter}
+use Rattle.lock_phases.proofs.Common.{Contains-map, list_any-found, list_any-at, rising-tail, rising-first, Kind}
+use Rattle.lock_phases.proofs.Common.{LockPair, value_of, phase_of_lock, Message, sender_of, body_of, locked_value}
+use Rattle.lock_phases.proofs.Common.{told_locks, is_acceptable, heard_lock, put_lock, releases, is_released}
+use Rattle.lock_phases.proofs.Common.{kept_locks, IsToldToLock, IsTold, IsReleasedByTold}
 use Rattle.lock_phases.specs.declared.bodies.Kind.TheVariants.{List as Listed, Lock, Ack, Locks}
 use Rattle.lock_phases.proofs.Membership.{Contains-cons_cases}
 

@@ -3,7 +3,9 @@ use Rattle.std.proofs.Common.{ℕ, ◌≡◌, ◌⊎◌, inl, inr, Bool, true, f
 use Rattle.std.specs.Prelude.{Contains}
 use Rattle.std.specs.List.Sorted.{IsStrictlyIncreasing}
 use Rattle.std.proofs.lemmas.Bool.{eqb-true}
-use Rattle.lock_phases.proofs.Common.{Setup, phase_of, part_of, owner, Locking, State, IsRising, LockPair, value_of, phase_of_lock, Message, sender_of, heard_lock, put_lock, IsToldToLock, LockingKeeps, LockingLocks, IsUntold, Obeys, IsLockedOnce}
+use Rattle.lock_phases.proofs.Common.{Setup, phase_of, part_of, owner, Locking, State, IsRising, LockPair, value_of}
+use Rattle.lock_phases.proofs.Common.{phase_of_lock, Message, sender_of, heard_lock, put_lock, IsToldToLock}
+use Rattle.lock_phases.proofs.Common.{LockingKeeps, LockingLocks, IsUntold, Obeys, IsLockedOnce}
 use Rattle.lock_phases.specs.NodeFunctions.{next_in, next, after_locking}
 use Rattle.lock_phases.proofs.RoundLaws.{part_at-locking, next-in, with_proper_heard}
 use Rattle.lock_phases.proofs.LockLaws.{Contains-put_lock_cases, Contains-put_lock_new, Contains-put_lock_old, heard_lock-from_owner, heard_lock-told}

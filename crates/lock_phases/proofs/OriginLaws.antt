@@ -2,7 +2,9 @@
 use Rattle.std.proofs.Common.{ℕ, ◌≡◌, ◌⊎◌, inl, inr, Bool, true, false, cond, eqb, ◌&&◌, List, map, Option, Some, None, is_some, is_none, refl, sym, subst, ◌∙◌}
 use Rattle.std.specs.Prelude.{Contains}
 use Rattle.std.specs.List.Sorted.{IsStrictlyIncreasing}
-use Rattle.lock_phases.proofs.Common.{Setup, phase_of, part_of, owner, Part, Listing, Locking, Acknowledging, Releasing, part_at, State, IsRising, value_of, Message, take_in, heard_lock, least_listed, IsHeardProper, IsHeardListed, TakesIn}
+use Rattle.lock_phases.proofs.Common.{Setup, phase_of, part_of, owner, Part, Listing, Locking, Acknowledging, Releasing}
+use Rattle.lock_phases.proofs.Common.{part_at, State, IsRising, value_of, Message, take_in, heard_lock, least_listed}
+use Rattle.lock_phases.proofs.Common.{IsHeardProper, IsHeardListed, TakesIn}
 use Rattle.lock_phases.specs.NodeFunctions.{after_locking, next_in, next}
 use Rattle.lock_phases.proofs.RoundLaws.{with_proper_heard}
 use Rattle.lock_phases.proofs.ProperLaws.{Contains-take_in_cases, Contains-take_in_old, Contains-take_in_heard}

@@ -4,7 +4,9 @@ use Rattle.std.specs.Prelude.{Contains, count_by, ◌==◌}
 use Rattle.std.specs.List.{flat_map}
 use Rattle.std.proofs.lemmas.Bool.{eqb-true, leb-true, le-leb, cases_lt}
 use Rattle.std.proofs.Common.{eq-eqb}
-use Rattle.lock_phases.proofs.Common.{Contains-rest, Contains-nil, Contains-filter, Contains-from_filter, list_any-found, list_any-at, Message, listed_values, body_of, lists, has_quorum, lesser, least, least_listed, IsLeastListed}
+use Rattle.lock_phases.proofs.Common.{Contains-rest, Contains-nil, Contains-filter, Contains-from_filter}
+use Rattle.lock_phases.proofs.Common.{list_any-found, list_any-at, Message, listed_values, body_of, lists, has_quorum}
+use Rattle.lock_phases.proofs.Common.{lesser, least, least_listed, IsLeastListed}
 use Rattle.lock_phases.proofs.Membership.{Contains-cons_cases, count_by-found, Contains-flat_map, Contains-from_flat_map}
 
 -- a message lists v if v is in its list

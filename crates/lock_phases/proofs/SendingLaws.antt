@@ -2,7 +2,9 @@
 use Rattle.std.proofs.Common.{ℕ, ◌≡◌, ◌∙◌, ◌⊎◌, inl, inr, Bool, true, false, cond, eqb, ◌&&◌, Option, Some, None, refl, sym, ap, subst, eq-eqb}
 use Rattle.std.specs.Prelude.{option_map}
 use Rattle.std.proofs.lemmas.Bool.{eqb-true}
-use Rattle.lock_phases.proofs.Common.{Setup, Contains-filter, Contains-from_filter, Kind, Body, phase_of, part_of, owner, Listing, Locking, Acknowledging, Releasing, State, is_acceptable, with_proper, IsAddressed, IsListOf}
+use Rattle.lock_phases.proofs.Common.{Setup, Contains-filter, Contains-from_filter, Kind, Body, phase_of, part_of}
+use Rattle.lock_phases.proofs.Common.{owner, Listing, Locking, Acknowledging, Releasing, State, is_acceptable}
+use Rattle.lock_phases.proofs.Common.{with_proper, IsAddressed, IsListOf}
 use Rattle.lock_phases.specs.declared.bodies.Kind.TheVariants.{List as Listed, Lock, Ack, Locks}
 use Rattle.lock_phases.specs.NodeFunctions.{out, values_to_list}
 use Rattle.lock_phases.proofs.LockLaws.{is_acceptable-locked, is_acceptable-from_locks}

@@ -1,7 +1,9 @@
 -- What a body says about the node that sends it (section 3).
 use Rattle.std.proofs.Common.{ℕ, ◌≡◌, Bool, true, false, cond, eqb, ◌&&◌, Option, Some, None, refl, subst}
 use Rattle.std.specs.Prelude.{Contains, option_map}
-use Rattle.lock_phases.proofs.Common.{Setup, Contains-nil, Contains-from_filter, Kind, Body, phase_of, part_of, owner, Part, Listing, Locking, Acknowledging, Releasing, part_at, State, LockPair, listed_values, is_ack, told_locks, is_acceptable, Says, IsSaidBy}
+use Rattle.lock_phases.proofs.Common.{Setup, Contains-nil, Contains-from_filter, Kind, Body, phase_of, part_of, owner}
+use Rattle.lock_phases.proofs.Common.{Part, Listing, Locking, Acknowledging, Releasing, part_at, State, LockPair}
+use Rattle.lock_phases.proofs.Common.{listed_values, is_ack, told_locks, is_acceptable, Says, IsSaidBy}
 use Rattle.lock_phases.specs.declared.bodies.Kind.TheVariants.{List as Listed, Lock, Ack, Locks}
 use Rattle.lock_phases.specs.NodeFunctions.{kind_sent, out, values_to_list}
 

@@ -1,5 +1,6 @@
 -- What becomes of locks (section 3).
-use Rattle.std.specs.Prelude.{ℕ, List, [], ◌∷◌, Option, None, Bool, nat_lt, nat_le, not, ◌==◌, ◌&&◌, if◌then◌else◌, filter}
+use Rattle.std.specs.Prelude.{ℕ, List, [], ◌∷◌, Option, None, Bool, nat_lt, nat_le}
+use Rattle.std.specs.Prelude.{not, ◌==◌, ◌&&◌, if◌then◌else◌, filter}
 use Rattle.std.specs.List.{list_any, list_all}
 use Rattle.lock_phases.specs.Nodes.{LockPair, value_of, phase_of_lock}
 use Rattle.lock_phases.specs.Messages.{Message, sender_of, body_of, locked_value, told_locks}

@@ -1,10 +1,12 @@
 -- The node functions of Algorithm 1 (section 3): what a node sends in a round, and its state after the round.
-use Rattle.std.specs.Prelude.{ℕ, ◌+◌, ◌-◌, List, Option, Some, None, Bool, true, false, ◌&&◌, ◌==◌, nat_le, is_some, is_none, filter, option_map, if◌then◌else◌}
+use Rattle.std.specs.Prelude.{ℕ, ◌+◌, ◌-◌, List, Option, Some, None, Bool, true, false, ◌&&◌, ◌==◌}
+use Rattle.std.specs.Prelude.{nat_le, is_some, is_none, filter, option_map, if◌then◌else◌}
 use Rattle.step_trace.specs.Configurations.{Setup}
 use Rattle.lock_phases.specs.declared.bodies.Kind.{Kind}
 use Rattle.lock_phases.specs.declared.bodies.Kind.TheVariants.{List as Listed, Lock, Ack, Locks}
 use Rattle.lock_phases.specs.declared.bodies.Body.{Body}
-use Rattle.lock_phases.specs.Rounds.{phase_of, part_of, owner, Part, Listing, Locking, Acknowledging, Releasing, part_at}
+use Rattle.lock_phases.specs.Rounds.{phase_of, part_of, owner, Part, Listing, Locking}
+use Rattle.lock_phases.specs.Rounds.{Acknowledging, Releasing, part_at}
 use Rattle.lock_phases.specs.Nodes.{State}
 use Rattle.lock_phases.specs.Messages.{Message}
 use Rattle.lock_phases.specs.Values.{take_in}

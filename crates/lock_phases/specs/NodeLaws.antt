@@ -1,10 +1,12 @@
 -- The laws of the node functions of Algorithm 1 (section 3), by the part of the phase: what holds of a node before
 -- and after a round, for any messages heard.
-use Rattle.std.specs.Prelude.{ℕ, ◌≡◌, ◌↔◌, ◌⊎◌, ◌+◌, ◌-◌, ◌<◌, ◌≤◌, List, Option, Some, None, Bool, true, false, IsSome, unwrap_or, Contains}
+use Rattle.std.specs.Prelude.{ℕ, ◌≡◌, ◌↔◌, ◌⊎◌, ◌+◌, ◌-◌, ◌<◌, ◌≤◌, List, Option, Some}
+use Rattle.std.specs.Prelude.{None, Bool, true, false, IsSome, unwrap_or, Contains}
 use Rattle.step_trace.specs.Configurations.{Setup, IsProc}
 use Rattle.lock_phases.specs.Nodes.{State, LockPair, value_of, phase_of_lock}
 use Rattle.lock_phases.specs.Messages.{Message, body_of}
-use Rattle.lock_phases.specs.Hearing.{IsHeardProper, lists_with, IsToldToLock, IsReleasedByTold, IsHeardToSay, listing, acknowledging, number_of}
+use Rattle.lock_phases.specs.Hearing.{IsHeardProper, lists_with, IsToldToLock, IsReleasedByTold}
+use Rattle.lock_phases.specs.Hearing.{IsHeardToSay, listing, acknowledging, number_of}
 
 -- Every round
 
@@ -64,8 +66,10 @@ pub record LockingKeeps (s after : State) : Type 0 where
 -- is held, or was replaced by one of this phase on its value. Who owes an acknowledgement owed it before, or holds
 -- a lock of this phase.
 pub record LockingLocks (s after : State) (owner phase : ℕ) (heard : List Message) : Type 0 where
-  pub fresh : (lock : LockPair) → Contains after.locks lock → Contains s.locks lock ⊎ ((phase_of_lock lock ≡ phase) × IsToldToLock owner heard (value_of lock))
-  pub held : (lock : LockPair) → Contains s.locks lock → Contains after.locks lock ⊎ Contains after.locks (value_of lock, phase)
+  pub fresh : (lock : LockPair) → Contains after.locks lock
+      → Contains s.locks lock ⊎ ((phase_of_lock lock ≡ phase) × IsToldToLock owner heard (value_of lock))
+  pub held : (lock : LockPair) → Contains s.locks lock → Contains after.locks lock
+      ⊎ Contains after.locks (value_of lock, phase)
   pub owes : after.owes_ack ≡ true → (s.owes_ack ≡ true) ⊎ ((v : ℕ) × Contains after.locks (v, phase))
 
 -- A node that heard no Lock keeps its locks, and owes what it owed.

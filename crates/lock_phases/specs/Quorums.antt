@@ -22,7 +22,8 @@ least values = fold lesser None values
 
 -- the least value that is in at least so many of the lists that are heard (own)
 abbrev pub least_listed : ℕ → List Message → Option ℕ
-least_listed quorum heard = least (filter (has_quorum quorum heard) (flat_map (λ m. listed_values (body_of m).kind) heard))
+least_listed quorum heard =
+    least (filter (has_quorum quorum heard) (flat_map (λ m. listed_values (body_of m).kind) heard))
 
 -- how many acknowledgements are heard
 abbrev pub acks : List Message → ℕ

@@ -37,7 +37,8 @@ pub(crate) fn heard_lock(owner: u64, heard: &[(u64, Body)]) -> Option<u64>
 pub(crate) fn put_lock(locks: &mut Vec<(u64, u64)>, v: u64, phase: u64) -> Result<(), AllocError>
     ensures ok { OnOk result (locks.new.items ≡ put_lock v phase locks.old.items) }
     ensures err { OnErr result (locks.new.items ≡ locks.old.items) }
-    ensures more { OnErr result (length locks.old.items < length (put_lock v phase locks.old.items)) }
+    ensures more { OnErr result
+        (length locks.old.items < length (put_lock v phase locks.old.items)) }
 {
     match find_lock(locks, v) {
         Ok(place) => locks[place] = (v, phase),

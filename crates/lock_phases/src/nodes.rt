@@ -52,7 +52,8 @@ impl Node {
     ghost use Rattle.lock_phases.specs.Messages.{sender_of};
     ghost use Rattle.lock_phases.specs.Locks.{heard_lock};
     ghost use Rattle.lock_phases.specs.Rounds.{part_of, part_at};
-    ghost use Rattle.lock_phases.specs.NodeFunctions.{values_to_list, kind_in, out, after_listing, after_locking, after_acknowledging, after_releasing, after_part, next};
+    ghost use Rattle.lock_phases.specs.NodeFunctions.{values_to_list, kind_in, out, after_listing, after_locking};
+    ghost use Rattle.lock_phases.specs.NodeFunctions.{after_acknowledging, after_releasing, after_part, next};
 
     /// The opening node of a processor with this initial value.
     pub fn new(alloc: Global, value: u64) -> Result<Self, AllocError>

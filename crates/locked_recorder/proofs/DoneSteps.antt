@@ -1,5 +1,7 @@
 -- What is done in the first steps of a trace, and in one more.
-use Rattle.std.proofs.Common.{ℕ, zero, suc, Some, None, ◌≡◌, ◌+◌, ◌-◌, ◌<◌, ◌≤◌, List, ◌∷◌, [], ◌++◌, length, take, drop, get_or, Option, cond, Bool, true, false, ◌==◌, refl, sym, ap, subst, ◌∙◌, arith, eq-eqb}
+use Rattle.std.proofs.Common.{ℕ, zero, suc, Some, None, ◌≡◌, ◌+◌, ◌-◌, ◌<◌, ◌≤◌, List, ◌∷◌, [], ◌++◌, length, take}
+use Rattle.std.proofs.Common.{drop, get_or, Option, cond, Bool, true, false, ◌==◌, refl, sym, ap, subst, ◌∙◌, arith}
+use Rattle.std.proofs.Common.{eq-eqb}
 use Rattle.std.specs.List.{enumerate_from}
 use Rattle.std.proofs.lemmas.List.{take_more, take-append-drop, length-take, length-map, get_or-map}
 use Rattle.std.proofs.lemmas.List.FromFn.{length-enumerate_from, get_or-enumerate_from}

@@ -1,5 +1,6 @@
 -- Audits: what the seats and the views of a recorder must be for its trace.
-use Rattle.std.specs.Prelude.{ℕ, ◌≡◌, ◌+◌, ◌<◌, ◌==◌, slice_index_or, List, length, Option, IfSome, All, map, filter, take}
+use Rattle.std.specs.Prelude.{ℕ, ◌≡◌, ◌+◌, ◌<◌, ◌==◌, slice_index_or, List, length}
+use Rattle.std.specs.Prelude.{Option, IfSome, All, map, filter, take}
 use Rattle.std.specs.List.{enumerate_from}
 use Rattle.step_trace.specs.declared.steps.Step.{Step}
 use Rattle.step_trace.specs.Configurations.{Setup}
@@ -18,7 +19,12 @@ use Rattle.locked_recorder.specs.Prefixes.{IsRunOf}
 
 -- what is done in the last of some steps: the step, with the round and decision of its processor after it
 abbrev pub done_last : Setup → List Step → Step → Done
-done_last c steps x = record { no = length steps; step = x; round = passed steps x.proc + 1; decision = (node_at c steps x.proc).decision }
+done_last c steps x = record {
+  no = length steps;
+  step = x;
+  round = passed steps x.proc + 1;
+  decision = (node_at c steps x.proc).decision;
+}
 
 -- what is done in a numbered step of a trace
 abbrev pub done_at : Setup → List Step → ℕ × Step → Done
@@ -66,8 +72,10 @@ pub record IsFirstWithout {X : Type 0} (P : X → Type 0) (xs : List X) (k : ℕ
 -- how the seats or the views are off a trace: the seat of p is the first that doesn't agree with it. Or all seats
 -- agree, and the view of index k is the first that isn't extended.
 abbrev pub IsOff : Recorded → List Turns → List (Option Recorded) → AuditError → Type 0
-IsOff trace seats views (audit_error.SeatDiffers p) = (k : ℕ) × (p ≡ k + 1) × IsFirstWithout (λ s. Agrees trace.config trace.steps s) seats k
-IsOff trace seats views (audit_error.ViewDiffers k) = AgreeWith trace.config trace.steps seats × IsFirstWithout (λ v. IsExtended trace v) views k
+IsOff trace seats views (audit_error.SeatDiffers p) = (k : ℕ) × (p ≡ k + 1)
+    × IsFirstWithout (λ s. Agrees trace.config trace.steps s) seats k
+IsOff trace seats views (audit_error.ViewDiffers k) = AgreeWith trace.config trace.steps seats
+    × IsFirstWithout (λ v. IsExtended trace v) views k
 IsOff trace seats views audit_error.Memory = Unit {0}
 IsOff trace seats views why = ⊥
 
@@ -83,4 +91,5 @@ abbrev pub IsAuditRefusal : Identity → List Turns → List (Option Recorded) �
 IsAuditRefusal r seats views audit_error.SeatCount = ¬ AreInOrder r.config seats
 IsAuditRefusal r seats views audit_error.ForeignSeat = AreInOrder r.config seats
 IsAuditRefusal r seats views audit_error.Memory = AreInOrder r.config seats × AreTagged r.tag seats
-IsAuditRefusal r seats views why = AreInOrder r.config seats × AreTagged r.tag seats × IsOffSome r.config seats views why
+IsAuditRefusal r seats views why = AreInOrder r.config seats × AreTagged r.tag seats
+    × IsOffSome r.config seats views why

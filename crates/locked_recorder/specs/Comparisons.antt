@@ -1,5 +1,6 @@
 -- Comparisons: how what the seats did is compared with a trace, one step after the other.
-use Rattle.std.specs.Prelude.{ℕ, ◌≡◌, ◌≢◌, ◌+◌, ◌<◌, ◌≤◌, List, length, take, Option, Some, None, slice_get, slice_index_or}
+use Rattle.std.specs.Prelude.{ℕ, ◌≡◌, ◌≢◌, ◌+◌, ◌<◌, ◌≤◌, List, length, take}
+use Rattle.std.specs.Prelude.{Option, Some, None, slice_get, slice_index_or}
 use Rattle.step_trace.specs.declared.steps.Step.{Step}
 use Rattle.step_trace.specs.Configurations.{Setup}
 use Rattle.step_buffers.specs.declared.moves.Done.{Done}
@@ -13,9 +14,11 @@ IsCompared c steps n s (Some k) = (done_of (take n (all_done c steps)) s.proc �
 IsCompared c steps n s None = ¬ Agrees c steps s
 
 -- so it is of each seat
-pub record AreCompared (c : Setup) (steps : List Step) (n : ℕ) (seats : List Turns) (agreed : List (Option ℕ)) : Type 0 where
+pub record AreCompared (c : Setup) (steps : List Step) (n : ℕ) (seats : List Turns)
+    (agreed : List (Option ℕ)) : Type 0 where
   pub count : length agreed ≡ length seats
-  pub each : (i : ℕ) (s : Turns) (m : Option ℕ) → i < length seats → IsCompared c steps n (slice_index_or seats i s) (slice_index_or agreed i m)
+  pub each : (i : ℕ) (s : Turns) (m : Option ℕ) → i < length seats
+      → IsCompared c steps n (slice_index_or seats i s) (slice_index_or agreed i m)
 
 -- how many agree once the processor did one thing more: one more, if that comes next in the list; none if
 -- anything differs
@@ -29,4 +32,5 @@ abbrev pub IsWhole : Turns → Option ℕ → Type 0
 IsWhole s m = m ≡ Some (length s.done)
 
 abbrev pub AreWhole : List Turns → List (Option ℕ) → ℕ → Type 0
-AreWhole seats agreed n = (i : ℕ) (s : Turns) (m : Option ℕ) → i < n → IsWhole (slice_index_or seats i s) (slice_index_or agreed i m)
+AreWhole seats agreed n = (i : ℕ) (s : Turns) (m : Option ℕ) → i < n
+    → IsWhole (slice_index_or seats i s) (slice_index_or agreed i m)

@@ -1,5 +1,6 @@
 -- Drives: many steps made from one seat.
-use Rattle.std.specs.Prelude.{ℕ, ◌≡◌, ◌<◌, ◌+◌, ◌==◌, ◌++◌, if◌then◌else◌, List, length, take, slice_get, fold, Option, Some, Bool, true, false}
+use Rattle.std.specs.Prelude.{ℕ, ◌≡◌, ◌<◌, ◌+◌, ◌==◌, ◌++◌, if◌then◌else◌, List, length}
+use Rattle.std.specs.Prelude.{take, slice_get, fold, Option, Some, Bool, true, false}
 use Rattle.step_trace.specs.declared.steps.Act.{Act}
 use Rattle.step_trace.specs.declared.steps.Act.TheVariants as act
 use Rattle.step_buffers.specs.declared.moves.Done.{Done}
@@ -42,14 +43,17 @@ pub record IsDriven (r : Identity) (patience steps : ℕ) (old new : Turns) : Ty
   pub more : List Done
   pub count : length more ≡ steps
   pub appended : new ≡ record old { done = old.done ++ more }
-  pub answers : (k : ℕ) (d : Done) → slice_get more k ≡ Some d → IsChosenAnswer r old.proc (drive_move patience (received (take k more))) d
+  pub answers : (k : ℕ) (d : Done) → slice_get more k ≡ Some d
+      → IsChosenAnswer r old.proc (drive_move patience (received (take k more))) d
   pub tag : 0 < steps → old.tag ≡ r.tag
 
--- Why a drive stops that made `made` of its steps and then `before` Receives in the round, when the seat is so. It is held
+-- Why a drive stops that made `made` of its steps and then `before` Receives in the round, when the seat is so. It is
+-- held
 -- before its first step; a step is refused only before the last.
 abbrev pub IsStop : Identity → ℕ → ℕ → ℕ → ℕ → Turns → DriveStop → Type 0
 IsStop r patience steps made before s Held = made ≡ 0
-IsStop r patience steps made before s (Record why) = (made < steps) × IsChoiceRefusal r s (drive_move patience before) why
+IsStop r patience steps made before s (Record why) = (made < steps)
+    × IsChoiceRefusal r s (drive_move patience before) why
 
 -- what a gate answered, if a drive stopped for this reason
 abbrev pub was_let_in : DriveStop → Bool

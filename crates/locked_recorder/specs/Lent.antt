@@ -8,4 +8,5 @@ use Rattle.locked_recorder.specs.contracts.seats.Seat.{the_row}
 
 -- if a step was made, the seat ends with what the answer shows appended; a refusal leaves it unchanged
 abbrev pub Appends : {E : Type 0} → MutBor Turns → Result (Bor Done) E → Fml
-Appends s r = follows_so the_row the_row s.ghost_name none (λ _ _. ⊤) (λ n. MatchResult r (λ x. n ≡ with_done s.now x.now) (λ _. n ≡ s.now))
+Appends s r = follows_so the_row the_row s.ghost_name none (λ _ _. ⊤)
+    (λ n. MatchResult r (λ x. n ≡ with_done s.now x.now) (λ _. n ≡ s.now))

@@ -51,7 +51,8 @@ pub record IsPacedStep (r : Identity) (pace after : Paced) (old new : Turns) : T
 -- these things were done one after the other by a pace, which is so before the first of them, and so after the last
 abbrev pub WerePaced : Identity → ℕ → Paced → List Done → Paced → Type 0
 WerePaced r p pace [] after = after ≡ pace
-WerePaced r p pace (done ∷ more) after = (next : Paced) × IsPacedAnswer r p pace next done × WerePaced r p next more after
+WerePaced r p pace (done ∷ more) after = (next : Paced) × IsPacedAnswer r p pace next done
+    × WerePaced r p next more after
 
 -- A seat after so many steps by the pace that begins with this patience. As many things more are done, each of which a
 -- World of the recorder answers to the pace's move at that time. Steps are made only from a seat with the recorder's

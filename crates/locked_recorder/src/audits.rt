@@ -34,7 +34,8 @@ impl Recorder {
         ensures limit { IfOk result (λ world. world.limit ≡ self.now.limit) }
         ensures order { OnOk result (AreInOrder self.now.config seats.now) }
         ensures tags { OnOk result (AreTagged self.now.tag seats.now) }
-        ensures seats { IfOk result (λ world. AgreeWith world.trace.config world.trace.steps seats.now) }
+        ensures seats { IfOk result
+            (λ world. AgreeWith world.trace.config world.trace.steps seats.now) }
         ensures views { IfOk result (λ world. AreExtended world.trace views.now) }
         ensures refused { IfErr result (λ e. IsAuditRefusal self.now seats.now views.now e) }
     {
@@ -62,7 +63,8 @@ impl Recorder {
         ensures limit { IfOk result (λ world. world.limit ≡ self.limit) }
         ensures order { OnOk result (AreInOrder self.config seats.now) }
         ensures tags { OnOk result (AreTagged self.tag seats.now) }
-        ensures seats { IfOk result (λ world. AgreeWith world.trace.config world.trace.steps seats.now) }
+        ensures seats { IfOk result
+            (λ world. AgreeWith world.trace.config world.trace.steps seats.now) }
         ensures views { IfOk result (λ world. AreExtended world.trace views.now) }
         ensures refused { IfErr result (λ e. IsAuditRefusal self seats.now views.now e) }
     {
@@ -83,8 +85,10 @@ impl Recorder {
 
     /// A copy of the World, made under the lock; none if it isn't the recorder's own.
     fn copied<R: Wait>(&self, rt: &R, alloc: Global) -> Result<Option<World>, AllocError>
-        ensures run { IfOk result (λ copied. IfSome copied (λ world. IsRunOf self.now.config world.trace)) }
-        ensures limit { IfOk result (λ copied. IfSome copied (λ world. world.limit ≡ self.now.limit)) }
+        ensures run { IfOk result
+            (λ copied. IfSome copied (λ world. IsRunOf self.now.config world.trace)) }
+        ensures limit { IfOk result
+            (λ copied. IfSome copied (λ world. world.limit ≡ self.now.limit)) }
     {
         let world = self.world.lock(rt);
         if !is_world_of(&world, &self.config, self.limit) {
@@ -98,7 +102,10 @@ impl Recorder {
 fn are_its_own(config: &Config, tag: u64, seats: &[Seat]) -> Result<(), AuditError>
     ensures order { OnOk result (AreInOrder config.now seats.now) }
     ensures tags { OnOk result (AreTagged tag seats.now) }
-    ensures refused { (views : List (Option Recorded)) (limit : ℕ) → IfErr result (λ e. IsAuditRefusal (record { tag = tag; config = config.now; limit = limit }) seats.now views e) }
+    ensures refused { (views : List (Option Recorded)) (limit : ℕ)
+        → IfErr result
+        (λ e. IsAuditRefusal (record { tag = tag; config = config.now; limit = limit })
+        seats.now views e) }
 {
     if !are_in_order(config, seats) {
         return Err(AuditError::SeatCount);

@@ -37,7 +37,8 @@ pub(crate) fn first_differing(seats: &[Seat], agreed: &[Option<usize>]) -> Optio
     ensures none { IfNone result (AreWhole seats.now agreed.now (length seats.now)) }
     ensures within { IfSome result (λ i. i < length seats.now) }
     ensures before { IfSome result (λ i. AreWhole seats.now agreed.now i) }
-    ensures differs { IfSome result (λ i. (s : Turns) (m : Option ℕ) → ¬ IsWhole (slice_index_or seats.now i s) (slice_index_or agreed.now i m)) }
+    ensures differs { IfSome result (λ i. (s : Turns) (m : Option ℕ)
+        → ¬ IsWhole (slice_index_or seats.now i s) (slice_index_or agreed.now i m)) }
 {
     for (i, seat) in seats.iter().enumerate() {
         if agreed[i] != Some(seat.done().len()) {

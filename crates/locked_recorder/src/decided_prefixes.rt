@@ -34,8 +34,10 @@ impl Recorder {
         view: &mut View,
     ) -> Result<DecidedPrefix, PrefixError>
         ensures run { IfOk result (λ prefix. IsRunOf self.now.config prefix.trace) }
-        ensures decided { IfOk result (λ prefix. prefix.decisions.items ≡ decisions self.now.config prefix.trace.steps) }
-        ensures extends { IfOk result (λ prefix. IfSome view.old (λ seen. Extends prefix.trace seen)) }
+        ensures decided { IfOk result
+            (λ prefix. prefix.decisions.items ≡ decisions self.now.config prefix.trace.steps) }
+        ensures extends { IfOk result
+            (λ prefix. IfSome view.old (λ seen. Extends prefix.trace seen)) }
         ensures seen { IfOk result (λ prefix. view.new ≡ Some prefix.trace) }
         ensures refused { IfErr result (λ e. IsPrefixRefusal self.now.config view.old e) }
         ensures err { OnErr result (view.new ≡ view.old) }
@@ -55,8 +57,11 @@ impl Recorder {
         rt: &R,
         alloc: Global,
     ) -> Result<Option<DecidedPrefix>, AllocError>
-        ensures run { IfOk result (λ shown. IfSome shown (λ prefix. IsRunOf self.now.config prefix.trace)) }
-        ensures decided { IfOk result (λ shown. IfSome shown (λ prefix. prefix.decisions.items ≡ decisions self.now.config prefix.trace.steps)) }
+        ensures run { IfOk result
+            (λ shown. IfSome shown (λ prefix. IsRunOf self.now.config prefix.trace)) }
+        ensures decided { IfOk result
+            (λ shown. IfSome shown
+            (λ prefix. prefix.decisions.items ≡ decisions self.now.config prefix.trace.steps)) }
     {
         let world = self.world.lock(rt);
         if !is_world_of(&world, &self.config, self.limit) {

@@ -1,6 +1,7 @@
 //! Drives: the loop of a thread that makes the steps of one processor.
 
-ghost use Rattle.std.specs.Prelude.{◌≡◌, ◌+◌, ◌<◌, ◌≤◌, ◌==◌, if◌then◌else◌, true, MatchResult, IfOk, IfErr, OnOk, OnErr};
+ghost use Rattle.std.specs.Prelude.{◌≡◌, ◌+◌, ◌<◌, ◌≤◌, ◌==◌, if◌then◌else◌, true};
+ghost use Rattle.std.specs.Prelude.{MatchResult, IfOk, IfErr, OnOk, OnErr};
 ghost use Rattle.locked_recorder.specs.Choices.{IsChoiceRefusal};
 ghost use Rattle.locked_recorder.specs.Drives.{drive_move, was_let_in, IsMoved, IsDriven, IsStopped};
 
@@ -38,10 +39,12 @@ impl Recorder {
         steps: u64,
     ) -> Result<u64, DriveError>
         requires { 1 ≤ patience }
-        ensures entered { MatchResult result (λ _. G.lets gate.now seat.old.proc true) (λ e. G.lets gate.now seat.old.proc (was_let_in e.why)) }
+        ensures entered { MatchResult result (λ _. G.lets gate.now seat.old.proc true)
+            (λ e. G.lets gate.now seat.old.proc (was_let_in e.why)) }
         ensures steps { IfOk result (λ made. made ≡ steps) }
         ensures driven { OnOk result (IsDriven self.now patience steps seat.old seat.new) }
-        ensures stopped { IfErr result (λ e. IsStopped self.now patience steps seat.old seat.new e) }
+        ensures stopped { IfErr result
+            (λ e. IsStopped self.now patience steps seat.old seat.new e) }
     {
         if !gate.enter(seat.proc) {
             return Err(DriveError {
@@ -71,8 +74,11 @@ impl Recorder {
         pace: &mut Pace,
     ) -> Result<(), RecordError>
         ensures tag { OnOk result (seat.old.tag ≡ self.now.tag) }
-        ensures moved { OnOk result (IsMoved self.now pace.old.patience pace.old.received pace.new.received seat.old seat.new) }
-        ensures refused { IfErr result (IsChoiceRefusal self.now seat.old (drive_move pace.old.patience pace.old.received)) }
+        ensures moved { OnOk result
+            (IsMoved self.now pace.old.patience pace.old.received pace.new.received
+            seat.old seat.new) }
+        ensures refused { IfErr result
+            (IsChoiceRefusal self.now seat.old (drive_move pace.old.patience pace.old.received)) }
         ensures patience { pace.new.patience ≡ pace.old.patience }
         ensures err { OnErr result (seat.new ≡ seat.old) }
     {

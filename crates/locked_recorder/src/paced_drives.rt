@@ -4,7 +4,8 @@ ghost use Rattle.std.specs.Prelude.{◌≡◌, ◌≤◌, length, true, false, M
 ghost use Rattle.step_trace.specs.Configurations.{IsProc};
 ghost use Rattle.deciding_runs.specs.Paces.{opening_pace, paced_move, after_move};
 ghost use Rattle.locked_recorder.specs.Drives.{was_let_in};
-ghost use Rattle.locked_recorder.specs.PacedDrives.{IsPacedAnswer, IsPacedStep, IsPaceRefused, IsPaceRefusal, IsPacedDrive, IsPacedStopped};
+ghost use Rattle.locked_recorder.specs.PacedDrives.{IsPacedAnswer, IsPacedStep, IsPaceRefused, IsPaceRefusal};
+ghost use Rattle.locked_recorder.specs.PacedDrives.{IsPacedDrive, IsPacedStopped};
 
 use crate::company::Company;
 use crate::errors::{DriveError, DriveStop, RecordError};
@@ -38,10 +39,12 @@ impl Recorder {
         patience: u64,
         steps: u64,
     ) -> Result<u64, DriveError>
-        ensures entered { MatchResult result (λ _. G.lets gate.now seat.old.proc true) (λ e. G.lets gate.now seat.old.proc (was_let_in e.why)) }
+        ensures entered { MatchResult result (λ _. G.lets gate.now seat.old.proc true)
+            (λ e. G.lets gate.now seat.old.proc (was_let_in e.why)) }
         ensures steps { IfOk result (λ made. made ≡ steps) }
         ensures driven { OnOk result (IsPacedDrive self.now patience steps seat.old seat.new) }
-        ensures stopped { IfErr result (λ e. IsPacedStopped self.now patience steps seat.old seat.new e) }
+        ensures stopped { IfErr result
+            (λ e. IsPacedStopped self.now patience steps seat.old seat.new e) }
     {
         let driven = self.drive_paced(rt, alloc, seat, gate, company, false, patience, steps);
         company.sleepers.leave(rt);
@@ -63,10 +66,13 @@ impl Recorder {
         patience: u64,
         steps: u64,
     ) -> Result<u64, DriveError>
-        ensures entered { MatchResult result (λ _. G.lets gate.now seat.old.proc true) (λ e. G.lets gate.now seat.old.proc (was_let_in e.why)) }
+        ensures entered { MatchResult result (λ _. G.lets gate.now seat.old.proc true)
+            (λ e. G.lets gate.now seat.old.proc (was_let_in e.why)) }
         ensures steps { IfOk result (λ made. made ≤ steps) }
-        ensures driven { IfOk result (λ made. IsPacedDrive self.now patience made seat.old seat.new) }
-        ensures stopped { IfErr result (λ e. IsPacedStopped self.now patience steps seat.old seat.new e) }
+        ensures driven { IfOk result
+            (λ made. IsPacedDrive self.now patience made seat.old seat.new) }
+        ensures stopped { IfErr result
+            (λ e. IsPacedStopped self.now patience steps seat.old seat.new e) }
     {
         let driven = self.drive_paced(rt, alloc, seat, gate, company, true, patience, steps);
         company.sleepers.leave(rt);
@@ -85,11 +91,14 @@ impl Recorder {
         patience: u64,
         steps: u64,
     ) -> Result<u64, DriveError>
-        ensures entered { MatchResult result (λ _. G.lets gate.now seat.old.proc true) (λ e. G.lets gate.now seat.old.proc (was_let_in e.why)) }
+        ensures entered { MatchResult result (λ _. G.lets gate.now seat.old.proc true)
+            (λ e. G.lets gate.now seat.old.proc (was_let_in e.why)) }
         ensures steps { IfOk result (λ made. made ≤ steps) }
         ensures whole { until_decided ≡ false → IfOk result (λ made. made ≡ steps) }
-        ensures driven { IfOk result (λ made. IsPacedDrive self.now patience made seat.old seat.new) }
-        ensures stopped { IfErr result (λ e. IsPacedStopped self.now patience steps seat.old seat.new e) }
+        ensures driven { IfOk result
+            (λ made. IsPacedDrive self.now patience made seat.old seat.new) }
+        ensures stopped { IfErr result
+            (λ e. IsPacedStopped self.now patience steps seat.old seat.new e) }
     {
         if !gate.enter(seat.proc) {
             return Err(DriveError {
@@ -128,7 +137,8 @@ impl Recorder {
     /// The pace before the first step from a seat.
     fn opening_pace(&self, alloc: Global, seat: &Seat, patience: u64) -> Result<Pace, RecordError>
         ensures pace { IfOk result (λ pace. pace ≡ opening_pace self.now.config patience) }
-        ensures refused { IfErr result (IsPaceRefusal self.now seat.now (opening_pace self.now.config patience)) }
+        ensures refused { IfErr result
+            (IsPaceRefusal self.now seat.now (opening_pace self.now.config patience)) }
     {
         if seat.tag != self.tag {
             return Err(RecordError::ForeignSeat);
@@ -197,7 +207,8 @@ impl Seat {
     ) -> Result<(), RecordError>
         requires { length pace.old.peers ≡ recorder.now.config.n }
         ensures tag { OnOk result (self.old.tag ≡ recorder.now.tag) }
-        ensures recorded { OnOk result (IsPacedStep recorder.now pace.old pace.new self.old self.new) }
+        ensures recorded { OnOk result
+            (IsPacedStep recorder.now pace.old pace.new self.old self.new) }
         ensures refused { IfErr result (IsPaceRefusal recorder.now self.old pace.old) }
         ensures peers { length pace.new.peers ≡ length pace.old.peers }
         ensures err { OnErr result (self.new ≡ self.old) }
@@ -220,8 +231,10 @@ impl Seat {
 /// of it is.
 fn next_move<'a>(world: &World, p: u64, pace: &mut Pace) -> Move<'a>
     requires { length pace.old.peers ≡ world.now.trace.config.n }
-    ensures moved { IsProc world.now.trace.config p → result ≡ paced_move world.now.trace.config world.now.trace.steps p pace.old }
-    ensures pace { IsProc world.now.trace.config p → pace.new ≡ after_move world.now.trace.config world.now.trace.steps p pace.old }
+    ensures moved { IsProc world.now.trace.config p
+        → result ≡ paced_move world.now.trace.config world.now.trace.steps p pace.old }
+    ensures pace { IsProc world.now.trace.config p
+        → pace.new ≡ after_move world.now.trace.config world.now.trace.steps p pace.old }
     ensures peers { length pace.new.peers ≡ length pace.old.peers }
 {
     if !world.trace().config().is_processor(p) {

@@ -44,7 +44,8 @@ impl Recorder {
         max_steps: u64,
     ) -> Result<(Recorder, Vec<Seat>), AllocError>
         requires { max_steps ≤ MAX_STEPS }
-        ensures recorder { IfOk result (λ made. made.0 ≡ record { tag = tag; config = config; limit = max_steps }) }
+        ensures recorder { IfOk result
+            (λ made. made.0 ≡ record { tag = tag; config = config; limit = max_steps }) }
         ensures seats { IfOk result (λ made. made.1.items ≡ opening_seats tag config.n) }
     {
         let seats = opening_seats(alloc, tag, &config)?;
@@ -69,7 +70,8 @@ impl Recorder {
 /// Whether a World is one of this configuration, in which so many steps may be made. The lock's type keeps that it
 /// is a World, and not which.
 pub(crate) fn is_world_of(world: &World, config: &Config, limit: u64) -> bool
-    ensures same { IsTrue result ↔ ((world.now.trace.config ≡ config.now) × (world.now.limit ≡ limit)) }
+    ensures same { IsTrue result
+        ↔ ((world.now.trace.config ≡ config.now) × (world.now.limit ≡ limit)) }
     ensures run { IsRun world.now.trace.config world.now.trace.steps }
     ensures one_per_tick { IsOnePerTick world.now.trace }
     ensures within { length world.now.trace.steps ≤ world.now.limit }

@@ -24,7 +24,8 @@ impl Recorder {
         step: Move,
     ) -> Result<&'a Done, RecordError>
         ensures tag { OnOk result (seat.old.tag ≡ self.now.tag) }
-        ensures answered { IfOk result (λ done. IsAnswer self.now seat.old.proc step.entry done.now) }
+        ensures answered { IfOk result
+            (λ done. IsAnswer self.now seat.old.proc step.entry done.now) }
         ensures refused { IfErr result (λ e. IsRecordRefusal self.now seat.old step.entry e) }
     {
         seat.step(rt, alloc, self, step)
@@ -81,7 +82,8 @@ impl Seat {
     ) -> Result<&'a Done, RecordError>
         ensures* lends { sem 𝓛 (Appends self.entry result) }
         ensures tag { OnOk result (self.old.tag ≡ recorder.now.tag) }
-        ensures answered { IfOk result (λ done. IsAnswer recorder.now self.old.proc step.entry done.now) }
+        ensures answered { IfOk result
+            (λ done. IsAnswer recorder.now self.old.proc step.entry done.now) }
         ensures refused { IfErr result (λ e. IsRecordRefusal recorder.now self.old step.entry e) }
     {
         self.record(rt, alloc, recorder, false, step)?;
@@ -99,8 +101,10 @@ impl Seat {
         step: Move,
     ) -> Result<(), RecordError>
         ensures tag { OnOk result (self.old.tag ≡ recorder.now.tag) }
-        ensures recorded { OnOk result (IsChosen recorder.now (chosen sends step.entry) self.old self.new) }
-        ensures refused { IfErr result (IsChoiceRefusal recorder.now self.old (chosen sends step.entry)) }
+        ensures recorded { OnOk result
+            (IsChosen recorder.now (chosen sends step.entry) self.old self.new) }
+        ensures refused { IfErr result
+            (IsChoiceRefusal recorder.now self.old (chosen sends step.entry)) }
         ensures err { OnErr result (self.new ≡ self.old) }
     {
         if self.tag != recorder.tag {

@@ -20,7 +20,8 @@ pub(crate) fn compare_seats(
     seats: &[Seat],
 ) -> Result<Vec<Option<usize>>, AllocError>
     requires order { AreInOrder world.now.trace.config seats.now }
-    ensures { IfOk result (λ agreed. AreCompared world.now.trace.config world.now.trace.steps (length world.now.trace.steps) seats.now agreed.items) }
+    ensures { IfOk result (λ agreed. AreCompared world.now.trace.config world.now.trace.steps
+        (length world.now.trace.steps) seats.now agreed.items) }
 {
     let trace = world.trace();
     let n = trace.config().n() as usize;
@@ -60,7 +61,8 @@ fn next_agreed(
     round: u64,
     decision: Option<u64>,
 ) -> Option<usize>
-    ensures { IsNextAgreed own.now (record { no = no; step = step.now; round = round; decision = decision }) agreed result }
+    ensures { IsNextAgreed own.now
+        (record { no = no; step = step.now; round = round; decision = decision }) agreed result }
 {
     match agreed {
         Some(count) if has_at(own, count, no, step, round, decision) => Some(count + 1),
@@ -77,7 +79,9 @@ fn has_at(
     round: u64,
     decision: Option<u64>,
 ) -> bool
-    ensures { IsTrue result ↔ (slice_get list.now index ≡ Some (record { no = no; step = step.now; round = round; decision = decision })) }
+    ensures { IsTrue result
+        ↔ (slice_get list.now index ≡ Some
+        (record { no = no; step = step.now; round = round; decision = decision })) }
 {
     match list.get(index) {
         Some(done) => {

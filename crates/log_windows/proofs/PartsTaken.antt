@@ -1,5 +1,7 @@
 -- A text that is read part by part leads where it leads when it is read whole.
-use Rattle.std.proofs.Common.{◌≡◌, ◌≤◌, ◌<◌, ◌+◌, ◌∙◌, ℕ, zero, suc, List, [], ◌∷◌, ◌++◌, length, take, drop, Option, Some, None, IfSome, Result, Ok, Err, Bool, true, false, cond, inl, inr, refl, sym, ap, subst, arith, append_assoc, append-nil, take-append-drop}
+use Rattle.std.proofs.Common.{◌≡◌, ◌≤◌, ◌<◌, ◌+◌, ◌∙◌, ℕ, zero, suc, List, [], ◌∷◌, ◌++◌, length, take, drop, Option}
+use Rattle.std.proofs.Common.{Some, None, IfSome, Result, Ok, Err, Bool, true, false, cond, inl, inr, refl, sym, ap}
+use Rattle.std.proofs.Common.{subst, arith, append_assoc, append-nil, take-append-drop}
 use Rattle.std.specs.Prelude.{MatchBool, ⊤}
 use Rattle.std.proofs.KnownBytes.{Consumes-trans, Consumes-whole}
 use Rattle.std.specs.Io.KnownBytes.{Consumes, IsAtEnd}
@@ -36,8 +38,10 @@ grew-more old mid new before so_far after bytes g c e = record {
 -- ---- the front of the bytes behind a line feed
 
 -- those that were whole were taken in
-pub front-taken : {S : Type 0} (next : S → List (List ℕ) → Result S LogError) (old new : S) (bytes rest after : List ℕ) (cut : ℕ) → rest ≡ 10 ∷ bytes → (cut ≡ 0 → ⊥)
-    → cut ≤ length rest → IsClosed (take cut rest) → EndsNone rest cut → after_records next old (records_of_text (take cut rest)) ≡ Ok new → after ≡ take 1 rest ++ drop cut rest → IsTaken next old new bytes after
+pub front-taken : {S : Type 0} (next : S → List (List ℕ) → Result S LogError) (old new : S) (bytes rest after : List ℕ)
+    (cut : ℕ) → rest ≡ 10 ∷ bytes → (cut ≡ 0 → ⊥) → cut ≤ length rest → IsClosed (take cut rest) → EndsNone rest cut
+    → after_records next old (records_of_text (take cut rest)) ≡ Ok new → after ≡ take 1 rest ++ drop cut rest
+    → IsTaken next old new bytes after
 front-taken next old new bytes rest after zero e some within closed last h k = absurd (some refl)
 front-taken next old new bytes rest after (suc n) e some within closed last h k =
     let own : IsClosed (take n bytes) = closed-behind-line (take n bytes) (subst (λ xs. IsClosed (take (suc n) xs)) e closed) in
@@ -117,15 +121,19 @@ part-taken next s known left rest after old new h t =
     }
 
 -- what was read is refused, whatever comes behind it
-read-refused : {S : Type 0} (next : S → List (List ℕ) → Result S LogError) (s : S) (known left : Option (List ℕ)) (gone bytes : List ℕ) (state : S) (why : LogError) → Consumes known left (gone ++ bytes)
-    → ((more : List ℕ) → after_records next s (records_of_text (gone ++ (bytes ++ more))) ≡ after_records next state (records default_config (bytes ++ more)))
-    → ((more : List ℕ) → after_records next state (records default_config (bytes ++ more)) ≡ Err why) → IfSome known (λ text. after_records next s (records_of_text text) ≡ Err why)
+read-refused : {S : Type 0} (next : S → List (List ℕ) → Result S LogError) (s : S) (known left : Option (List ℕ))
+    (gone bytes : List ℕ) (state : S) (why : LogError) → Consumes known left (gone ++ bytes)
+    → ((more : List ℕ) → after_records next s (records_of_text (gone ++ (bytes ++ more))) ≡ after_records next state
+    (records default_config (bytes ++ more)))
+    → ((more : List ℕ) → after_records next state (records default_config (bytes ++ more)) ≡ Err why)
+    → IfSome known (λ text. after_records next s (records_of_text text) ≡ Err why)
 read-refused next s None left gone bytes state why c leads refuses = tt
 read-refused next s (Some text) None gone bytes state why c leads refuses = absurd c
 read-refused next s (Some text) (Some ys) gone bytes state why c leads refuses =
     ap (λ xs. after_records next s (records_of_text xs)) (c ∙ append_assoc gone bytes ys) ∙ leads ys ∙ refuses ys
 
-if-refused : {S : Type 0} (next : S → List (List ℕ) → Result S LogError) (s : S) (known : Option (List ℕ)) (why : LogError) → IfSome known (λ text. after_records next s (records_of_text text) ≡ Err why)
+if-refused : {S : Type 0} (next : S → List (List ℕ) → Result S LogError) (s : S) (known : Option (List ℕ))
+    (why : LogError) → IfSome known (λ text. after_records next s (records_of_text text) ≡ Err why)
     → IfSome known (λ text. HasRefusal next s text why)
 if-refused next s None why h = tt
 if-refused next s (Some text) why h = inl h
@@ -135,8 +143,10 @@ if-unless true None P h = tt
 if-unless true (Some text) P h = tt
 if-unless false known P h = h
 
-pub part-refused : {S : Type 0} (next : S → List (List ℕ) → Result S LogError) (s : S) (known left : Option (List ℕ)) (rest : List ℕ) (state : S) (why : LogError) (h : IsReadTo next s known left rest state)
-    → MatchBool (is_memory why) ⊤ ((more : List ℕ) → after_records next state (records default_config (h.bytes ++ more)) ≡ Err why)
+pub part-refused : {S : Type 0} (next : S → List (List ℕ) → Result S LogError) (s : S) (known left : Option (List ℕ))
+    (rest : List ℕ) (state : S) (why : LogError) (h : IsReadTo next s known left rest state)
+    → MatchBool (is_memory why) ⊤ ((more : List ℕ)
+    → after_records next state (records default_config (h.bytes ++ more)) ≡ Err why)
     → IfSome known (IsRowRefusal next s (unread.Log why))
 part-refused next s known left rest state why h r =
     if-unless (is_memory why) known (λ text. HasRefusal next s text why)

@@ -1,5 +1,8 @@
 -- What is kept of a log record by record, and at once.
-use Rattle.std.proofs.Common.{◌≡◌, ◌∙◌, ℕ, suc, ◌+◌, ◌<◌, ℤ, Bool, true, false, cond, not, ◌&&◌, ◌||◌, All, IsSome, List, [], ◌∷◌, ◌++◌, Option, Some, None, Result, Ok, Err, codes, fold, filter, flat_map, length, map, option_map, bytes_eq, refl, sym, ap, subst, arith, append_assoc, append-nil, ltb-true, ne_eqb, zero-add}
+use Rattle.std.proofs.Common.{◌≡◌, ◌∙◌, ℕ, suc, ◌+◌, ◌<◌, ℤ, Bool, true, false, cond, not, ◌&&◌, ◌||◌, All, IsSome}
+use Rattle.std.proofs.Common.{List, [], ◌∷◌, ◌++◌, Option, Some, None, Result, Ok, Err, codes, fold, filter, flat_map}
+use Rattle.std.proofs.Common.{length, map, option_map, bytes_eq, refl, sym, ap, subst, arith, append_assoc, append-nil}
+use Rattle.std.proofs.Common.{ltb-true, ne_eqb, zero-add}
 use Rattle.std.specs.Prelude.{nat_le, ◌==◌}
 use Rattle.std.specs.List.{join_with_byte, list_all, list_any}
 use Rattle.std.specs.Option.{ok_or, option_map_or, option_or}
@@ -38,7 +41,9 @@ use Rattle.log_windows.specs.KeptTexts.{Kept, is_receive, kept_event, kept_names
 use Rattle.log_windows.specs.Lists.{next_spread, nothing_spread, spread_event, spread_header, spread_of}
 use Rattle.log_windows.specs.LogWindows.{IsWindow}
 use Rattle.log_windows.specs.Rows.{with_field}
-use Rattle.log_windows.specs.WindowLaws.{AreKept, IsBare, IsCut, IsCutBy, IsCutOf, IsListOf, IsSentOf, IsWindowAtOnce, Row, at_place, count_unsent, events_in, is_in, is_sent, names_sent, placed, rows_all, rows_in, sends, sent_row, unsent_in}
+use Rattle.log_windows.specs.WindowLaws.{AreKept, IsBare, IsCut, IsCutBy, IsCutOf, IsListOf, IsSentOf, IsWindowAtOnce}
+use Rattle.log_windows.specs.WindowLaws.{Row, at_place, count_unsent, events_in, is_in, is_sent, names_sent, placed}
+use Rattle.log_windows.specs.WindowLaws.{rows_all, rows_in, sends, sent_row, unsent_in}
 use Rattle.log_windows.specs.Windows.{event_after, header_after, next_row, nothing_read, window_of}
 use Rattle.log_windows.proofs.RowsRead.{HasField, records-some, rows-read, with_field-some}
 
@@ -351,8 +356,10 @@ first-cut columns unit from until header first events moment bounds rows end som
     }
 
 -- all events
-all-cut : (columns : Columns) (unit : Option TimeUnit) (from : LogEnd) (until : Option LogEnd) (header : List (List ℕ)) (events : List (List (List ℕ))) (end : Reading) → HasField header → All HasField events
-    → after_records next_row (state columns unit from until None 0 (with_header header begun)) events ≡ Ok end → IsCutBy unit from until columns header events end.rows
+all-cut : (columns : Columns) (unit : Option TimeUnit) (from : LogEnd) (until : Option LogEnd) (header : List (List ℕ))
+    (events : List (List (List ℕ))) (end : Reading) → HasField header → All HasField events
+    → after_records next_row (state columns unit from until None 0 (with_header header begun)) events ≡ Ok end
+    → IsCutBy unit from until columns header events end.rows
 unfolding state
 all-cut columns unit from until header [] end some every h =
     let is : state columns unit from until None 0 (with_header header begun) ≡ end = cc h in
@@ -542,7 +549,8 @@ all-sent columns sent (fields ∷ events) old end h =
       unsent = rest.unsent;
     }
 
-records-sent : (sent : List (List ℕ)) (records : List (List (List ℕ))) (end : Keeping) → All HasField records → after_records next_kept (nothing_kept sent) records ≡ Ok end → IsSentOf sent records end.kept
+records-sent : (sent : List (List ℕ)) (records : List (List (List ℕ))) (end : Keeping) → All HasField records
+    → after_records next_kept (nothing_kept sent) records ≡ Ok end → IsSentOf sent records end.kept
 records-sent sent [] end every h =
     let is : nothing_kept sent ≡ end = cc h in
     (ap (λ (k : Keeping). k.kept.text) (sym is), ap (λ (k : Keeping). k.kept.unsent) (sym is))
@@ -568,7 +576,8 @@ receives sent text kept h =
     subst (IsSentOf sent (records_of_text text)) same (records-sent sent (records_of_text text) end.0 (records-some text) end.1)
 
 -- what is handed out is both
-pub at-once : (unit : Option TimeUnit) (from : LogEnd) (until : Option LogEnd) (text : List ℕ) (w : LogWindow) → IsWindow unit from until text w → IsWindowAtOnce unit from until (records_of_text text) w
+pub at-once : (unit : Option TimeUnit) (from : LogEnd) (until : Option LogEnd) (text : List ℕ) (w : LogWindow)
+    → IsWindow unit from until text w → IsWindowAtOnce unit from until (records_of_text text) w
 at-once unit from until text w h = record {
   kept = h.read.rows;
   cut = cut unit from until text h.read h.is;

@@ -21,7 +21,8 @@ first_in k from = start_of (end_in k from)
 -- the window from a time on, to another if that isn't before it
 abbrev pub bounds_of : ℤ → Option ℤ → Result Bounds LogError
 bounds_of first None = Ok (record { first = first; last = None })
-bounds_of first (Some last) = if int_lt last first then Err FromUnfit else Ok (record { first = first; last = Some last })
+bounds_of first (Some last) = if int_lt last first then Err FromUnfit else Ok
+    (record { first = first; last = Some last })
 
 -- the window as times of this kind are counted
 abbrev pub bounds_in : TimeKind → LogEnd → Option LogEnd → Result Bounds LogError

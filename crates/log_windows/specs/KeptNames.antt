@@ -9,7 +9,8 @@ use Rattle.log_windows.specs.KeptTexts.{Kept, kept_event, with_kept}
 
 -- the header, and then an event in each record
 abbrev pub kept_by : Option Columns → Keeping → List (List ℕ) → Result Keeping LogError
-kept_by None k fields = columns_of fields >>= λ columns. Ok (record k { columns = Some columns; kept = with_kept fields 0 k.kept })
+kept_by None k fields = columns_of fields >>= λ columns.
+    Ok (record k { columns = Some columns; kept = with_kept fields 0 k.kept })
 kept_by (Some columns) k fields = Ok (record k { kept = kept_event columns k.sent fields k.kept })
 
 -- what one more record makes of what is kept

@@ -1,5 +1,6 @@
 -- What is kept of a log: its header, and the records in a window.
-use Rattle.std.specs.Prelude.{ℕ, ℤ, ◌+◌, Bool, ◌==◌, false, List, [], ◌∷◌, ◌++◌, map, Result, Ok, Err, codes, is_some, length, nat_le, if◌then◌else◌}
+use Rattle.std.specs.Prelude.{ℕ, ℤ, ◌+◌, Bool, ◌==◌, false, List, [], ◌∷◌, ◌++◌, map, Result}
+use Rattle.std.specs.Prelude.{Ok, Err, codes, is_some, length, nat_le, if◌then◌else◌}
 use Rattle.std.specs.List.{slice_split}
 use Rattle.std.specs.Str.{bytes_eq}
 use Rattle.csv.specs.Writing.{row_text}
@@ -49,7 +50,8 @@ nodes_in field = slice_split (λ byte. byte == 59) field
 -- a record for each node that a message is sent to; any other record is one
 abbrev pub rows_of : Columns → List (List ℕ) → List (List (List ℕ))
 rows_of columns fields =
-    if bytes_eq (field_of fields columns.event) (codes "send") then map (with_field fields columns.to) (nodes_in (field_of fields columns.to)) else fields ∷ []
+    if bytes_eq (field_of fields columns.event) (codes "send") then map (with_field fields columns.to)
+    (nodes_in (field_of fields columns.to)) else fields ∷ []
 
 -- By what a message is known: its name, and the node that it is for. A name of messages has no space, so no two
 -- messages have one key.
@@ -59,7 +61,8 @@ key_of name node = name ++ 32 ∷ node
 -- the keys of messages that are sent, after a record
 abbrev pub keys_after : Columns → List (List ℕ) → List (List ℕ) → List (List ℕ)
 keys_after columns fields sent =
-    if bytes_eq (field_of fields columns.event) (codes "send") then with_name sent (key_of (field_of fields columns.message) (field_of fields columns.to)) else sent
+    if bytes_eq (field_of fields columns.event) (codes "send") then with_name sent
+    (key_of (field_of fields columns.message) (field_of fields columns.to)) else sent
 
 abbrev pub with_header : List (List ℕ) → Rows → Rows
 with_header fields rows = record rows { text = rows.text ++ row_text our_writer fields }

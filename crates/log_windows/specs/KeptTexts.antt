@@ -21,7 +21,8 @@ with_word text word = if length text == 0 then word else text ++ 32 ∷ word
 -- one more message that a node receives, if one of these is sent to it
 abbrev pub next_name : List (List ℕ) → List ℕ → Kept → List ℕ → Kept
 next_name sent node kept name =
-    if has_name sent (key_of name node) then record kept { text = with_word kept.text name } else record kept { unsent = kept.unsent + 1 }
+    if has_name sent (key_of name node) then record kept { text = with_word kept.text name }
+    else record kept { unsent = kept.unsent + 1 }
 
 -- those of the messages in a field that are sent to the node that received them
 abbrev pub kept_names : List (List ℕ) → List ℕ → List ℕ → Kept
@@ -29,7 +30,8 @@ kept_names sent node field = fold (next_name sent node) (record { text = []; uns
 
 -- whether a record is a receive of messages: else it is refused later, and stays as it is
 abbrev pub is_receive : Columns → List (List ℕ) → Bool
-is_receive columns fields = bytes_eq (field_of fields columns.event) (codes "receive") && are_message_names (field_of fields columns.message)
+is_receive columns fields = bytes_eq (field_of fields columns.event) (codes "receive") && are_message_names
+    (field_of fields columns.message)
 
 -- a record, of which so many messages were left out
 abbrev pub with_kept : List (List ℕ) → ℕ → Kept → Kept
@@ -42,5 +44,6 @@ with_names columns fields names kept = with_kept (with_field fields columns.mess
 -- the record of an event, by the keys of the messages that are sent
 abbrev pub kept_event : Columns → List (List ℕ) → List (List ℕ) → Kept → Kept
 kept_event columns sent fields kept =
-    if is_receive columns fields then with_names columns fields (kept_names sent (field_of fields columns.node) (field_of fields columns.message)) kept
+    if is_receive columns fields then with_names columns fields
+    (kept_names sent (field_of fields columns.node) (field_of fields columns.message)) kept
     else with_kept fields 0 kept

@@ -22,7 +22,8 @@ spread_event columns s fields =
 
 -- the header
 abbrev pub spread_header : Spreading → List (List ℕ) → Result Spreading LogError
-spread_header s fields = columns_of fields >>= λ columns. Ok (record s { columns = Some columns; rows = with_header fields s.rows })
+spread_header s fields = columns_of fields >>= λ columns.
+    Ok (record s { columns = Some columns; rows = with_header fields s.rows })
 
 -- the header, and then an event in each record
 abbrev pub spread_by : Option Columns → Spreading → List (List ℕ) → Result Spreading LogError

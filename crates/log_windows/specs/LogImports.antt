@@ -25,20 +25,25 @@ IsSpreadRefusal P text why =
 
 -- the import of a log
 abbrev pub IsLogImport : Options → List ℕ → Import → Type 0
-IsLogImport o text import = MatchBool (may_list text) (OfSpread (λ w. IsWindowImport o w import) text) (IsImportOf o text import)
+IsLogImport o text import = MatchBool (may_list text) (OfSpread (λ w. IsWindowImport o w import) text)
+    (IsImportOf o text import)
 
 -- the same with the table of its steps
 abbrev pub IsLogTable : Options → List ℕ → Import → List ℕ → Type 0
-IsLogTable o text import table = MatchBool (may_list text) (OfSpread (λ w. IsWindowTable o w import table) text) (IsTableOf o text import table)
+IsLogTable o text import table = MatchBool (may_list text) (OfSpread (λ w. IsWindowTable o w import table) text)
+    (IsTableOf o text import table)
 
 -- the rows of the table of the lengths of a tick
 abbrev pub AreLogTicks : Options → List ℕ → TimeKind → List TickRow → Type 0
-AreLogTicks o text kind rows = MatchBool (may_list text) (OfSpread (λ w. IsTickTable o w.text.items kind rows) text) (IsTickTable o text kind rows)
+AreLogTicks o text kind rows = MatchBool (may_list text) (OfSpread (λ w. IsTickTable o w.text.items kind rows) text)
+    (IsTickTable o text kind rows)
 
 -- why a log is refused
 abbrev pub IsLogImportRefusal : Options → List ℕ → LogError → Type 0
-IsLogImportRefusal o text why = MatchBool (may_list text) (IsSpreadRefusal (λ w. IsWindowImportRefusal o w why) text why) (IsLogRefusal o text why)
+IsLogImportRefusal o text why =
+    MatchBool (may_list text) (IsSpreadRefusal (λ w. IsWindowImportRefusal o w why) text why) (IsLogRefusal o text why)
 
 -- the same of the table of the lengths of a tick
 abbrev pub IsLogTicksRefusal : Options → List ℕ → LogError → Type 0
-IsLogTicksRefusal o text why = MatchBool (may_list text) (IsSpreadRefusal (λ w. IsWindowTicksRefusal o w why) text why) (IsTickRefusal o text why)
+IsLogTicksRefusal o text why = MatchBool (may_list text) (IsSpreadRefusal (λ w. IsWindowTicksRefusal o w why) text why)
+    (IsTickRefusal o text why)

@@ -25,7 +25,8 @@ pub record IsKeptOf (r : Reading) (w : LogWindow) : Type 0 where
 pub record IsSpreadOf (text : List ℕ) (w : LogWindow) : Type 0 where
   pub sent : List (List ℕ)
   pub outside : ℕ
-  pub spread : spread_of text ≡ Ok (record { text = w.text.items; places = w.places.items; sent = sent; outside = outside })
+  pub spread : spread_of text ≡ Ok
+      (record { text = w.text.items; places = w.places.items; sent = sent; outside = outside })
   pub outside_are : w.outside ≡ 0
   pub unsent_are : w.unsent ≡ 0
 
@@ -38,13 +39,15 @@ abbrev pub IsUnkept : Reading → LogError → Type 0
 IsUnkept r why = MatchBool (is_memory why) ⊤ (names_kept r.rows.sent r.rows.text ≡ Err why)
 
 -- the window is that of a text
-pub record IsWindow (unit : Option TimeUnit) (from : LogEnd) (until : Option LogEnd) (text : List ℕ) (w : LogWindow) : Type 0 where
+pub record IsWindow (unit : Option TimeUnit) (from : LogEnd) (until : Option LogEnd) (text : List ℕ)
+    (w : LogWindow) : Type 0 where
   pub read : Reading
   pub is : window_of unit from until text ≡ Ok read
   pub made : IsKeptOf read w
 
 -- the same of a text, which is all that the device had, if that is known
-pub record IsWindowOf (unit : Option TimeUnit) (from : LogEnd) (until : Option LogEnd) (known : Option (List ℕ)) (w : LogWindow) : Type 0 where
+pub record IsWindowOf (unit : Option TimeUnit) (from : LogEnd) (until : Option LogEnd) (known : Option (List ℕ))
+    (w : LogWindow) : Type 0 where
   pub text : List ℕ
   pub is : IfSome known (λ bytes. text ≡ bytes)
   pub window : IsWindow unit from until text w
@@ -59,4 +62,5 @@ HasNoWindow unit from until text why =
 -- the same; a failed read and out of memory may come anywhere
 abbrev pub IsWindowRefusal : Option TimeUnit → LogEnd → Option LogEnd → WindowError → List ℕ → Type 0
 IsWindowRefusal unit from until unread.Read text = ⊤
-IsWindowRefusal unit from until (unread.Log why) text = MatchBool (is_memory why) ⊤ (HasNoWindow unit from until text why)
+IsWindowRefusal unit from until (unread.Log why) text =
+    MatchBool (is_memory why) ⊤ (HasNoWindow unit from until text why)

@@ -22,8 +22,10 @@ numbered_row places fields = numbered_by (number_of (field_of fields 3)) places 
 
 -- one record more
 abbrev pub next_numbered : NumberedRows → List (List ℕ) → Result NumberedRows LogError
-next_numbered rows fields = Ok (record rows { text = rows.text ++ row_text our_writer (numbered_row rows.places fields) })
+next_numbered rows fields =
+    Ok (record rows { text = rows.text ++ row_text our_writer (numbered_row rows.places fields) })
 
 -- a table with the numbers of the log
 abbrev pub table_in : List ℕ → List ℕ → Result (List ℕ) LogError
-table_in places table = after_records next_numbered (record { places = places; text = [] }) (records_of_text table) >>= λ rows. Ok rows.text
+table_in places table = after_records next_numbered (record { places = places; text = [] })
+    (records_of_text table) >>= λ rows. Ok rows.text

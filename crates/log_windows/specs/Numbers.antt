@@ -4,7 +4,10 @@ use Rattle.event_log.specs.declared.cycle_lines.CycleLine.{CycleLine}
 use Rattle.event_log.specs.declared.cycle_lines.CycleLine.TheVariants as line
 use Rattle.event_log.specs.declared.imports.Import.{Import}
 use Rattle.event_log.specs.declared.refusals.LogError.{LogError}
-use Rattle.event_log.specs.declared.refusals.LogError.TheVariants.{BadFields, BadTime, BadEvent, BadNode, BadMessage, TooManyNodes, SentBefore, NeverSent, WrongReceiver, ReceivedBefore, NotLater, SecondEvent, Cycle, NoOffsets}
+use Rattle.event_log.specs.declared.refusals.LogError.TheVariants.{BadFields, BadTime, BadEvent, BadNode, BadMessage}
+use Rattle.event_log.specs.declared.refusals.LogError.TheVariants.{TooManyNodes, SentBefore, NeverSent, WrongReceiver}
+use Rattle.event_log.specs.declared.refusals.LogError.TheVariants.{ReceivedBefore, NotLater, SecondEvent, Cycle}
+use Rattle.event_log.specs.declared.refusals.LogError.TheVariants.{NoOffsets}
 use Rattle.timed_events.specs.declared.lateness.LateMessage.{LateMessage}
 use Rattle.timed_events.specs.declared.lateness.Lateness.{Lateness}
 use Rattle.timed_events.specs.declared.spread_traces.Moved.{Moved}
@@ -19,8 +22,10 @@ number_in places n = place_in places (n - 2) + 2
 
 -- a line of a cycle by the records of the log
 abbrev pub line_in : List ℕ → CycleLine → CycleLine
-line_in places (line.Hop number node message sender sent after) = line.Hop (number_in places number) node message sender (number_in places sent) (number_in places after)
-line_in places (line.Clock number message sender receiver took sent) = line.Clock (number_in places number) message sender receiver took (number_in places sent)
+line_in places (line.Hop number node message sender sent after) =
+    line.Hop (number_in places number) node message sender (number_in places sent) (number_in places after)
+line_in places (line.Clock number message sender receiver took sent) =
+    line.Clock (number_in places number) message sender receiver took (number_in places sent)
 line_in places other = other
 
 -- the lines of a cycle by the records of the log
@@ -47,15 +52,19 @@ refusal_in places why = why
 
 -- how far events moved, by the place of the farthest in the log
 abbrev pub moved_in : List ℕ → Moved → Moved
-moved_in places moved = record { events = moved.events; ticks = moved.ticks; farthest = option_map (place_in places) moved.farthest }
+moved_in places moved =
+    record { events = moved.events; ticks = moved.ticks; farthest = option_map (place_in places) moved.farthest }
 
 -- a late message by the places of its events in the log
 abbrev pub late_in : List ℕ → LateMessage → LateMessage
-late_in places late = record { event = place_in places late.event; message = place_in places late.message; by = late.by }
+late_in places late =
+    record { event = place_in places late.event; message = place_in places late.message; by = late.by }
 
 abbrev pub lateness_in : List ℕ → Lateness → Lateness
-lateness_in places lateness = record { messages = lateness.messages; worst = option_map (late_in places) lateness.worst }
+lateness_in places lateness =
+    record { messages = lateness.messages; worst = option_map (late_in places) lateness.worst }
 
 -- an import of the window by the records of the log
 abbrev pub import_in : List ℕ → Import → Import
-import_in places import = record import { moved = moved_in places import.moved; lateness = lateness_in places import.lateness }
+import_in places import =
+    record import { moved = moved_in places import.moved; lateness = lateness_in places import.lateness }

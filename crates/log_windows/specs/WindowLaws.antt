@@ -1,5 +1,6 @@
 -- What is kept of a log, said at once: of its header and all its events, in place of one record after the other.
-use Rattle.std.specs.Prelude.{ℕ, ◌≡◌, ◌+◌, ◌&&◌, Bool, false, not, All, IsSome, List, [], ◌∷◌, ◌++◌, Option, Some, None, Ok, codes, filter, flat_map, length, map, option_map, sum_by, if◌then◌else◌}
+use Rattle.std.specs.Prelude.{ℕ, ◌≡◌, ◌+◌, ◌&&◌, Bool, false, not, All, IsSome, List, [], ◌∷◌, ◌++◌, Option, Some}
+use Rattle.std.specs.Prelude.{None, Ok, codes, filter, flat_map, length, map, option_map, sum_by, if◌then◌else◌}
 use Rattle.std.specs.List.{join_with_byte, list_any}
 use Rattle.std.specs.Option.{option_map_or}
 use Rattle.std.specs.Str.{bytes_eq}
@@ -38,7 +39,8 @@ at_place place records = map (λ fields. record { place = place; fields = fields
 -- whether a record sends the message that is known by a key
 abbrev pub sends : Columns → List ℕ → Row → Bool
 sends columns key row =
-    bytes_eq (field_of row.fields columns.event) (codes "send") && bytes_eq key (key_of (field_of row.fields columns.message) (field_of row.fields columns.to))
+    bytes_eq (field_of row.fields columns.event) (codes "send") && bytes_eq key
+    (key_of (field_of row.fields columns.message) (field_of row.fields columns.to))
 
 -- these rows are kept: after a line feed, the header and then each row, as they are read back. The places are those of
 -- the rows' events, and the keys those of the messages that the rows send
@@ -57,7 +59,8 @@ pub record IsBare (kept : Rows) : Type 0 where
 
 -- whether an event has a time of the kind of the times, and this is in the window
 abbrev pub is_in : Columns → Times → Row → Bool
-is_in columns times event = option_map_or (is_within times.bounds) (time_as times.kind (field_of event.fields columns.time)) false
+is_in columns times event = option_map_or (is_within times.bounds)
+    (time_as times.kind (field_of event.fields columns.time)) false
 
 -- the events in a window
 abbrev pub events_in : Columns → Times → List (List (List ℕ)) → List Row
@@ -67,20 +70,25 @@ events_in columns times events = filter (is_in columns times) (placed 0 events)
 abbrev pub rows_in : Columns → TimeKind → Row → List Row
 rows_in columns k event = at_place event.place (rows_of columns (told_row columns k event.fields))
 
--- The first event gives the kind of the times, and each event has a time of this kind. The window by such times keeps the
+-- The first event gives the kind of the times, and each event has a time of this kind. The window by such times keeps
+-- the
 -- rows of exactly the events in it, and counts the others
-pub record IsCut (unit : Option TimeUnit) (from : LogEnd) (until : Option LogEnd) (columns : Columns) (header first : List (List ℕ)) (events : List (List (List ℕ))) (kept : Rows) : Type 0 where
+pub record IsCut (unit : Option TimeUnit) (from : LogEnd) (until : Option LogEnd) (columns : Columns)
+    (header first : List (List ℕ)) (events : List (List (List ℕ))) (kept : Rows) : Type 0 where
   pub times : Times
-  pub kind : option_map (λ moment. moment.kind) (moment_as (settled unit None) (field_of first columns.time)) ≡ Some times.kind
+  pub kind : option_map (λ moment. moment.kind) (moment_as (settled unit None) (field_of first columns.time))
+      ≡ Some times.kind
   pub timed : All (λ fields. IsSome (time_as times.kind (field_of fields columns.time))) events
   pub bounds : bounds_in times.kind from until ≡ Ok times.bounds
   pub rows : AreKept columns header (flat_map (rows_in columns times.kind) (events_in columns times events)) kept
   pub outside : kept.outside + length (events_in columns times events) ≡ length events
 
 -- with no event, the header alone
-abbrev pub IsCutBy : Option TimeUnit → LogEnd → Option LogEnd → Columns → List (List ℕ) → List (List (List ℕ)) → Rows → Type 0
+abbrev pub IsCutBy : Option TimeUnit → LogEnd → Option LogEnd → Columns → List (List ℕ) → List (List (List ℕ))
+    → Rows → Type 0
 IsCutBy unit from until columns header [] kept = AreKept columns header [] kept × (kept.outside ≡ 0)
-IsCutBy unit from until columns header (first ∷ more) kept = IsCut unit from until columns header first (first ∷ more) kept
+IsCutBy unit from until columns header (first ∷ more) kept =
+    IsCut unit from until columns header first (first ∷ more) kept
 
 -- what is kept of a log for a window, by all its records
 abbrev pub IsCutOf : Option TimeUnit → LogEnd → Option LogEnd → List (List (List ℕ)) → Rows → Type 0
@@ -96,7 +104,8 @@ rows_all columns event = at_place event.place (rows_of columns event.fields)
 abbrev pub IsListOf : List (List (List ℕ)) → Rows → Type 0
 IsListOf [] kept = IsBare kept
 IsListOf (header ∷ events) kept =
-    (columns : Columns) × (columns_of header ≡ Ok columns) × AreKept columns header (flat_map (rows_all columns) (placed 0 events)) kept × (kept.outside ≡ 0)
+    (columns : Columns) × (columns_of header ≡ Ok columns)
+    × AreKept columns header (flat_map (rows_all columns) (placed 0 events)) kept × (kept.outside ≡ 0)
 
 -- whether a message is sent to a node, by the keys of those that are sent
 abbrev pub is_sent : List (List ℕ) → List ℕ → List ℕ → Bool
@@ -113,26 +122,32 @@ count_unsent sent node field = length (filter (λ name. not (is_sent sent node n
 abbrev pub sent_row : Columns → List (List ℕ) → List (List ℕ) → List (List ℕ)
 sent_row columns sent fields =
     if is_receive columns fields
-    then with_field fields columns.message (join_with_byte 32 (names_sent sent (field_of fields columns.node) (field_of fields columns.message)))
+    then with_field fields columns.message
+    (join_with_byte 32 (names_sent sent (field_of fields columns.node) (field_of fields columns.message)))
     else fields
 
 abbrev pub unsent_in : Columns → List (List ℕ) → List (List ℕ) → ℕ
 unsent_in columns sent fields =
-    if is_receive columns fields then count_unsent sent (field_of fields columns.node) (field_of fields columns.message) else 0
+    if is_receive columns fields then count_unsent sent (field_of fields columns.node)
+    (field_of fields columns.message) else 0
 
 -- a text without the received messages that nobody sends: after a line feed, the header and each event so, as they are
 -- read back
-pub record IsSentBy (columns : Columns) (sent : List (List ℕ)) (header : List (List ℕ)) (events : List (List (List ℕ))) (kept : Kept) : Type 0 where
-  pub text : kept.text ≡ 10 ∷ (row_text our_writer header ++ flat_map (λ fields. row_text our_writer (sent_row columns sent fields)) events)
+pub record IsSentBy (columns : Columns) (sent : List (List ℕ)) (header : List (List ℕ)) (events : List (List (List ℕ)))
+    (kept : Kept) : Type 0 where
+  pub text : kept.text ≡ 10
+      ∷ (row_text our_writer header ++ flat_map (λ fields. row_text our_writer (sent_row columns sent fields)) events)
   pub read : records_of_text kept.text ≡ header ∷ map (sent_row columns sent) events
   pub unsent : kept.unsent ≡ sum_by (unsent_in columns sent) events
 
 abbrev pub IsSentOf : List (List ℕ) → List (List (List ℕ)) → Kept → Type 0
 IsSentOf sent [] kept = (kept.text ≡ 10 ∷ []) × (kept.unsent ≡ 0)
-IsSentOf sent (header ∷ events) kept = (columns : Columns) × (columns_of header ≡ Ok columns) × IsSentBy columns sent header events kept
+IsSentOf sent (header ∷ events) kept = (columns : Columns) × (columns_of header ≡ Ok columns)
+    × IsSentBy columns sent header events kept
 
 -- the window that is handed out: what is kept of the log, whose receives have only messages that it sends
-pub record IsWindowAtOnce (unit : Option TimeUnit) (from : LogEnd) (until : Option LogEnd) (records : List (List (List ℕ))) (w : LogWindow) : Type 0 where
+pub record IsWindowAtOnce (unit : Option TimeUnit) (from : LogEnd) (until : Option LogEnd)
+    (records : List (List (List ℕ))) (w : LogWindow) : Type 0 where
   pub kept : Rows
   pub cut : IsCutOf unit from until records kept
   pub sent : IsSentOf kept.sent (records_of_text kept.text) (record { text = w.text.items; unsent = w.unsent })

@@ -17,7 +17,8 @@ use Rattle.log_windows.specs.KeptRows.{begun, rows_after, with_header}
 
 -- the header
 abbrev pub header_after : Reading → List (List ℕ) → Result Reading LogError
-header_after r fields = columns_of fields >>= λ columns. Ok (record r { columns = Some columns; rows = with_header fields r.rows })
+header_after r fields = columns_of fields >>= λ columns.
+    Ok (record r { columns = Some columns; rows = with_header fields r.rows })
 
 -- an event, which has a time
 abbrev pub event_after : Columns → Reading → List (List ℕ) → Result Reading LogError
@@ -38,7 +39,8 @@ next_row r fields = next_by r.columns r fields
 
 -- nothing was read yet
 abbrev pub nothing_read : Option TimeUnit → LogEnd → Option LogEnd → Reading
-nothing_read unit from until = record { columns = None; unit = unit; from = from; until = until; times = None; count = 0; rows = begun }
+nothing_read unit from until =
+    record { columns = None; unit = unit; from = from; until = until; times = None; count = 0; rows = begun }
 
 -- what is kept of a log, or the first refusal
 abbrev pub window_of : Option TimeUnit → LogEnd → Option LogEnd → List ℕ → Result Reading LogError

@@ -1,10 +1,12 @@
 //! The records of a text of any length, read from a device part by part. What was taken in is dropped.
 
-ghost use Rattle.std.specs.Prelude.{◌≡◌, ◌≤◌, ◌<◌, [], ◌∷◌, ◌++◌, ℕ, List, Option, drop, take, length, true, false, IfOk, OnOk, IfErr, IfSome};
+ghost use Rattle.std.specs.Prelude.{◌≡◌, ◌≤◌, ◌<◌, [], ◌∷◌, ◌++◌, ℕ, List, Option, drop, take};
+ghost use Rattle.std.specs.Prelude.{length, true, false, IfOk, OnOk, IfErr, IfSome};
 ghost use Rattle.std.specs.Io.KnownBytes.{IsAtEnd};
 ghost use Rattle.csv.specs.Reading.{strip_bom};
 ghost use Rattle.trace_text.specs.Faults.{inner_of, faults_of};
-ghost use Rattle.log_windows.specs.Devices.{GoesOnTo, Grew, IsFrontTaken, IsReadTo, IsRowRefusal, IsUnfilled, IsWholeRead, faults_after_rows};
+ghost use Rattle.log_windows.specs.Devices.{GoesOnTo, Grew, IsFrontTaken, IsReadTo, IsRowRefusal};
+ghost use Rattle.log_windows.specs.Devices.{IsUnfilled, IsWholeRead, faults_after_rows};
 
 use crate::seams::seam_len;
 use event_log::{LogError, TakeRows, take_rows};
@@ -49,9 +51,11 @@ pub(crate) fn take_rows_from<R: Read, T: TakeRows>(
     reader: &mut Counting<R>,
     taker: &mut T,
 ) -> Result<(), WindowError>
-    ensures read { OnOk result (IsWholeRead T.next taker.old taker.new (R.remaining (inner_of reader.old))) }
+    ensures read { OnOk result
+        (IsWholeRead T.next taker.old taker.new (R.remaining (inner_of reader.old))) }
     ensures end { OnOk result (IsAtEnd (R.remaining (inner_of reader.new))) }
-    ensures refused { IfErr result (λ e. IfSome (R.remaining (inner_of reader.old)) (IsRowRefusal T.next taker.old e)) }
+    ensures refused { IfErr result
+        (λ e. IfSome (R.remaining (inner_of reader.old)) (IsRowRefusal T.next taker.old e)) }
     ensures faults { faults_of reader.new ≡ faults_after_rows result (faults_of reader.old) }
 {
     let Ok(mut piece) = vec![in alloc; 0u8; READ_BYTES] else {
@@ -74,9 +78,11 @@ fn take_all<R: Read, T: TakeRows>(
 ) -> Result<(), WindowError>
     requires room { 0 < length piece.old }
     requires none { rest.old.items ≡ 10 ∷ [] }
-    ensures read { OnOk result (IsWholeRead T.next taker.old taker.new (R.remaining (inner_of reader.old))) }
+    ensures read { OnOk result
+        (IsWholeRead T.next taker.old taker.new (R.remaining (inner_of reader.old))) }
     ensures end { OnOk result (IsAtEnd (R.remaining (inner_of reader.new))) }
-    ensures refused { IfErr result (λ e. IfSome (R.remaining (inner_of reader.old)) (IsRowRefusal T.next taker.old e)) }
+    ensures refused { IfErr result
+        (λ e. IfSome (R.remaining (inner_of reader.old)) (IsRowRefusal T.next taker.old e)) }
     ensures faults { faults_of reader.new ≡ faults_after_rows result (faults_of reader.old) }
 {
     if fill(reader, piece, rest, PART_BYTES)? {
@@ -109,8 +115,10 @@ fn take_parts<R: Read, T: TakeRows>(
 ) -> Result<(), WindowError>
     requires room { 0 < length piece.old }
     ensures end { OnOk result (IsAtEnd (R.remaining (inner_of reader.new))) }
-    ensures goes_on { (start : T) (known : Option (List ℕ)) → IsReadTo T.next start known (R.remaining (inner_of reader.old)) rest.old.items taker.old
-        → GoesOnTo T.next start known (R.remaining (inner_of reader.new)) rest.new.items taker.new result }
+    ensures goes_on { (start : T) (known : Option (List ℕ))
+        → IsReadTo T.next start known (R.remaining (inner_of reader.old)) rest.old.items taker.old
+        → GoesOnTo T.next start known (R.remaining (inner_of reader.new)) rest.new.items
+        taker.new result }
     ensures faults { faults_of reader.new ≡ faults_after_rows result (faults_of reader.old) }
 {
     for _ in 0..u64::MAX {
@@ -135,8 +143,11 @@ fn fill<R: Read>(
 ) -> Result<bool, WindowError>
     requires { 0 < length piece.old }
     ensures room { length piece.new ≡ length piece.old }
-    ensures bytes { OnOk result (Grew (R.remaining (inner_of reader.old)) (R.remaining (inner_of reader.new)) rest.old.items rest.new.items) }
-    ensures end { IfOk result (λ ended. ended ≡ true → IsAtEnd (R.remaining (inner_of reader.new))) }
+    ensures bytes { OnOk result
+        (Grew (R.remaining (inner_of reader.old)) (R.remaining (inner_of reader.new)) rest.old.items
+        rest.new.items) }
+    ensures end { IfOk result (λ ended. ended ≡ true
+        → IsAtEnd (R.remaining (inner_of reader.new))) }
     ensures full { IfOk result (λ ended. ended ≡ false → room ≤ length rest.new.items) }
     ensures refused { IfErr result IsUnfilled }
     ensures faults { faults_of reader.new ≡ faults_after_rows result (faults_of reader.old) }
@@ -157,7 +168,8 @@ fn fill<R: Read>(
 
 /// Takes in the whole records after the line feed, and drops them. The others are behind the line feed then.
 fn take_front<T: TakeRows>(alloc: Global, rest: &mut Vec<u8>, taker: &mut T) -> Result<(), LogError>
-    ensures { (bytes : List ℕ) → rest.old.items ≡ 10 ∷ bytes → IsFrontTaken T.next taker.old taker.new bytes rest.new.items result }
+    ensures { (bytes : List ℕ) → rest.old.items ≡ 10 ∷ bytes
+        → IsFrontTaken T.next taker.old taker.new bytes rest.new.items result }
 {
     let cut = seam_len(rest);
     if cut == 0 {
@@ -170,7 +182,8 @@ fn take_front<T: TakeRows>(alloc: Global, rest: &mut Vec<u8>, taker: &mut T) -> 
 
 /// Drops the byte order mark after the line feed, if there is one.
 fn remove_mark(rest: &mut Vec<u8>)
-    ensures { (bytes : List ℕ) → rest.old.items ≡ 10 ∷ bytes → 3 ≤ length bytes → rest.new.items ≡ 10 ∷ strip_bom bytes }
+    ensures { (bytes : List ℕ) → rest.old.items ≡ 10 ∷ bytes → 3 ≤ length bytes
+        → rest.new.items ≡ 10 ∷ strip_bom bytes }
 {
     if behind_line(rest).starts_with(&BYTE_ORDER_MARK) {
         remove_after_first(rest, 4);

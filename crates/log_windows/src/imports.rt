@@ -2,7 +2,8 @@
 
 ghost use Rattle.std.specs.Prelude.{◌≡◌, ◌≤◌, Err, IfErr, IfOk, length};
 ghost use Rattle.event_log.specs.TickTables.{IsTickTable};
-ghost use Rattle.log_windows.specs.WindowImports.{IsWindowImport, IsWindowImportRefusal, IsWindowTable, IsWindowTicksRefusal};
+ghost use Rattle.log_windows.specs.WindowImports.{IsWindowImport, IsWindowImportRefusal};
+ghost use Rattle.log_windows.specs.WindowImports.{IsWindowTable, IsWindowTicksRefusal};
 
 use crate::numbers::{import_in, refusal_in, table_in};
 use crate::reading::LogWindow;
@@ -59,7 +60,8 @@ pub fn window_ticks(
     window: &LogWindow,
     options: &Options,
 ) -> Result<TickTable, LogError>
-    ensures table { IfOk result (λ t. IsTickTable options.now window.now.text.items t.kind t.rows.items) }
+    ensures table { IfOk result
+        (λ t. IsTickTable options.now window.now.text.items t.kind t.rows.items) }
     ensures refused { IfErr result (IsWindowTicksRefusal options.now window.now) }
     ensures more { result ≡ Err LogError.Memory → length window.now.text.items ≤ MAX_TEXT_BYTES }
 {

@@ -69,7 +69,8 @@ impl TakeRows for Keeping {
 
     /// Takes in one more record: the header, or an event.
     fn take(&mut self, alloc: Global, fields: &ByteRecord) -> Result<(), LogError>
-        ensures { ReachesUnless is_memory result self.new (next_kept self.old (fields_of fields.now)) }
+        ensures { ReachesUnless is_memory result self.new
+            (next_kept self.old (fields_of fields.now)) }
     {
         let Some(columns) = self.columns else {
             let columns = columns_of(fields)?;

@@ -23,13 +23,20 @@ ghost use Rattle.log_windows.specs.Windows.{window_of};
 /// These are theorems over the definitions, which go on record by record. The contract quantifies over all texts.
 /// Calling it does nothing.
 pub fn window_laws()
-    ensures window { (unit : Option TimeUnit) (from : LogEnd) (until : Option LogEnd) (text : List ℕ) (w : LogWindow)
-        → IsWindow unit from until text w → IsWindowAtOnce unit from until (records_of_text text) w }
-    ensures cut { (unit : Option TimeUnit) (from : LogEnd) (until : Option LogEnd) (text : List ℕ) (r : Reading)
-        → window_of unit from until text ≡ Ok r → IsCutOf unit from until (records_of_text text) r.rows }
-    ensures lists { (text : List ℕ) (rows : Rows) → spread_of text ≡ Ok rows → IsListOf (records_of_text text) rows }
+    ensures window { (unit : Option TimeUnit) (from : LogEnd) (until : Option LogEnd)
+        (text : List ℕ) (w : LogWindow) → IsWindow unit from until text w
+        → IsWindowAtOnce unit from until (records_of_text text) w }
+    ensures cut { (unit : Option TimeUnit) (from : LogEnd) (until : Option LogEnd) (text : List ℕ)
+        (r : Reading) → window_of unit from until text ≡ Ok r
+        → IsCutOf unit from until (records_of_text text) r.rows }
+    ensures lists { (text : List ℕ) (rows : Rows) → spread_of text ≡ Ok rows
+        → IsListOf (records_of_text text) rows }
     ensures receives { (sent : List (List ℕ)) (text : List ℕ) (kept : Kept)
         → names_kept sent text ≡ Ok kept → IsSentOf sent (records_of_text text) kept }
     ensures kept { (sent : List (List ℕ)) (node field : List ℕ) → are_message_names field ≡ true
-        → kept_names sent node field ≡ record { text = join_with_byte 32 (names_sent sent node field); unsent = count_unsent sent node field } }
+        → kept_names sent node field
+        ≡ record {
+          text = join_with_byte 32 (names_sent sent node field);
+          unsent = count_unsent sent node field;
+        } }
 {}

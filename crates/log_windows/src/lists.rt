@@ -72,7 +72,8 @@ impl Spreading {
 
     /// Takes in the header.
     fn take_header(&mut self, alloc: Global, fields: &ByteRecord) -> Result<(), LogError>
-        ensures { ReachesUnless is_memory result self.new (spread_header self.old (fields_of fields.now)) }
+        ensures { ReachesUnless is_memory result self.new
+            (spread_header self.old (fields_of fields.now)) }
     {
         let columns = columns_of(fields)?;
         self.rows.push_header(alloc, fields)?;
@@ -89,7 +90,8 @@ impl Spreading {
         columns: &Columns,
         fields: &ByteRecord,
     ) -> Result<(), LogError>
-        ensures { ReachesUnless is_memory result self.new (spread_event columns.now self.old (fields_of fields.now)) }
+        ensures { ReachesUnless is_memory result self.new
+            (spread_event columns.now self.old (fields_of fields.now)) }
     {
         if self.count >= MAX_LOGGED {
             return Err(LogError::TooManyEvents);
@@ -107,7 +109,8 @@ impl TakeRows for Spreading {
 
     /// Takes in one more record: the header, or an event.
     fn take(&mut self, alloc: Global, fields: &ByteRecord) -> Result<(), LogError>
-        ensures { ReachesUnless is_memory result self.new (next_spread self.old (fields_of fields.now)) }
+        ensures { ReachesUnless is_memory result self.new
+            (next_spread self.old (fields_of fields.now)) }
     {
         match self.columns {
             None => self.take_header(alloc, fields),

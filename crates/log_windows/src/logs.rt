@@ -2,7 +2,8 @@
 
 ghost use Rattle.std.specs.Prelude.{◌≡◌, ◌≤◌, Err, IfErr, IfOk, length};
 ghost use Rattle.std.specs.Cow.{cow_slice_items};
-ghost use Rattle.log_windows.specs.LogImports.{AreLogTicks, IsLogImport, IsLogImportRefusal, IsLogTable, IsLogTicksRefusal};
+ghost use Rattle.log_windows.specs.LogImports.{AreLogTicks, IsLogImport, IsLogImportRefusal};
+ghost use Rattle.log_windows.specs.LogImports.{IsLogTable, IsLogTicksRefusal};
 
 use crate::imports::{window_import, window_table, window_ticks};
 use crate::lists::{may_list, spread_log};
@@ -23,7 +24,8 @@ pub fn log_import(
 ) -> Result<Import, LogError>
     ensures import { IfOk result (IsLogImport options.now (cow_slice_items text.entry)) }
     ensures refused { IfErr result (IsLogImportRefusal options.now (cow_slice_items text.entry)) }
-    ensures more { result ≡ Err LogError.Memory → length (cow_slice_items text.entry) ≤ MAX_TEXT_BYTES }
+    ensures more { result ≡ Err LogError.Memory
+        → length (cow_slice_items text.entry) ≤ MAX_TEXT_BYTES }
 {
     if !may_list(&text) {
         return read_log(alloc, text, options);

@@ -6,7 +6,8 @@ ghost use Rattle.csv.specs.Writing.{row_text};
 ghost use Rattle.event_log.specs.Naming.{is_memory};
 ghost use Rattle.trace_text.specs.Records.{ReachesUnless};
 ghost use Rattle.trace_text.specs.RecordWriting.{our_writer};
-ghost use Rattle.log_windows.specs.Numbers.{import_in, late_in, lateness_in, line_in, lines_in, moved_in, number_in, place_in, refusal_in};
+ghost use Rattle.log_windows.specs.Numbers.{import_in, late_in, lateness_in, line_in, lines_in};
+ghost use Rattle.log_windows.specs.Numbers.{moved_in, number_in, place_in, refusal_in};
 ghost use Rattle.log_windows.specs.NumberedRows.{numbered_row, table_in};
 
 use crate::rows::{push_row, with_field};
@@ -193,7 +194,8 @@ impl<'a> TakeRows for Numbered<'a> {
 
     /// Takes in one more record.
     fn take(&mut self, alloc: Global, fields: &ByteRecord) -> Result<(), LogError>
-        ensures { ReachesUnless is_memory result self.new (next_numbered self.old (fields_of fields.now)) }
+        ensures { ReachesUnless is_memory result self.new
+            (next_numbered self.old (fields_of fields.now)) }
     {
         match push_numbered(alloc, &mut self.text, self.places, fields) {
             Ok(()) => Ok(()),
@@ -209,7 +211,8 @@ fn push_numbered(
     places: &[u32],
     fields: &ByteRecord,
 ) -> Result<(), AllocError>
-    ensures { OnOk result (text.new.items ≡ text.old.items ++ row_text our_writer (numbered_row places.now (fields_of fields.now))) }
+    ensures { OnOk result (text.new.items ≡ text.old.items
+        ++ row_text our_writer (numbered_row places.now (fields_of fields.now))) }
 {
     let Some(of_window) = number(field(fields, RECORD_COLUMN)) else {
         return push_row(alloc, text, fields);

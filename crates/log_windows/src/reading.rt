@@ -44,7 +44,8 @@ pub fn read_window<R: Read>(
 ) -> Result<LogWindow, WindowError>
     ensures window { IfOk result (IsWindowOf unit from until (R.remaining (inner_of reader.old))) }
     ensures end { OnOk result (IsAtEnd (R.remaining (inner_of reader.new))) }
-    ensures refused { IfErr result (λ e. IfSome (R.remaining (inner_of reader.old)) (IsWindowRefusal unit from until e)) }
+    ensures refused { IfErr result
+        (λ e. IfSome (R.remaining (inner_of reader.old)) (IsWindowRefusal unit from until e)) }
     ensures faults { faults_of reader.new ≡ faults_after_rows result (faults_of reader.old) }
 {
     let Ok(mut reading) = Reading::new(alloc, unit, from, until) else {

@@ -17,7 +17,8 @@ pub(crate) fn push_row(
     text: &mut Vec<u8>,
     fields: &ByteRecord,
 ) -> Result<(), AllocError>
-    ensures { OnOk result (text.new.items ≡ text.old.items ++ row_text our_writer (fields_of fields.now)) }
+    ensures { OnOk result (text.new.items ≡ text.old.items
+        ++ row_text our_writer (fields_of fields.now)) }
 {
     let row = row_of(alloc, fields)?;
     text.extend_from_slice(&row)?;

@@ -7,7 +7,8 @@ ghost use Rattle.event_log.specs.LogRecords.{moment_as};
 ghost use Rattle.event_log.specs.Naming.{is_memory};
 ghost use Rattle.trace_text.specs.Records.{ReachesUnless};
 ghost use Rattle.trace_text.specs.RecordWriting.{our_writer};
-ghost use Rattle.log_windows.specs.KeptRows.{begun, key_of, keys_after, needs_point, next_part, pointed, rows_after, with_event, with_header, with_row};
+ghost use Rattle.log_windows.specs.KeptRows.{begun, key_of, keys_after, needs_point, next_part, pointed};
+ghost use Rattle.log_windows.specs.KeptRows.{rows_after, with_event, with_header, with_row};
 ghost use Rattle.log_windows.specs.Windows.{event_after, header_after, nothing_read};
 
 use crate::bounds::{Times, is_within, kind_of, times_by};
@@ -42,7 +43,13 @@ impl Model for WindowRows {
 
     ghost Value = { Rows };
 
-    ghost view = { λ rows. record { text = rows.text.items; places = rows.places.items; sent = rows.sent; outside = rows.outside } };
+    ghost view = { λ rows.
+        record {
+          text = rows.text.items;
+          places = rows.places.items;
+          sent = rows.sent;
+          outside = rows.outside;
+        } };
 }
 
 /// How far a log was read.
@@ -90,7 +97,8 @@ impl TakeRows for Reading {
 
     /// Takes in one more record: the header, or an event.
     fn take(&mut self, alloc: Global, fields: &ByteRecord) -> Result<(), LogError>
-        ensures { ReachesUnless is_memory result self.new (next_row self.old (fields_of fields.now)) }
+        ensures { ReachesUnless is_memory result self.new
+            (next_row self.old (fields_of fields.now)) }
     {
         match self.columns {
             None => self.take_header(alloc, fields),
@@ -102,7 +110,8 @@ impl TakeRows for Reading {
 impl Reading {
     /// Takes in the header.
     fn take_header(&mut self, alloc: Global, fields: &ByteRecord) -> Result<(), LogError>
-        ensures { ReachesUnless is_memory result self.new (header_after self.old (fields_of fields.now)) }
+        ensures { ReachesUnless is_memory result self.new
+            (header_after self.old (fields_of fields.now)) }
     {
         let columns = columns_of(fields)?;
         self.rows.push_header(alloc, fields)?;
@@ -119,7 +128,8 @@ impl Reading {
         columns: &Columns,
         fields: &ByteRecord,
     ) -> Result<(), LogError>
-        ensures { ReachesUnless is_memory result self.new (event_after columns.now self.old (fields_of fields.now)) }
+        ensures { ReachesUnless is_memory result self.new
+            (event_after columns.now self.old (fields_of fields.now)) }
     {
         if self.count >= MAX_LOGGED {
             return Err(LogError::TooManyEvents);
@@ -212,7 +222,8 @@ impl WindowRows {
         place: u32,
         fields: &ByteRecord,
     ) -> Result<(), LogError>
-        ensures { ReachesUnless is_memory result self.new (with_event columns.now place (fields_of fields.now) self.old) }
+        ensures { ReachesUnless is_memory result self.new
+            (with_event columns.now place (fields_of fields.now) self.old) }
     {
         if !field_is(fields, columns.event, b"send") {
             return self.take_part(alloc, columns, place, fields);
@@ -236,7 +247,8 @@ impl WindowRows {
         place: u32,
         fields: &ByteRecord,
     ) -> Result<(), LogError>
-        ensures { ReachesUnless is_memory result self.new (next_part columns.now place self.old (fields_of fields.now)) }
+        ensures { ReachesUnless is_memory result self.new
+            (next_part columns.now place self.old (fields_of fields.now)) }
     {
         let Ok(()) = self.push(alloc, columns, place, fields) else {
             return Err(LogError::Memory);
@@ -255,7 +267,8 @@ impl WindowRows {
         place: u32,
         fields: &ByteRecord,
     ) -> Result<(), AllocError>
-        ensures { OnOk result (self.new ≡ with_row columns.now place (fields_of fields.now) self.old) }
+        ensures { OnOk result
+            (self.new ≡ with_row columns.now place (fields_of fields.now) self.old) }
     {
         push_row(alloc, &mut self.text, fields)?;
         self.places.push(place)?;

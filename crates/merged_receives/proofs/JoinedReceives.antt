@@ -63,7 +63,10 @@ joined-is events ticks j i h = record {
   none true e = absurd (cc e)
   none false e = refl
 
-  p : (receives_at events j ≡ true) × (receives_at events i ≡ true) × ((processor_at events j == processor_at events i) ≡ true) × ((slice_index ticks j == slice_index ticks i) ≡ true) × (is_earlier events j i ≡ true) × (not (any_below (is_send_between events j i) (length events)) ≡ true)
+  p : (receives_at events j ≡ true) × (receives_at events i ≡ true)
+      × ((processor_at events j == processor_at events i) ≡ true)
+      × ((slice_index ticks j == slice_index ticks i) ≡ true) × (is_earlier events j i ≡ true)
+      × (not (any_below (is_send_between events j i) (length events)) ≡ true)
   p = six-parts _ _ _ _ _ _ h
 
 pub is-joined : (events : List Event) (ticks : List ℕ) (j i : ℕ) → IsJoined events ticks j i → is_joined events ticks j i ≡ true
@@ -73,7 +76,8 @@ is-joined events ticks j i h =
     (not_from_false (any_below (is_send_between events j i) (length events)) (none-below (is_send_between events j i) (length events) h.quiet))
 
 -- what it means that a send is between two events
-pub between-is : (events : List Event) (j i s : ℕ) → is_send_between events j i s ≡ true → (sends_at events s ≡ true) × (processor_at events s ≡ processor_at events i) × (is_earlier events j s ≡ true) × (is_earlier events s i ≡ true)
+pub between-is : (events : List Event) (j i s : ℕ) → is_send_between events j i s ≡ true → (sends_at events s ≡ true)
+    × (processor_at events s ≡ processor_at events i) × (is_earlier events j s ≡ true) × (is_earlier events s i ≡ true)
 unfolding is_send_between
 between-is events j i s h =
     let a = and_parts (sends_at events s) _ h in
@@ -81,9 +85,14 @@ between-is events j i s h =
     let c = and_parts (is_earlier events j s) (is_earlier events s i) b.1 in
     (a.0, eqb-true (processor_at events s) (processor_at events i) b.0, c.0, c.1)
 
-pub is-between : (events : List Event) (j i s : ℕ) → sends_at events s ≡ true → processor_at events s ≡ processor_at events i → is_earlier events j s ≡ true → is_earlier events s i ≡ true → is_send_between events j i s ≡ true
+pub is-between : (events : List Event) (j i s : ℕ) → sends_at events s ≡ true
+    → processor_at events s ≡ processor_at events i → is_earlier events j s ≡ true → is_earlier events s i ≡ true
+    → is_send_between events j i s ≡ true
 unfolding is_send_between
-is-between events j i s a b c d = and_from (sends_at events s) _ a (and_from (processor_at events s == processor_at events i) _ (eq-eqb (processor_at events s) (processor_at events i) b) (and_from (is_earlier events j s) (is_earlier events s i) c d))
+is-between events j i s a b c d = and_from (sends_at events s) _ a
+    (and_from (processor_at events s == processor_at events i) _
+    (eq-eqb (processor_at events s) (processor_at events i) b)
+    (and_from (is_earlier events j s) (is_earlier events s i) c d))
 
 -- an event that isn't merged is merged into none
 pub unmerged-none : (events : List Event) (ticks : List ℕ) (i j : ℕ) → is_merged events ticks i ≡ false → j < length events → is_joined events ticks j i ≡ false

@@ -37,14 +37,19 @@ pub record AreHeads (events : List Event) (ticks order : List ℕ) (k : ℕ) (op
   pub long : length heads ≡ length events
   head : (m : ℕ) → m < k → IsHead events ticks (slice_index heads (slice_index order m)) (slice_index order m)
   held : (p : ℕ) → p < MAX_PROCESSORS → slice_index opens p < length events → IsOpen events ticks order k p (slice_index opens p)
-  last : (m : ℕ) → m < k → receives_at events (slice_index order m) ≡ true → AreQuiet events order k m → (slice_index opens (index_at events (slice_index order m)) < length events) × (slice_index ticks (slice_index order m) ≤ slice_index ticks (slice_index opens (index_at events (slice_index order m))))
+  last : (m : ℕ) → m < k → receives_at events (slice_index order m) ≡ true → AreQuiet events order k m
+      → (slice_index opens (index_at events (slice_index order m)) < length events)
+      × (slice_index ticks (slice_index order m) ≤ slice_index ticks
+      (slice_index opens (index_at events (slice_index order m))))
 
 each-same : (n x i : ℕ) → i < n → slice_index (replicate n x) i ≡ x
 each-same zero x i l = absurd (omega (arith, l))
 each-same (suc n) x zero l = refl
 each-same (suc n) x (suc i) l = each-same n x i (omega (arith, l))
 
-pub heads-start : (events : List Event) (ticks order opens heads : List ℕ) (none : ℕ) → none ≡ length events → opens ≡ replicate MAX_PROCESSORS none → heads ≡ replicate (length events) none → AreHeads events ticks order 0 opens heads
+pub heads-start : (events : List Event) (ticks order opens heads : List ℕ) (none : ℕ) → none ≡ length events
+    → opens ≡ replicate MAX_PROCESSORS none → heads ≡ replicate (length events) none
+    → AreHeads events ticks order 0 opens heads
 heads-start events ticks order opens heads none n e f = record {
   wide = ap length e ∙ length-replicate {A = ℕ} MAX_PROCESSORS none;
   long = ap length f ∙ length-replicate {A = ℕ} (length events) none;
@@ -72,7 +77,9 @@ an-act [] i l h = absurd (omega (arith, l))
 an-act (e ∷ es) zero l h = act-other e.act h
 an-act (e ∷ es) (suc i) l h = an-act es i (omega (arith, l)) h
 
-module _ (events : List Event) (ticks order : List ℕ) (o : IsTimeOrder events order) (r : AreOfProcessors events) (up : AreRising ticks order) (k : ℕ) (l : k < length order) (opens heads : List ℕ) (w : AreHeads events ticks order k opens heads) where
+module _ (events : List Event) (ticks order : List ℕ) (o : IsTimeOrder events order) (r : AreOfProcessors events)
+    (up : AreRising ticks order) (k : ℕ) (l : k < length order) (opens heads : List ℕ)
+    (w : AreHeads events ticks order k opens heads) where
   abbrev i : ℕ
   i = slice_index order k
 
@@ -105,7 +112,9 @@ module _ (events : List Event) (ticks order : List ℕ) (o : IsTimeOrder events 
     not-between s ls e =
         let q = between-is events h i s e in
         let f = found-before events order k s o ls q.3 in
-        let after = before-in_order events order x.m f.m o (let a = x.before in omega (arith, a, l)) (subst (λ a. is_earlier events a (slice_index order f.m) ≡ true) (sym x.at) (subst (λ a. is_earlier events h a ≡ true) (sym f.is) q.2)) in
+        let after = before-in_order events order x.m f.m o (let a = x.before in omega (arith, a, l))
+        (subst (λ a. is_earlier events a (slice_index order f.m) ≡ true) (sym x.at)
+        (subst (λ a. is_earlier events h a ≡ true) (sym f.is) q.2)) in
         let own : index_at events (slice_index order f.m) ≡ index_at events (slice_index order x.m) = ap (index_at events) f.is ∙ ap (λ n. n - 1) q.1 ∙ sym x.own ∙ sym (ap (index_at events) x.at) in
         true≢false (sym q.0 ∙ sym (ap (sends_at events) f.is) ∙ x.quiet f.m after f.before own)
 
@@ -159,7 +168,8 @@ module _ (events : List Event) (ticks order : List ℕ) (o : IsTimeOrder events 
   -- the head that the walk gives it
   pub head-here : IsHead events ticks (head_by events ticks h i) i
   head-here = go (receives_at events i) refl (nat_lt h (length events)) refl (slice_index ticks h == slice_index ticks i) refl where
-    go : (a : Bool) → receives_at events i ≡ a → (b : Bool) → nat_lt h (length events) ≡ b → (c : Bool) → (slice_index ticks h == slice_index ticks i) ≡ c → IsHead events ticks (cond a (cond b (cond c h i) i) i) i
+    go : (a : Bool) → receives_at events i ≡ a → (b : Bool) → nat_lt h (length events) ≡ b → (c : Bool)
+        → (slice_index ticks h == slice_index ticks i) ≡ c → IsHead events ticks (cond a (cond b (cond c h i) i) i) i
     go false e b f c g = stays-self (λ rec inside t. true≢false (sym rec ∙ e))
     go true e false f c g = stays-self (λ rec inside t. true≢false (sym (lt-ltb h (length events) inside) ∙ f))
     go true e true f false g = stays-self (λ rec inside t. true≢false (sym (eq-eqb (slice_index ticks h) (slice_index ticks i) t) ∙ g))
@@ -191,7 +201,10 @@ module _ (events : List Event) (ticks order : List ℕ) (o : IsTimeOrder events 
             step a la e (inl b) lb = x.quiet a la b e
             step a la e (inr b) lb = let same : k ≡ a = omega (arith, b, lb) in subst (λ n. sends_at events (slice_index order n) ≡ false) same (one-act events i rec)
 
-          go : (a : Bool) → receives_at events i ≡ a → (b : Bool) → nat_lt h (length events) ≡ b → (c : Bool) → (slice_index ticks h == slice_index ticks i) ≡ c → IsOpen events ticks order (k + 1) p (cond a (cond b (cond c h i) i) i) × (slice_index ticks i ≤ slice_index ticks (cond a (cond b (cond c h i) i) i))
+          go : (a : Bool) → receives_at events i ≡ a → (b : Bool) → nat_lt h (length events) ≡ b → (c : Bool)
+              → (slice_index ticks h == slice_index ticks i) ≡ c
+              → IsOpen events ticks order (k + 1) p (cond a (cond b (cond c h i) i) i)
+              × (slice_index ticks i ≤ slice_index ticks (cond a (cond b (cond c h i) i) i))
           go false e b f c g = absurd (true≢false (sym rec ∙ e))
           go true e false f c g = itself (stays-self (λ rec inside t. true≢false (sym (lt-ltb h (length events) inside) ∙ f)))
           go true e true f false g = itself (stays-self (λ rec inside t. true≢false (sym (eq-eqb (slice_index ticks h) (slice_index ticks i) t) ∙ g)))
@@ -210,10 +223,12 @@ module _ (events : List Event) (ticks order : List ℕ) (o : IsTimeOrder events 
           absurd (n (sym x.own ∙ sym (ap (index_at events) x.at) ∙ sym e ∙ ap (λ c. index_at events (slice_index order c)) (sym same)))
 
     next-open : (q : ℕ) → q < MAX_PROCESSORS → (q ≡ p) ⊎ ¬ (q ≡ p) → slice_index (set opens p opened) q < length events → IsOpen events ticks order (k + 1) q (slice_index (set opens p opened) q)
-    next-open q lq (inl e) b = subst (λ x. IsOpen events ticks order (k + 1) x (slice_index (set opens p opened) x)) (sym e) (subst (λ x. IsOpen events ticks order (k + 1) p x) (sym new-open) (own (receives_at events i) refl)) where
-      own : (t : Bool) → receives_at events i ≡ t → IsOpen events ticks order (k + 1) p opened
-      own true rec = subst (λ x. IsOpen events ticks order (k + 1) p x) (sym (opened-is true rec)) (still-open rec).0
-      own false rec = absurd (let at = ap (slice_index (set opens p opened)) e ∙ new-open ∙ opened-is false rec in omega (arith, at, b))
+    next-open q lq (inl e) b = subst (λ x. IsOpen events ticks order (k + 1) x (slice_index (set opens p opened) x))
+        (sym e) (subst (λ x. IsOpen events ticks order (k + 1) p x) (sym new-open)
+        (own (receives_at events i) refl)) where
+          own : (t : Bool) → receives_at events i ≡ t → IsOpen events ticks order (k + 1) p opened
+          own true rec = subst (λ x. IsOpen events ticks order (k + 1) p x) (sym (opened-is true rec)) (still-open rec).0
+          own false rec = absurd (let at = ap (slice_index (set opens p opened)) e ∙ new-open ∙ opened-is false rec in omega (arith, at, b))
     next-open q lq (inr n) b = let s = same-open q n in subst (λ x. IsOpen events ticks order (k + 1) q x) (sym s) (other-open q n (w.held q lq (omega (arith, s, b))))
 
     next-head : (m : ℕ) → (m < k) ⊎ (k ≤ m) → m < k + 1 → IsHead events ticks (slice_index (set heads i head) (slice_index order m)) (slice_index order m)
@@ -223,8 +238,12 @@ module _ (events : List Event) (ticks order : List ℕ) (o : IsTimeOrder events 
         subst (λ n. IsHead events ticks (slice_index (set heads i head) (slice_index order n)) (slice_index order n)) same (subst (λ x. IsHead events ticks x i) (sym new-head) right)
 
     -- the receive that is open after this event has the greatest tick
-    next-last : (m : ℕ) → (m < k) ⊎ (k ≤ m) → m < k + 1 → (index_at events (slice_index order m) ≡ p) ⊎ ¬ (index_at events (slice_index order m) ≡ p) → receives_at events (slice_index order m) ≡ true → AreQuiet events order (k + 1) m
-        → (slice_index (set opens p opened) (index_at events (slice_index order m)) < length events) × (slice_index ticks (slice_index order m) ≤ slice_index ticks (slice_index (set opens p opened) (index_at events (slice_index order m))))
+    next-last : (m : ℕ) → (m < k) ⊎ (k ≤ m) → m < k + 1 → (index_at events (slice_index order m) ≡ p)
+        ⊎ ¬ (index_at events (slice_index order m) ≡ p) → receives_at events (slice_index order m) ≡ true
+        → AreQuiet events order (k + 1) m
+        → (slice_index (set opens p opened) (index_at events (slice_index order m)) < length events)
+        × (slice_index ticks (slice_index order m) ≤ slice_index ticks
+        (slice_index (set opens p opened) (index_at events (slice_index order m))))
     next-last m (inl b) lm (inr n) rec quiet =
         subst (λ x. (x < length events) × (slice_index ticks (slice_index order m) ≤ slice_index ticks x)) (sym (same-open (index_at events (slice_index order m)) n))
         (w.last m b rec (λ a la lb e. quiet a la (omega (arith, lb)) e))
@@ -243,7 +262,9 @@ module _ (events : List Event) (ticks order : List ℕ) (o : IsTimeOrder events 
           own false rec = absurd (true≢false (sym (sends rec) ∙ quiet k b (omega arith) (sym e)))
     next-last m (inr b) lm own rec quiet =
         let same : k ≡ m = omega (arith, b, lm) in
-        subst (λ n. (slice_index (set opens p opened) (index_at events (slice_index order n)) < length events) × (slice_index ticks (slice_index order n) ≤ slice_index ticks (slice_index (set opens p opened) (index_at events (slice_index order n))))) same
+        subst (λ n. (slice_index (set opens p opened) (index_at events (slice_index order n)) < length events)
+        × (slice_index ticks (slice_index order n) ≤ slice_index ticks
+        (slice_index (set opens p opened) (index_at events (slice_index order n))))) same
         (subst (λ x. (x < length events) × (slice_index ticks i ≤ slice_index ticks x)) (sym new-open)
         (let at = subst (λ n. receives_at events (slice_index order n) ≡ true) (sym same) rec in
         let high = (still-open at).1 in
@@ -260,7 +281,8 @@ module _ (events : List Event) (ticks order : List ℕ) (o : IsTimeOrder events 
     }
 
 -- at the end each event has its head
-pub heads-end : (events : List Event) (ticks order : List ℕ) (k : ℕ) (opens heads : List ℕ) → IsTimeOrder events order → length order ≤ k → AreHeads events ticks order k opens heads → AreHeadsOf events ticks heads
+pub heads-end : (events : List Event) (ticks order : List ℕ) (k : ℕ) (opens heads : List ℕ) → IsTimeOrder events order
+    → length order ≤ k → AreHeads events ticks order k opens heads → AreHeadsOf events ticks heads
 heads-end events ticks order k opens heads o l w = record {
   long = w.long;
   each = λ i li.

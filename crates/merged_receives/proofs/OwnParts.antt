@@ -1,5 +1,7 @@
 -- The events of which each is made, by their heads, and the places of those that stay.
-use Rattle.std.proofs.Common.{ℕ, ℤ, zero, suc, ◌≡◌, ◌∙◌, ◌+◌, ◌/◌, ◌<◌, ◌≤◌, ◌≤ℤ◌, ◌-ℤ◌, ◌⊎◌, inl, inr, Bool, true, false, not, cond, List, [], ◌∷◌, ◌++◌, Vec, All, length, length-append, append-nil, map, set, take, get_or, refl, sym, ap, ap₂, subst, arith}
+use Rattle.std.proofs.Common.{ℕ, ℤ, zero, suc, ◌≡◌, ◌∙◌, ◌+◌, ◌/◌, ◌<◌, ◌≤◌, ◌≤ℤ◌, ◌-ℤ◌, ◌⊎◌, inl, inr, Bool, true}
+use Rattle.std.proofs.Common.{false, not, cond, List, [], ◌∷◌, ◌++◌, Vec, All, length, length-append, append-nil, map}
+use Rattle.std.proofs.Common.{set, take, get_or, refl, sym, ap, ap₂, subst, arith}
 use Rattle.std.specs.Prelude.{◌==◌, ◌||◌, ◌&&◌, int_lt, nat_lt, slice_index, slice_index_or}
 use Rattle.std.specs.List.{filter, range_with_len}
 use Rattle.std.proofs.lemmas.Bool.{cases_eq, eq-eqb, eqb-true, false_from_ne_true, not_from_false, true≢false}
@@ -109,10 +111,18 @@ module _ (events : List Event) (ticks heads : List ℕ) (w : AreHeadsOf events t
     same-parts : (h : ℕ) → h < length events → is_merged events ticks h ≡ false → with_head h ≡ filter (is_part events ticks h) order
     same-parts h l s = filter-within (λ i. slice_index heads i == h) (is_part events ticks h) order (λ k b. head-part h (slice_index order k) l (inside-order events order k o b) s)
 
-    parts-in : (xs : List ℕ) → ((k : ℕ) → k < length xs → slice_index xs k < length events) → filter has_some (map with_head xs) ≡ map (λ h. filter (is_part events ticks h) order) (filter (λ i. not (is_merged events ticks i)) xs)
+    parts-in : (xs : List ℕ) → ((k : ℕ) → k < length xs → slice_index xs k < length events)
+        → filter has_some (map with_head xs) ≡ map (λ h. filter (is_part events ticks h) order)
+        (filter (λ i. not (is_merged events ticks i)) xs)
     parts-in [] h = refl
     parts-in (x ∷ xs) h = go (is_merged events ticks x) refl (h zero (omega arith)) (parts-in xs (λ k l. h (suc k) (omega (arith, l)))) where
-      go : (t : Bool) → is_merged events ticks x ≡ t → x < length events → filter has_some (map with_head xs) ≡ map (λ y. filter (is_part events ticks y) order) (filter (λ i. not (is_merged events ticks i)) xs) → cond (has_some (with_head x)) (with_head x ∷ filter has_some (map with_head xs)) (filter has_some (map with_head xs)) ≡ map (λ y. filter (is_part events ticks y) order) (cond (not t) (x ∷ filter (λ i. not (is_merged events ticks i)) xs) (filter (λ i. not (is_merged events ticks i)) xs))
+      go : (t : Bool) → is_merged events ticks x ≡ t → x < length events
+          → filter has_some (map with_head xs) ≡ map (λ y. filter (is_part events ticks y) order)
+          (filter (λ i. not (is_merged events ticks i)) xs)
+          → cond (has_some (with_head x)) (with_head x ∷ filter has_some (map with_head xs))
+          (filter has_some (map with_head xs)) ≡ map (λ y. filter (is_part events ticks y) order)
+          (cond (not t) (x ∷ filter (λ i. not (is_merged events ticks i)) xs)
+          (filter (λ i. not (is_merged events ticks i)) xs))
       go false e inside rest =
           ap (λ (t : Bool). cond t (with_head x ∷ filter has_some (map with_head xs)) (filter has_some (map with_head xs))) (kept x inside e)
           ∙ ap₂ (λ (ys : List ℕ) (yss : List (List ℕ)). ys ∷ yss) (same-parts x inside e) rest
@@ -138,12 +148,15 @@ some-length : (xs : List ℕ) → has_some xs ≡ true → 0 < length xs
 some-length [] h = absurd (cc h)
 some-length (x ∷ xs) h = omega arith
 
-parts-cond : (n : ℕ) (t : Bool) (xs : List ℕ) (yss : List (List ℕ)) → (t ≡ true → ArePart n xs) → ((k : ℕ) → k < length yss → ArePart n (slice_index_or yss k [])) → (k : ℕ) → k < length (cond t (xs ∷ yss) yss) → ArePart n (slice_index_or (cond t (xs ∷ yss) yss) k [])
+parts-cond : (n : ℕ) (t : Bool) (xs : List ℕ) (yss : List (List ℕ)) → (t ≡ true → ArePart n xs)
+    → ((k : ℕ) → k < length yss → ArePart n (slice_index_or yss k [])) → (k : ℕ) → k < length (cond t (xs ∷ yss) yss)
+    → ArePart n (slice_index_or (cond t (xs ∷ yss) yss) k [])
 parts-cond n false xs yss a h k l = h k l
 parts-cond n true xs yss a h zero l = a refl
 parts-cond n true xs yss a h (suc k) l = h k (omega (arith, l))
 
-parts-each : (n : ℕ) (f : ℕ → List ℕ) (hs : List ℕ) → ((h k : ℕ) → k < length (f h) → slice_index (f h) k < n) → (k : ℕ) → k < length (filter has_some (map f hs)) → ArePart n (slice_index_or (filter has_some (map f hs)) k [])
+parts-each : (n : ℕ) (f : ℕ → List ℕ) (hs : List ℕ) → ((h k : ℕ) → k < length (f h) → slice_index (f h) k < n) → (k : ℕ)
+    → k < length (filter has_some (map f hs)) → ArePart n (slice_index_or (filter has_some (map f hs)) k [])
 parts-each n f [] b k l = absurd (omega (arith, l))
 parts-each n f (h ∷ hs) b k l = parts-cond n (has_some (f h)) (f h) (filter has_some (map f hs)) (λ e. record { some = some-length (f h) e; inside = b h }) (parts-each n f hs b) k l
 
@@ -192,7 +205,9 @@ least-at (e ∷ es) i l = subst (λ x. least_time (e ∷ es) ≤ℤ x) (time-got
 
 earlier-time : (events : List Event) (j i : ℕ) → is_earlier events j i ≡ true → time_at events j ≤ℤ time_at events i
 earlier-time events j i h = go (int_lt (time_at events j) (time_at events i)) refl (int_lt (time_at events i) (time_at events j)) refl (nat_lt j i) refl h where
-  go : (a : Bool) → int_lt (time_at events j) (time_at events i) ≡ a → (b : Bool) → int_lt (time_at events i) (time_at events j) ≡ b → (c : Bool) → nat_lt j i ≡ c → (a || (not b && c)) ≡ true → time_at events j ≤ℤ time_at events i
+  go : (a : Bool) → int_lt (time_at events j) (time_at events i) ≡ a → (b : Bool)
+      → int_lt (time_at events i) (time_at events j) ≡ b → (c : Bool) → nat_lt j i ≡ c → (a || (not b && c)) ≡ true
+      → time_at events j ≤ℤ time_at events i
   go true p b q c s u = grind (arith, ints)
   go false p true q c s u = absurd (cc u)
   go false p false q c s u = grind (arith, ints)
@@ -227,20 +242,31 @@ none-in (v ∷ vs) (suc h) a = none-in vs h (All-tail (λ v. v.items ≡ []) v v
 pub parts-start : {A : Type 0} (heads order : List ℕ) (vs : List (Vec ℕ A)) → length vs ≡ length heads → All (λ v. v.items ≡ []) vs → ArePartsTo heads order 0 (lists_of vs)
 parts-start heads order vs n a = record { long = length-map vs (λ v. v.items) ∙ n; each = λ h l. none-in vs h a }
 
-pub parts-step : (heads order : List ℕ) (k : ℕ) (parts : List (List ℕ)) (i head : ℕ) → k < length order → i ≡ slice_index order k → head ≡ slice_index heads i → head < length heads → ArePartsTo heads order k parts → ArePartsTo heads order (k + 1) (set parts head (slice_index_or parts head [] ++ i ∷ []))
+pub parts-step : (heads order : List ℕ) (k : ℕ) (parts : List (List ℕ)) (i head : ℕ) → k < length order
+    → i ≡ slice_index order k → head ≡ slice_index heads i → head < length heads → ArePartsTo heads order k parts
+    → ArePartsTo heads order (k + 1) (set parts head (slice_index_or parts head [] ++ i ∷ []))
 parts-step heads order k parts i head l at is inside w = record { long = length-set parts head _ ∙ w.long; each = λ h lh. each h lh (cases_eq h head) } where
-  more : (h : ℕ) → filter (λ j. slice_index heads j == h) (take (k + 1) order) ≡ filter (λ j. slice_index heads j == h) (take k order) ++ cond (slice_index heads (slice_index order k) == h) (slice_index order k ∷ []) []
+  more : (h : ℕ) → filter (λ j. slice_index heads j == h) (take (k + 1) order) ≡ filter (λ j. slice_index heads j == h)
+      (take k order) ++ cond (slice_index heads (slice_index order k) == h) (slice_index order k ∷ []) []
   more h = filter_more (λ j. slice_index heads j == h) order k 0 l
 
-  each : (h : ℕ) → h < length heads → (h ≡ head) ⊎ ¬ (h ≡ head) → slice_index_or (set parts head (slice_index_or parts head [] ++ i ∷ [])) h [] ≡ filter (λ j. slice_index heads j == h) (take (k + 1) order)
+  each : (h : ℕ) → h < length heads → (h ≡ head) ⊎ ¬ (h ≡ head)
+      → slice_index_or (set parts head (slice_index_or parts head [] ++ i ∷ [])) h [] ≡ filter
+      (λ j. slice_index heads j == h) (take (k + 1) order)
   each h lh (inl e) =
       let same : slice_index heads (slice_index order k) ≡ h = ap (slice_index heads) (sym at) ∙ sym is ∙ sym e in
-      subst (λ x. slice_index_or (set parts head (slice_index_or parts head [] ++ i ∷ [])) x [] ≡ slice_index_or parts head [] ++ i ∷ []) (sym e) (get_or-set_same parts head (slice_index_or parts head [] ++ i ∷ []) [] (let n = w.long in omega (arith, n, inside)))
+      subst (λ x. slice_index_or (set parts head (slice_index_or parts head [] ++ i ∷ [])) x []
+      ≡ slice_index_or parts head [] ++ i ∷ []) (sym e)
+      (get_or-set_same parts head (slice_index_or parts head [] ++ i ∷ []) []
+      (let n = w.long in omega (arith, n, inside)))
       ∙ ap₂ (λ (ys : List ℕ) (y : ℕ). ys ++ y ∷ []) (ap (λ x. slice_index_or parts x []) (sym e) ∙ w.each h lh) at
       ∙ ap (λ (t : Bool). filter (λ j. slice_index heads j == h) (take k order) ++ cond t (slice_index order k ∷ []) []) (sym (eq-eqb (slice_index heads (slice_index order k)) h same))
       ∙ sym (more h)
   each h lh (inr n) =
-      let other : (slice_index heads (slice_index order k) == h) ≡ false = false_from_ne_true (slice_index heads (slice_index order k) == h) (λ t. n (sym (eqb-true (slice_index heads (slice_index order k)) h t) ∙ ap (slice_index heads) (sym at) ∙ sym is)) in
+      let other : (slice_index heads (slice_index order k) == h) ≡ false =
+      false_from_ne_true (slice_index heads (slice_index order k) == h)
+      (λ t. n (sym (eqb-true (slice_index heads (slice_index order k)) h t)
+      ∙ ap (slice_index heads) (sym at) ∙ sym is)) in
       get_or-set_other parts head h (slice_index_or parts head [] ++ i ∷ []) [] n ∙ w.each h lh
       ∙ sym (append-nil (filter (λ j. slice_index heads j == h) (take k order)))
       ∙ ap (λ (t : Bool). filter (λ j. slice_index heads j == h) (take k order) ++ cond t (slice_index order k ∷ []) []) (sym other)
@@ -249,7 +275,10 @@ parts-step heads order k parts i head l at is inside w = record { long = length-
 pub parts-all : (heads order : List ℕ) (k : ℕ) (parts : List (List ℕ)) → length order ≤ k → ArePartsTo heads order k parts → filter has_some parts ≡ own_parts heads order
 unfolding own_parts
 parts-all heads order k parts l w =
-    ap (filter has_some) (listed (λ h. filter (λ i. slice_index heads i == h) order) parts 0 (λ h b. w.each h (let n = w.long in omega (arith, n, b)) ∙ ap (filter (λ i. slice_index heads i == h)) (take_all k order l) ∙ ap (λ x. filter (λ i. slice_index heads i == x) order) (let e : h ≡ 0 + h = omega arith in e))
+    ap (filter has_some) (listed (λ h. filter (λ i. slice_index heads i == h) order) parts 0
+    (λ h b. w.each h (let n = w.long in omega (arith, n, b))
+    ∙ ap (filter (λ i. slice_index heads i == h)) (take_all k order l)
+    ∙ ap (λ x. filter (λ i. slice_index heads i == x) order) (let e : h ≡ 0 + h = omega arith in e))
     ∙ ap (λ n. map (λ h. filter (λ i. slice_index heads i == h) order) (range_with_len 0 n)) w.long)
 
 -- the lists that aren't empty
@@ -260,7 +289,9 @@ some-test (x ∷ xs) = not_from_false (length (x ∷ xs) == 0) (false_from_ne_tr
 pub some-kept : {A : Type 0} (vs : List (Vec ℕ A)) → lists_of (filter (λ v. has_some v.items) vs) ≡ filter has_some (lists_of vs)
 some-kept [] = refl
 some-kept (v ∷ vs) = go (has_some v.items) (some-kept vs) where
-  go : (t : Bool) → lists_of (filter (λ v. has_some v.items) vs) ≡ filter has_some (lists_of vs) → lists_of (cond t (v ∷ filter (λ v. has_some v.items) vs) (filter (λ v. has_some v.items) vs)) ≡ cond t (v.items ∷ filter has_some (lists_of vs)) (filter has_some (lists_of vs))
+  go : (t : Bool) → lists_of (filter (λ v. has_some v.items) vs) ≡ filter has_some (lists_of vs)
+      → lists_of (cond t (v ∷ filter (λ v. has_some v.items) vs) (filter (λ v. has_some v.items) vs)) ≡ cond t
+      (v.items ∷ filter has_some (lists_of vs)) (filter has_some (lists_of vs))
   go true rest = ap (λ (ys : List (List ℕ)). v.items ∷ ys) rest
   go false rest = rest
 
@@ -293,7 +324,8 @@ own-few heads (suc s) =
     let rest = own-few heads s in
     subst (λ n. length (own_before heads n) ≤ n) e (omega (arith, more, one, rest))
 
-pub places-more : (heads : List ℕ) (s : ℕ) → map (λ p. length (own_before heads p)) (range_with_len 0 (s + 1)) ≡ map (λ p. length (own_before heads p)) (range_with_len 0 s) ++ length (own_before heads s) ∷ []
+pub places-more : (heads : List ℕ) (s : ℕ) → map (λ p. length (own_before heads p)) (range_with_len 0 (s + 1)) ≡ map
+    (λ p. length (own_before heads p)) (range_with_len 0 s) ++ length (own_before heads s) ∷ []
 places-more heads s = ap (map (λ p. length (own_before heads p))) (range-more 0 s s (omega arith)) ∙ map-append (λ p. length (own_before heads p)) (range_with_len 0 s) (s ∷ [])
 
 pub places-all : (heads : List ℕ) → map (λ s. length (own_before heads s)) (range_with_len 0 (length heads)) ≡ places_before heads

@@ -1,5 +1,6 @@
 -- How merged receives are found: each event is given the one into which it is merged.
-use Rattle.std.specs.Prelude.{ℕ, ◌≡◌, ◌==◌, ◌<◌, ◌≤◌, Bool, false, true, List, [], ◌∷◌, Vec, length, map, nat_lt, slice_index, slice_index_or, if◌then◌else◌}
+use Rattle.std.specs.Prelude.{ℕ, ◌≡◌, ◌==◌, ◌<◌, ◌≤◌, Bool, false, true, List, [], ◌∷◌, Vec, length}
+use Rattle.std.specs.Prelude.{map, nat_lt, slice_index, slice_index_or, if◌then◌else◌}
 use Rattle.std.specs.List.{filter, range_with_len}
 use Rattle.timed_events.specs.declared.events.Event.{Event}
 use Rattle.merged_receives.specs.Merges.{is_merged, is_part, receives_at}
@@ -19,12 +20,14 @@ AreParts n parts = (k : ℕ) → k < length parts → ArePart n (slice_index_or 
 
 -- ticks don't fall along an order
 abbrev pub AreRising : List ℕ → List ℕ → Type 0
-AreRising ticks order = (j k : ℕ) → j < k → k < length order → slice_index ticks (slice_index order j) ≤ slice_index ticks (slice_index order k)
+AreRising ticks order = (j k : ℕ) → j < k → k < length order
+    → slice_index ticks (slice_index order j) ≤ slice_index ticks (slice_index order k)
 
 -- the event into which event i is merged, or itself, if this receive of its processor is open
 abbrev pub head_by : List Event → List ℕ → ℕ → ℕ → ℕ
 head_by events ticks latest i =
-    if receives_at events i then (if nat_lt latest (length events) then (if slice_index ticks latest == slice_index ticks i then latest else i) else i) else i
+    if receives_at events i then (if nat_lt latest (length events)
+    then (if slice_index ticks latest == slice_index ticks i then latest else i) else i) else i
 
 -- event h isn't merged into another, and event i is it or is merged into it
 pub record IsHead (events : List Event) (ticks : List ℕ) (h i : ℕ) : Type 0 where
@@ -44,7 +47,8 @@ has_some (x ∷ xs) = true
 
 -- of each event that is some event's head the events of which it is the head, in their order
 unfoldable pub own_parts : List ℕ → List ℕ → List (List ℕ)
-own_parts heads order = filter has_some (map (λ h. filter (λ i. slice_index heads i == h) order) (range_with_len 0 (length heads)))
+own_parts heads order = filter has_some
+    (map (λ h. filter (λ i. slice_index heads i == h) order) (range_with_len 0 (length heads)))
 
 -- the events before a place that are their own heads
 unfoldable pub own_before : List ℕ → ℕ → List ℕ

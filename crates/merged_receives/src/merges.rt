@@ -1,11 +1,13 @@
 //! The events of which each is made if receives are merged.
 
-ghost use Rattle.std.specs.Prelude.{◌≡◌, ◌<◌, ◌≤◌, ◌+◌, ◌-◌, ◌==◌, ◌++◌, ◌∷◌, [], ℕ, All, if◌then◌else◌, IfErr, IfOk, OnOk, length, slice_index, slice_index_or, slice_set};
+ghost use Rattle.std.specs.Prelude.{◌≡◌, ◌<◌, ◌≤◌, ◌+◌, ◌-◌, ◌==◌, ◌++◌, ◌∷◌, [], ℕ, All, if◌then◌else◌};
+ghost use Rattle.std.specs.Prelude.{IfErr, IfOk, OnOk, length, slice_index, slice_index_or, slice_set};
 ghost use Rattle.timed_events.specs.Causes.{IsTimeOrder};
 ghost use Rattle.timed_events.specs.Checks.{AreOfProcessors, IsEventRefusal, processor_at};
 ghost use Rattle.timed_events.specs.Times.{times_refusal};
 ghost use Rattle.merged_receives.specs.Merges.{AreMerged, receives_at};
-ghost use Rattle.merged_receives.specs.MergeWalks.{AreHeadsOf, AreParts, AreRising, has_some, head_by, lists_of, own_parts, places_before};
+ghost use Rattle.merged_receives.specs.MergeWalks.{AreHeadsOf, AreParts, AreRising, has_some, head_by};
+ghost use Rattle.merged_receives.specs.MergeWalks.{lists_of, own_parts, places_before};
 
 use std::alloc::{AllocError, Global};
 use step_trace::{MAX_PROCESSORS, MAX_STEPS};
@@ -33,10 +35,12 @@ pub fn merged_parts(
     requires few { length events.now ≤ MAX_STEPS }
     requires processors { AreOfProcessors events.now }
     requires width { 0 < clock.now.width }
-    ensures merged { IfOk result (λ m. AreMerged events.now clock.now (lists_of m.parts.items) m.places.items) }
+    ensures merged { IfOk result
+        (λ m. AreMerged events.now clock.now (lists_of m.parts.items) m.places.items) }
     ensures inside { IfOk result (λ m. AreParts (length events.now) (lists_of m.parts.items)) }
     ensures some { IfOk result (λ m. 0 < length (lists_of m.parts.items)) }
-    ensures refused { IfErr result (λ why. IsEventRefusal why (times_refusal events.now clock.now)) }
+    ensures refused { IfErr result
+        (λ why. IsEventRefusal why (times_refusal events.now clock.now)) }
 {
     let span = span_of(events, clock)?;
     let ticks = ticks_of(alloc, events, clock, span.least)?;
@@ -165,7 +169,8 @@ fn empty_lists(alloc: Global, count: usize) -> Result<Vec<Vec<u32>>, AllocError>
 /// Puts a number last in a list.
 fn put(lists: &mut [Vec<u32>], i: usize, number: u32) -> Result<(), AllocError>
     requires { i < length lists.old }
-    ensures { OnOk result (lists_of lists.new ≡ slice_set (lists_of lists.old) i (slice_index_or (lists_of lists.old) i [] ++ number ∷ [])) }
+    ensures { OnOk result (lists_of lists.new ≡ slice_set (lists_of lists.old) i
+        (slice_index_or (lists_of lists.old) i [] ++ number ∷ [])) }
 {
     let list = &mut lists[i];
     list.push(number)?;

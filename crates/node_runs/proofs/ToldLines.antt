@@ -37,7 +37,8 @@ begun Line line contents old new (Err w) h told part cause =
     subst (λ x. HasBegun Line (contents (inner_of old)) (contents (inner_of x))) (sym cause) (begun_nothing Line line (contents (inner_of old)) h)
 
 -- the line of how synchronous a trace is, printed whole with its news
-pub told_whole : {T A : Type 0} (set : ℕ) (trace : Recorded) (standing : Option Standing) (news : List ℕ) (contents : T → Option (List ℕ)) (old new : Counting T) (r : Result A Fault) → IsStanding set trace standing
+pub told_whole : {T A : Type 0} (set : ℕ) (trace : Recorded) (standing : Option Standing) (news : List ℕ)
+    (contents : T → Option (List ℕ)) (old new : Counting T) (r : Result A Fault) → IsStanding set trace standing
     → OnOk r (Appends (contents (inner_of old)) (contents (inner_of new)) (told_standing standing ++ news))
     → OnOk r (HasToldOne (TellsOf set trace news) (contents (inner_of old)) (contents (inner_of new)))
 told_whole set trace standing news contents old new (Ok _) stands told =
@@ -114,7 +115,9 @@ told_more Line since next until a b c p q = record {
 }
 
 -- so for a set under two names
-pub told_on : (c : Setup) (set other since next until : ℕ) (x y z : Option (List ℕ)) → other ≡ set → HasTold (IsLine c set) since next x y → HasTold (IsLine c other) next until y z → HasTold (IsLine c set) since until x z
+pub told_on : (c : Setup) (set other since next until : ℕ) (x y z : Option (List ℕ)) → other ≡ set
+    → HasTold (IsLine c set) since next x y → HasTold (IsLine c other) next until y z
+    → HasTold (IsLine c set) since until x z
 told_on c set other since next until x y z same p q = told_more (IsLine c set) since next until x y z p (subst (λ s. HasTold (IsLine c s) next until y z) same q)
 
 -- a follower that has printed a line at the end of a run

@@ -7,11 +7,13 @@ use Rattle.deciding_runs.specs.Decisions.{decisions}
 
 -- who decided what, and in which tick; in a run a step's number is its tick
 abbrev pub decision_words : Decision → List ℕ
-decision_words d = codes "; " ++ (decimal d.processor ++ (codes " decided " ++ (decimal d.value ++ (codes " in tick " ++ decimal d.step))))
+decision_words d = codes "; "
+    ++ (decimal d.processor ++ (codes " decided " ++ (decimal d.value ++ (codes " in tick " ++ decimal d.step))))
 
 -- how many of the processors decided
 abbrev pub count_words : ℕ → ℕ → List ℕ
-count_words some all = codes "synchrony: " ++ (decimal some ++ (codes " of " ++ (decimal all ++ codes " processors decided")))
+count_words some all = codes "synchrony: "
+    ++ (decimal some ++ (codes " of " ++ (decimal all ++ codes " processors decided")))
 
 -- how many decided of all, and these decisions, in their order, with a line feed
 abbrev pub decided_line : ℕ → ℕ → List Decision → List ℕ

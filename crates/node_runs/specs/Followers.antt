@@ -1,5 +1,6 @@
 -- What a follower of a run prints.
-use Rattle.std.specs.Prelude.{ℕ, ◌≡◌, ◌⊎◌, ◌*◌, ◌-◌, ◌<◌, ◌≤◌, List, [], ◌∷◌, ◌++◌, length, Option, Some, None, flat_map, take, ⊤}
+use Rattle.std.specs.Prelude.{ℕ, ◌≡◌, ◌⊎◌, ◌*◌, ◌-◌, ◌<◌, ◌≤◌, List, [], ◌∷◌, ◌++◌}
+use Rattle.std.specs.Prelude.{length, Option, Some, None, flat_map, take, ⊤}
 use Rattle.std.specs.Io.KnownBytes.{Appends}
 use Rattle.step_trace.specs.Configurations.{Setup}
 use Rattle.step_trace.specs.declared.correct_sets.Correct.{Correct}
@@ -38,7 +39,8 @@ pub record TellsSince (set : ℕ) (trace : Recorded) (ds : List Decision) (since
 
 -- it does, or reports that the follower stops
 abbrev pub IsNextLineOf : ℕ → Recorded → List Decision → ℕ → ℕ → List ℕ → Type 0
-IsNextLineOf set trace ds since until line = TellsSince set trace ds since until line ⊎ ((since ≤ until) × (line ≡ told_stop))
+IsNextLineOf set trace ds since until line = TellsSince set trace ds since until line
+    ⊎ ((since ≤ until) × (line ≡ told_stop))
 
 -- The line reports the bounds of the trace that a run of the configuration has at its step `until`, and what was
 -- decided in it after its step `since`.
@@ -99,18 +101,22 @@ pub record GoesOnAlike {T : Type 0} (old new : Follower T) : Type 0 where
   pub is_over : new.is_over ≡ old.is_over
 
 -- all that the follower, if there is one, printed meanwhile are such lines of runs of the configuration, for its set
-abbrev pub HasFollowed : {T : Type 0} → (T → Option (List ℕ)) → Setup → Option (Follower T) → Option (Follower T) → Type 0
+abbrev pub HasFollowed : {T : Type 0} → (T → Option (List ℕ)) → Setup → Option (Follower T)
+    → Option (Follower T) → Type 0
 HasFollowed contents c None new = new ≡ None
 HasFollowed contents c (Some old) None = ⊥
 HasFollowed contents c (Some old) (Some new) = (new.analyst.set ≡ old.analyst.set)
-    × ((until : ℕ) × HasTold (IsLine c old.analyst.set) old.told until (contents (inner_of old.writer)) (contents (inner_of new.writer)))
+    × ((until : ℕ) × HasTold (IsLine c old.analyst.set) old.told until (contents (inner_of old.writer))
+    (contents (inner_of new.writer)))
 
 -- all that it printed at the end is one such line, without decisions
-abbrev pub HasToldEnd : {T : Type 0} → (T → Option (List ℕ)) → Setup → Option (Follower T) → Option (Follower T) → Type 0
+abbrev pub HasToldEnd : {T : Type 0} → (T → Option (List ℕ)) → Setup → Option (Follower T)
+    → Option (Follower T) → Type 0
 HasToldEnd contents c None new = new ≡ None
 HasToldEnd contents c (Some old) None = ⊥
 HasToldEnd contents c (Some old) (Some new) =
-    (new.analyst.set ≡ old.analyst.set) × HasBegun (IsEndLine c old.analyst.set) (contents (inner_of old.writer)) (contents (inner_of new.writer))
+    (new.analyst.set ≡ old.analyst.set) × HasBegun (IsEndLine c old.analyst.set) (contents (inner_of old.writer))
+    (contents (inner_of new.writer))
 
 -- not all steps are made yet, but a portion of them since the last line
 abbrev pub IsDue : ℕ → ℕ → ℕ → Type 0

@@ -98,5 +98,6 @@ IsFaultOfNodes why = IsFaultOfThreads why
 -- if the output failed, there is such a run, of whose text that many first bytes went out; nothing is noted
 abbrev pub IsUnwrittenRun : RunEnd → Setup → ℕ → Option (List ℕ) → Option (List ℕ) → Fault → Type 0
 IsUnwrittenRun end c n before after (fault.Write k) =
-    (trace : Recorded) × IsEndedRun end c n trace × (k ≤ length (trace_text trace)) × Appends before after (take k (trace_text trace))
+    (trace : Recorded) × IsEndedRun end c n trace × (k ≤ length (trace_text trace))
+    × Appends before after (take k (trace_text trace))
 IsUnwrittenRun end c n before after _ = ⊤

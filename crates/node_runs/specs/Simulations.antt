@@ -17,7 +17,8 @@ pub record IsSimulated (o : SimulationOptions) (trace : Recorded) : Type 0 where
   pub run : IsRun trace.config trace.steps
   pub count : length trace.steps ≡ o.steps
   pub crashed : StepBeforeCrashes o.crashes.items trace.steps
-  pub phi : IfSome o.bounds (λ b. (set : ℕ) → AreLive set o.config o.crashes.items → PhiHolds set trace (b.gst + 1) b.phi)
+  pub phi : IfSome o.bounds (λ b. (set : ℕ) → AreLive set o.config o.crashes.items
+      → PhiHolds set trace (b.gst + 1) b.phi)
   pub delta : IfSome o.bounds (λ b. (set : ℕ) → DeltaHolds set trace (b.gst + 1) b.delta)
 
 -- The text is that of such a run, and the notes say who decided in it.

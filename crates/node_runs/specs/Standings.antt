@@ -27,7 +27,8 @@ abbrev pub NamesSilent : ℕ → Recorded → ℕ → Option ℕ → Type 0
 NamesSilent set trace g None = (p : ℕ) → ¬ IsSilentSince set trace g p
 NamesSilent set trace g (Some p) = IsSilentSince set trace g p × ((o : ℕ) → IsSilentSince set trace g o → p ≤ o)
 
--- the last tick, the least bounds from the first tick and from the recent one on, and who makes no step from the latter on
+-- the last tick, the least bounds from the first tick and from the recent one on, and who makes no step from the latter
+-- on
 pub record StandsSo (set : ℕ) (trace : Recorded) (s : Standing) : Type 0 where
   pub tick : s.tick ≡ trace.last
   pub first : s.whole.from ≡ 1

@@ -1,6 +1,7 @@
 //! A follower of a run: while its threads step, it reports how synchronous they are so far, and who decided.
 
-ghost use Rattle.std.specs.Prelude.{◌≡◌, ◌⊎◌, ◌↔◌, ◌-◌, ◌*◌, ◌<◌, length, IfOk, IfErr, IfSome, OnOk, IsTrue, Some, None, true, false, option_map};
+ghost use Rattle.std.specs.Prelude.{◌≡◌, ◌⊎◌, ◌↔◌, ◌-◌, ◌*◌, ◌<◌, length, IfOk, IfErr, IfSome};
+ghost use Rattle.std.specs.Prelude.{OnOk, IsTrue, Some, None, true, false, option_map};
 ghost use Rattle.std.specs.Io.KnownBytes.{Appends};
 ghost use Rattle.step_trace.specs.CorrectSets.{named};
 ghost use Rattle.suffix_staircase.specs.Analysis.{AreLevels};
@@ -10,7 +11,8 @@ ghost use Rattle.command_faults.specs.Printing.{IsWriteFault};
 ghost use Rattle.node_runs.specs.DecisionLines.{told_later};
 ghost use Rattle.node_runs.specs.Standings.{IsStanding};
 ghost use Rattle.node_runs.specs.StandingLines.{told_stop};
-ghost use Rattle.node_runs.specs.Followers.{AreAmong, GoesOnAlike, HasBegun, HasTold, HasToldOne, IsDue, IsLine, IsLineOf, IsNextLineOf, IsSetRefusal, TellsOf};
+ghost use Rattle.node_runs.specs.Followers.{AreAmong, GoesOnAlike, HasBegun, HasTold, HasToldOne, IsDue};
+ghost use Rattle.node_runs.specs.Followers.{IsLine, IsLineOf, IsNextLineOf, IsSetRefusal, TellsOf};
 
 use crate::decision_lines::later_text;
 use crate::standing_lines::{tell_standing, tell_stop};
@@ -63,7 +65,9 @@ pub fn follower_for<W: Write + Drop>(
     writer: Counting<W>,
 ) -> Result<Option<Follower<W>>, Fault>
     ensures within { OnOk result (AreAmong follow config.now.n) }
-    ensures set { IfOk result (λ made. IfSome made (λ follower. option_map (λ correct. named correct config.now.n) follow ≡ Some follower.analyst.set)) }
+    ensures set { IfOk result
+        (λ made. IfSome made (λ follower. option_map (λ correct. named correct config.now.n) follow
+        ≡ Some follower.analyst.set)) }
     ensures refused { IfErr result (IsSetRefusal follow config.now.n) }
 {
     let Some(correct) = follow else {
@@ -109,7 +113,9 @@ impl<W: Write> Follower<W> {
         ended: &AtomicBool,
     )
         ensures set { self.new.analyst.set ≡ self.old.analyst.set }
-        ensures told { HasTold (IsLine recorder.now.config self.old.analyst.set) self.old.told self.new.told (W.contents (inner_of self.old.writer)) (W.contents (inner_of self.new.writer)) }
+        ensures told { HasTold (IsLine recorder.now.config self.old.analyst.set) self.old.told
+            self.new.told (W.contents (inner_of self.old.writer))
+            (W.contents (inner_of self.new.writer)) }
     {
         let mut view = recorder.view();
         for _ in rt.forever() {
@@ -125,7 +131,9 @@ impl<W: Write> Follower<W> {
     /// when the run has ended.
     fn look<R: Wait>(&mut self, rt: &R, alloc: Global, recorder: &Recorder, view: &mut View)
         ensures set { self.new.analyst.set ≡ self.old.analyst.set }
-        ensures told { HasTold (IsLine recorder.now.config self.old.analyst.set) self.old.told self.new.told (W.contents (inner_of self.old.writer)) (W.contents (inner_of self.new.writer)) }
+        ensures told { HasTold (IsLine recorder.now.config self.old.analyst.set) self.old.told
+            self.new.told (W.contents (inner_of self.old.writer))
+            (W.contents (inner_of self.new.writer)) }
     {
         let Some(count) = recorder.step_count(rt) else {
             return;
@@ -152,10 +160,17 @@ impl<W: Write> Follower<W> {
     /// may have got its last steps since they were counted.
     fn tell_due(&mut self, alloc: Global, prefix: &DecidedPrefix)
         ensures set { self.new.analyst.set ≡ self.old.analyst.set }
-        ensures told { HasBegun (IsNextLineOf self.old.analyst.set prefix.now.trace prefix.now.decisions.items self.old.told self.new.told) (W.contents (inner_of self.old.writer)) (W.contents (inner_of self.new.writer)) }
-        ensures due { (IsDue self.old.all self.old.told (length prefix.now.trace.steps) → ⊥) → self.new ≡ self.old }
-        ensures whole { IsDue self.old.all self.old.told (length prefix.now.trace.steps) → self.new.is_over ≡ false
-            → HasToldOne (TellsOf self.old.analyst.set prefix.now.trace (told_later prefix.now.trace.config.n self.old.told prefix.now.decisions.items)) (W.contents (inner_of self.old.writer)) (W.contents (inner_of self.new.writer)) }
+        ensures told { HasBegun
+            (IsNextLineOf self.old.analyst.set prefix.now.trace prefix.now.decisions.items
+            self.old.told self.new.told) (W.contents (inner_of self.old.writer))
+            (W.contents (inner_of self.new.writer)) }
+        ensures due { (IsDue self.old.all self.old.told (length prefix.now.trace.steps) → ⊥)
+            → self.new ≡ self.old }
+        ensures whole { IsDue self.old.all self.old.told (length prefix.now.trace.steps)
+            → self.new.is_over ≡ false
+            → HasToldOne (TellsOf self.old.analyst.set prefix.now.trace
+            (told_later prefix.now.trace.config.n self.old.told prefix.now.decisions.items))
+            (W.contents (inner_of self.old.writer)) (W.contents (inner_of self.new.writer)) }
     {
         if !self.is_due(prefix.trace.len() as u64) {
             return;
@@ -171,11 +186,15 @@ impl<W: Write> Follower<W> {
     /// is over. It is over after a line on out of memory, or if the writer fails.
     pub(crate) fn tell(&mut self, alloc: Global, trace: &Trace, news: &str)
         ensures set { self.new.analyst.set ≡ self.old.analyst.set }
-        ensures told { HasBegun (IsLineOf self.old.analyst.set trace.now news.now) (W.contents (inner_of self.old.writer)) (W.contents (inner_of self.new.writer)) }
+        ensures told { HasBegun (IsLineOf self.old.analyst.set trace.now news.now)
+            (W.contents (inner_of self.old.writer)) (W.contents (inner_of self.new.writer)) }
         ensures over { self.old.is_over ≡ true → self.new ≡ self.old }
         ensures count { self.old.is_over ≡ false → self.new.told ≡ length trace.now.steps }
-        ensures whole { self.new.is_over ≡ false → HasToldOne (TellsOf self.old.analyst.set trace.now news.now) (W.contents (inner_of self.old.writer)) (W.contents (inner_of self.new.writer)) }
-        ensures faultless { self.new.is_over ≡ false → WasFaultless self.old.writer self.new.writer }
+        ensures whole { self.new.is_over ≡ false
+            → HasToldOne (TellsOf self.old.analyst.set trace.now news.now)
+            (W.contents (inner_of self.old.writer)) (W.contents (inner_of self.new.writer)) }
+        ensures faultless { self.new.is_over ≡ false
+            → WasFaultless self.old.writer self.new.writer }
     {
         if self.is_over {
             return;
@@ -194,9 +213,12 @@ impl<W: Write> Follower<W> {
     /// before. Memory may come instead before the first write.
     fn tell_next(&mut self, alloc: Global, trace: &Trace, news: &str) -> Result<(), Fault>
         ensures set { self.new.analyst.set ≡ self.old.analyst.set }
-        ensures told { HasBegun (IsLineOf self.old.analyst.set trace.now news.now) (W.contents (inner_of self.old.writer)) (W.contents (inner_of self.new.writer)) }
+        ensures told { HasBegun (IsLineOf self.old.analyst.set trace.now news.now)
+            (W.contents (inner_of self.old.writer)) (W.contents (inner_of self.new.writer)) }
         ensures cause { IfErr result (IsWriteFault self.old.writer self.new.writer) }
-        ensures whole { OnOk result (HasToldOne (TellsOf self.old.analyst.set trace.now news.now) (W.contents (inner_of self.old.writer)) (W.contents (inner_of self.new.writer))) }
+        ensures whole { OnOk result
+            (HasToldOne (TellsOf self.old.analyst.set trace.now news.now)
+            (W.contents (inner_of self.old.writer)) (W.contents (inner_of self.new.writer))) }
         ensures faultless { OnOk result (WasFaultless self.old.writer self.new.writer) }
         ensures alike { GoesOnAlike self.old self.new }
     {
@@ -213,7 +235,8 @@ impl<W: Write> Follower<W> {
         ensures writer { self.new.writer ≡ self.old.writer }
         ensures alike { GoesOnAlike self.old self.new }
         ensures stairs { IfOk result (AreLevels self.old.analyst.set trace.now) }
-        ensures refused { IfErr result (λ why. (why ≡ Fault.NotARun 0 None) ⊎ (why ≡ Fault.Memory)) }
+        ensures refused { IfErr result
+            (λ why. (why ≡ Fault.NotARun 0 None) ⊎ (why ≡ Fault.Memory)) }
     {
         let set = self.analyst.set();
         if self.is_mostly_new(trace) && set.within(trace.config().n()) {
@@ -231,7 +254,8 @@ impl<W: Write> Follower<W> {
 
     /// Whether more of a trace is new to the analyst than it is quick to summarise.
     fn is_mostly_new(&self, trace: &Trace) -> bool
-        ensures { IsTrue result ↔ (length trace.now.steps < (length trace.now.steps - self.now.fed) * SUMMARISED) }
+        ensures { IsTrue result
+            ↔ (length trace.now.steps < (length trace.now.steps - self.now.fed) * SUMMARISED) }
     {
         let count = trace.len() as u64;
         count < count.saturating_sub(self.fed).saturating_mul(SUMMARISED)
@@ -240,7 +264,8 @@ impl<W: Write> Follower<W> {
     /// Reports that it is out of memory, and then no more.
     fn stop(&mut self)
         ensures set { self.new.analyst.set ≡ self.old.analyst.set }
-        ensures told { HasBegun (λ line. line ≡ told_stop) (W.contents (inner_of self.old.writer)) (W.contents (inner_of self.new.writer)) }
+        ensures told { HasBegun (λ line. line ≡ told_stop) (W.contents (inner_of self.old.writer))
+            (W.contents (inner_of self.new.writer)) }
         ensures over { self.new.is_over ≡ true }
         ensures count { self.new.told ≡ self.old.told }
     {

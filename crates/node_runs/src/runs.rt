@@ -1,6 +1,7 @@
 //! Runs of the agreement algorithm: a thread for each processor, and the trace of what they did together.
 
-ghost use Rattle.std.specs.Prelude.{◌≡◌, ◌≢◌, ◌↔◌, ◌*◌, ◌≤◌, ℕ, List, Some, None, IfOk, IfErr, OnOk, OnErr, MatchResult, IsTrue, length, ◌⊎◌};
+ghost use Rattle.std.specs.Prelude.{◌≡◌, ◌≢◌, ◌↔◌, ◌*◌, ◌≤◌, ℕ, List, Some, None, IfOk, IfErr};
+ghost use Rattle.std.specs.Prelude.{OnOk, OnErr, MatchResult, IsTrue, length, ◌⊎◌};
 ghost use Rattle.std.specs.Io.KnownBytes.{Appends};
 ghost use Rattle.command_options.specs.Paces.{patience_of};
 ghost use Rattle.step_trace.specs.declared.traces.TheConstants.{MAX_STEPS};
@@ -10,7 +11,9 @@ ghost use Rattle.trace_text.specs.ByteLoops.{WasFaultless};
 ghost use Rattle.trace_text.specs.Faults.{inner_of, is_flushed};
 ghost use Rattle.command_faults.specs.Printing.{IsWriteFault, WentOut};
 ghost use Rattle.node_runs.specs.Followers.{HasFollowed, HasTold, HasToldEnd, IsLine};
-ghost use Rattle.node_runs.specs.Runs.{AllDecided, HaveDone, HaveDoneAtMost, HaveEnded, IsEndedRun, IsEndedRunText, IsFaultOfNodes, IsFaultOfThreads, IsUnwrittenRun, ending_of, gravity, fault_of_ending};
+ghost use Rattle.node_runs.specs.Runs.{AllDecided, HaveDone, HaveDoneAtMost, HaveEnded, IsEndedRun, IsEndedRunText};
+ghost use Rattle.node_runs.specs.Runs.{IsFaultOfNodes, IsFaultOfThreads, IsUnwrittenRun, ending_of, gravity};
+ghost use Rattle.node_runs.specs.Runs.{fault_of_ending};
 
 use crate::decision_lines::decisions_text;
 use crate::followers::Follower;
@@ -68,13 +71,15 @@ pub fn run_nodes<R: Threads + Wait + Clock + Sync, W: Write, G: Gate, E: Write +
 ) -> Result<(), Fault>
     requires patient { 1 ≤ patience_of pace }
     requires room { config.now.n * steps ≤ MAX_STEPS }
-    ensures run { OnOk result ((text : List ℕ) × IsEndedRunText end config.now steps (WentOut N.contents notes.old notes.new) text
+    ensures run { OnOk result ((text : List ℕ)
+        × IsEndedRunText end config.now steps (WentOut N.contents notes.old notes.new) text
         × Appends (W.contents (inner_of writer.old)) (W.contents (inner_of writer.new)) text) }
     ensures flushed { OnOk result (IsTrue (is_flushed writer.new)) }
     ensures faultless { OnOk result (WasFaultless writer.old writer.new) }
     ensures own { IfErr result IsFaultOfNodes }
     ensures part { IfErr result
-        (IsUnwrittenRun end config.now steps (W.contents (inner_of writer.old)) (W.contents (inner_of writer.new))) }
+        (IsUnwrittenRun end config.now steps (W.contents (inner_of writer.old))
+        (W.contents (inner_of writer.new))) }
     ensures unwritten { IfErr result (IsWriteFault writer.old writer.new) }
     ensures quiet { OnErr result (notes.new ≡ notes.old) }
     ensures followed { HasFollowed E.contents config.now follower.old follower.new }
@@ -89,7 +94,8 @@ pub fn run_nodes<R: Threads + Wait + Clock + Sync, W: Write, G: Gate, E: Write +
 
 /// Reports the whole run, if there is a follower. The run's own line has the decisions.
 fn tell_whole<E: Write>(alloc: Global, world: &World, follower: &mut Option<Follower<E>>)
-    ensures { (c : Setup) → IsRunOf c world.now.trace → HasToldEnd E.contents c follower.old follower.new }
+    ensures { (c : Setup) → IsRunOf c world.now.trace
+        → HasToldEnd E.contents c follower.old follower.new }
 {
     if let Some(follower) = follower {
         follower.tell(alloc, world.trace(), "");
@@ -144,14 +150,19 @@ fn drive_followed<R: Threads + Wait + Clock + Sync, G: Gate, E: Write + Send>(
 ) -> Ending
     requires { 1 ≤ patience_of pace }
     ensures set { follower.new.analyst.set ≡ follower.old.analyst.set }
-    ensures told { HasTold (IsLine recorder.now.config follower.old.analyst.set) follower.old.told follower.new.told (E.contents (inner_of follower.old.writer)) (E.contents (inner_of follower.new.writer)) }
+    ensures told { HasTold (IsLine recorder.now.config follower.old.analyst.set) follower.old.told
+        follower.new.told (E.contents (inner_of follower.old.writer))
+        (E.contents (inner_of follower.new.writer)) }
 {
     let ended = &AtomicBool::new(false);
     let (_, ending) = join_mut(
         rt,
         &mut ||
             ensures set { follower.exit.now.analyst.set ≡ follower.entry.now.analyst.set }
-            ensures told { HasTold (IsLine recorder.entry.now.config follower.entry.now.analyst.set) follower.entry.now.told follower.exit.now.told (E.contents (inner_of follower.entry.now.writer)) (E.contents (inner_of follower.exit.now.writer)) }
+            ensures told { HasTold (IsLine recorder.entry.now.config follower.entry.now.analyst.set)
+                follower.entry.now.told follower.exit.now.told
+                (E.contents (inner_of follower.entry.now.writer))
+                (E.contents (inner_of follower.exit.now.writer)) }
         { follower.follow(rt, alloc, recorder, ended) },
         &mut || -> Ending
             requires { 1 ≤ patience_of pace }
@@ -236,7 +247,8 @@ fn gravest<R: Threads>(rt: &R, threads: Vec<JoinHandle<Ending>>) -> Ending {
 
 /// How a drive ended.
 fn how_ended(driven: Result<u64, DriveError>) -> Ending
-    ensures { MatchResult driven (λ _. result ≡ Ending.Made) (λ stopped. result ≡ ending_of stopped.why) }
+    ensures { MatchResult driven (λ _. result ≡ Ending.Made)
+        (λ stopped. result ≡ ending_of stopped.why) }
 {
     match driven {
         Ok(_) => Ending::Made,
@@ -276,7 +288,8 @@ fn gravity(ending: Ending) -> u64
 /// The fault that the ending of all threads is, if any.
 fn judged(ending: Ending) -> Result<(), Fault>
     ensures own { IfErr result IsFaultOfThreads }
-    ensures told { MatchResult result (λ _. fault_of_ending ending ≡ None) (λ why. fault_of_ending ending ≡ Some why) }
+    ensures told { MatchResult result (λ _. fault_of_ending ending ≡ None)
+        (λ why. fault_of_ending ending ≡ Some why) }
 {
     match ending {
         Ending::Made => Ok(()),
@@ -311,7 +324,8 @@ fn audited(
 
 /// Whether what was done from the seats is all of a run that has ended, if each makes so many steps at most.
 fn have_ended(world: &World, seats: &[Seat], end: RunEnd, steps: u64) -> bool
-    ensures { IsTrue result → HaveEnded end world.now.trace.config steps world.now.trace.steps seats.now }
+    ensures { IsTrue result
+        → HaveEnded end world.now.trace.config steps world.now.trace.steps seats.now }
 {
     match end {
         RunEnd::Steps => have_done(seats, steps),

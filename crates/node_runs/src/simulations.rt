@@ -26,7 +26,8 @@ pub fn run_simulation<W: Write, N: Write>(
     writer: &mut Counting<W>,
     notes: &mut Counting<N>,
 ) -> Result<(), Fault>
-    ensures run { OnOk result ((text : List ℕ) × IsSimulationText options (WentOut N.contents notes.old notes.new) text
+    ensures run { OnOk result
+        ((text : List ℕ) × IsSimulationText options (WentOut N.contents notes.old notes.new) text
         × Appends (W.contents (inner_of writer.old)) (W.contents (inner_of writer.new)) text) }
     ensures flushed { OnOk result (IsTrue (is_flushed writer.new)) }
     ensures faultless { OnOk result (WasFaultless writer.old writer.new) }

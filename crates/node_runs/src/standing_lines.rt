@@ -23,10 +23,13 @@ pub fn tell_standing<W: Write>(
     news: &str,
     writer: &mut Counting<W>,
 ) -> Result<(), Fault>
-    ensures told { OnOk result (Appends (W.contents (inner_of writer.old)) (W.contents (inner_of writer.new)) (told_standing standing ++ news.now)) }
+    ensures told { OnOk result (Appends (W.contents (inner_of writer.old))
+        (W.contents (inner_of writer.new)) (told_standing standing ++ news.now)) }
     ensures flushed { OnOk result (IsTrue (is_flushed writer.new)) }
     ensures faultless { OnOk result (WasFaultless writer.old writer.new) }
-    ensures part { IfErr result (λ why. IsUntold why (told_standing standing ++ news.now) (W.contents (inner_of writer.old)) (W.contents (inner_of writer.new))) }
+    ensures part { IfErr result
+        (λ why. IsUntold why (told_standing standing ++ news.now) (W.contents (inner_of writer.old))
+        (W.contents (inner_of writer.new))) }
     ensures cause { IfErr result (IsWriteFault writer.old writer.new) }
 {
     let mut text = standing_text(alloc, standing)?;
@@ -38,10 +41,13 @@ pub fn tell_standing<W: Write>(
 ///
 /// Refuses only Write, with the number of bytes that went out before.
 pub fn tell_stop<W: Write>(writer: &mut Counting<W>) -> Result<(), Fault>
-    ensures told { OnOk result (Appends (W.contents (inner_of writer.old)) (W.contents (inner_of writer.new)) told_stop) }
+    ensures told { OnOk result
+        (Appends (W.contents (inner_of writer.old)) (W.contents (inner_of writer.new)) told_stop) }
     ensures flushed { OnOk result (IsTrue (is_flushed writer.new)) }
     ensures faultless { OnOk result (WasFaultless writer.old writer.new) }
-    ensures part { IfErr result (λ why. IsUnprinted why told_stop (W.contents (inner_of writer.old)) (W.contents (inner_of writer.new))) }
+    ensures part { IfErr result
+        (λ why. IsUnprinted why told_stop (W.contents (inner_of writer.old))
+        (W.contents (inner_of writer.new))) }
     ensures cause { IfErr result (IsWriteFault writer.old writer.new) }
 {
     print("synchrony: no longer followed: out of memory\n", writer)

@@ -36,7 +36,8 @@ pub struct Standing {
 
 /// The bounds of the trace that has these levels; none if it has no tick.
 pub fn standing_of(stairs: &Stairs) -> Option<Standing>
-    ensures { (set : ℕ) (trace : Recorded) → AreLevels set trace stairs.now → IsStanding set trace result }
+    ensures { (set : ℕ) (trace : Recorded) → AreLevels set trace stairs.now
+        → IsStanding set trace result }
 {
     let last = stairs.len() as u64;
     if last == 0 {
@@ -69,7 +70,8 @@ fn bounds_from(stairs: &Stairs, from: u64) -> LeastBounds
     requires low { 1 ≤ from }
     requires high { from ≤ length stairs.now }
     ensures from { result.from ≡ from }
-    ensures least { (set : ℕ) (trace : Recorded) → AreLevels set trace stairs.now → AreLeastBounds set trace result }
+    ensures least { (set : ℕ) (trace : Recorded) → AreLevels set trace stairs.now
+        → AreLeastBounds set trace result }
 {
     let level = stairs.at(from);
     LeastBounds {
@@ -84,7 +86,8 @@ fn bounds_from(stairs: &Stairs, from: u64) -> LeastBounds
 fn silent_since(stairs: &Stairs, from: u64) -> Option<u64>
     requires low { 1 ≤ from }
     requires high { from ≤ length stairs.now }
-    ensures { (set : ℕ) (trace : Recorded) → AreLevels set trace stairs.now → NamesSilent set trace from result }
+    ensures { (set : ℕ) (trace : Recorded) → AreLevels set trace stairs.now
+        → NamesSilent set trace from result }
 {
     let level = stairs.at(from);
     let Some(gap) = level.gap else {

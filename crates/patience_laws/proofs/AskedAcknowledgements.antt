@@ -1,7 +1,10 @@
 -- How long the least rounds take, whoever owes an acknowledgement.
 use Rattle.std.proofs.Common.{ℕ, zero, suc, ◌≡◌, ◌≢◌, ◌+◌, ◌-◌, ◌*◌, ◌%◌, ◌≤◌, inl, inr, Option, Some, None, is_some, Bool, true, false, ◌==◌, ◌&&◌, refl, sym, ap, subst, ◌∙◌, arith}
 use Rattle.std.proofs.lemmas.Bool.{true≢false, cases_eq, eqb-true, and_parts}
-use Rattle.patience_laws.proofs.Common.{Setup, IsProc, has_proc, Recorded, Ack, Locks, with_proper, part_of, owner, phase_of, Acknowledging, part_at-acknowledging, acknowledgement-sent, locks-sent, member-positive, passed, passed-before, IsInRoundFrom, may_hear_of, KeepsBounds, AreInTouch, AreInRoundFrom, node_in, TakeInOrder, HearThemselves}
+use Rattle.patience_laws.proofs.Common.{Setup, IsProc, has_proc, Recorded, Ack, Locks, with_proper, part_of, owner}
+use Rattle.patience_laws.proofs.Common.{phase_of, Acknowledging, part_at-acknowledging, acknowledgement-sent}
+use Rattle.patience_laws.proofs.Common.{locks-sent, member-positive, passed, passed-before, IsInRoundFrom, may_hear_of}
+use Rattle.patience_laws.proofs.Common.{KeepsBounds, AreInTouch, AreInRoundFrom, node_in, TakeInOrder, HearThemselves}
 use Rattle.lock_phases.specs.NodeFunctions.{out}
 use Rattle.patience_laws.proofs.RoundSends.{times-more}
 use Rattle.patience_laws.proofs.RoundsHeard.{hears-ends}
@@ -39,7 +42,9 @@ module _ (patience set : ℕ) (trace : Recorded) (g d f : ℕ) (keeps : KeepsBou
         deaf : (z : ℕ) → may_hear_of c trace.steps q (round + 1) z ≡ false
         deaf z =
             may-in Acknowledging c trace.steps q (round + 1) z (part_at-acknowledging (round + 1) third)
-            ∙ deaf-other (q == owner c.n (phase_of (round + 1))) (is_some (node_in c trace.steps q (round + 1)).proposal) (eqb-other q (owner c.n (phase_of (round + 1))) (q == owner c.n (phase_of (round + 1))) refl other)
+            ∙ deaf-other (q == owner c.n (phase_of (round + 1)))
+            (is_some (node_in c trace.steps q (round + 1)).proposal)
+            (eqb-other q (owner c.n (phase_of (round + 1))) (q == owner c.n (phase_of (round + 1))) refl other)
 
     -- An acknowledging round: each tells the owner something.
     pub asked-ends : AreInRoundFrom set trace (round + 1 + 1) (x + f + f + c.n * f + d + f)
@@ -75,8 +80,14 @@ module _ (patience set : ℕ) (trace : Recorded) (g d f : ℕ) (keeps : KeepsBou
 
             mine : q ≡ p → IsSentBy trace q p (round + 1) (x + f + f + c.n * f)
             mine same = subst (λ j. IsSentBy trace j p (round + 1) (x + f + f + c.n * f)) (sym same) (sent_by
-                (let one = times-more 0 f in says patience set trace g d f keeps (round + 1) x touch there (omega arith) 0 p p (with_proper (node_in c trace.steps p (round + 1)) Ack) m (proc p m) (few-one c trace.steps p (round + 1) (inr third))
-                (subst (λ to. out c (node_in c trace.steps p (round + 1)) p (round + 1) to ≡ Some (with_proper (node_in c trace.steps p (round + 1)) Ack)) (sym own) (acknowledgement-sent c (node_in c trace.steps p (round + 1)) p (round + 1) third owes)) (omega arith)))
+                (let one = times-more 0 f in
+                says patience set trace g d f keeps (round + 1) x touch there (omega arith) 0 p p
+                (with_proper (node_in c trace.steps p (round + 1)) Ack) m (proc p m)
+                (few-one c trace.steps p (round + 1) (inr third))
+                (subst (λ to. out c (node_in c trace.steps p (round + 1)) p (round + 1) to ≡ Some
+                (with_proper (node_in c trace.steps p (round + 1)) Ack)) (sym own)
+                (acknowledgement-sent c (node_in c trace.steps p (round + 1)) p (round + 1) third owes))
+                (omega arith)))
               where
                 sent_by : IsSentBy trace p p (round + 1) (x + 1 * f) → IsSentBy trace p p (round + 1) (x + f + f + c.n * f)
                 sent_by s = let one = times-more 0 f in let by = s.by in record { message = s.message; sent = s.sent; later = s.later; by = omega arith }
@@ -152,10 +163,14 @@ module _ (patience set : ℕ) (trace : Recorded) (g d f : ℕ) (keeps : KeepsBou
     over : (r z : ℕ) → base ≤ r → x ≤ z → AreInRoundFrom set trace r z → AreInRoundFrom set trace (r + 1) (z + costs (part_of r))
     unfolding costs
     over r z up late there = elim (cases_eq (part_of r) 1) [
-      | inl one ↦ of (f + d + f) (ap costs one) (let e : z + f + d + f ≡ z + (f + d + f) = omega arith in subst (AreInRoundFrom set trace (r + 1)) e (listing-ends patience set trace g d f keeps r z in_touch there (omega arith) one))
+      | inl one ↦ of (f + d + f) (ap costs one) (let e : z + f + d + f ≡ z + (f + d + f) = omega arith in
+          subst (AreInRoundFrom set trace (r + 1)) e
+          (listing-ends patience set trace g d f keeps r z in_touch there (omega arith) one))
       | inr a ↦ elim (cases_eq (part_of r) 2) [
         | inl two ↦ of (3 * f + c.n * f + d + f) (ap costs two)
-            (let e : z + 3 * f + c.n * f + d + f ≡ z + (3 * f + c.n * f + d + f) = omega arith in subst (AreInRoundFrom set trace (r + 1)) e (locking-ends patience set trace g d f keeps r z in_touch there (omega arith) two))
+            (let e : z + 3 * f + c.n * f + d + f ≡ z + (3 * f + c.n * f + d + f) = omega arith in
+            subst (AreInRoundFrom set trace (r + 1)) e
+            (locking-ends patience set trace g d f keeps r z in_touch there (omega arith) two))
         | inr b ↦ elim (cases_eq (part_of r) 3) [
           | inl three ↦ of (f + f + c.n * f + d + f) (ap costs three) (asks three)
           | inr e ↦ (let four : part_of r ≡ 4 = omega arith in

@@ -4,7 +4,9 @@ use Rattle.std.specs.Prelude.{count_by}
 use Rattle.std.specs.List.{range_with_len}
 use Rattle.std.proofs.lemmas.Bool.{le-leb}
 use Rattle.std.proofs.lemmas.Option.{none-some}
-use Rattle.patience_laws.proofs.Common.{Act, IsProc, has_proc, Recorded, step_at, IsStepOf, tick_of, IsTimed, PhiHolds, part_of, IsRun, count_by-more, StepsByPace, IsInRoundFrom, HasHeardFrom, is_step_since, sends_to, steps_since}
+use Rattle.patience_laws.proofs.Common.{Act, IsProc, has_proc, Recorded, step_at, IsStepOf, tick_of, IsTimed, PhiHolds}
+use Rattle.patience_laws.proofs.Common.{part_of, IsRun, count_by-more, StepsByPace, IsInRoundFrom, HasHeardFrom}
+use Rattle.patience_laws.proofs.Common.{is_step_since, sends_to, steps_since}
 use Rattle.patience_laws.proofs.KnownRounds.{heard-weaker}
 use Rattle.patience_laws.proofs.RoundSends.{one-before, times-more}
 use Rattle.patience_laws.proofs.RoundsHeard.{behind-ends}

@@ -2,7 +2,10 @@
 use Rattle.std.proofs.Common.{ℕ, zero, suc, ◌≡◌, ◌+◌, ◌*◌, ◌<◌, ◌≤◌, ◌⊎◌, inl, inr, List, take, Some, Bool, true, false, refl, ap, ◌∙◌, arith}
 use Rattle.std.proofs.lemmas.Bool.{cases_lt}
 use Rattle.std.proofs.lemmas.Option.{none-some}
-use Rattle.patience_laws.proofs.Common.{Send, Receive, Setup, has_proc, Recorded, step_at, tick_of, number_below, ticks_rise, part_of, node_before, HasHeardOf, heard_ids, is_complete, KeepsBounds, AreInTouch, AreInRoundFrom, IsHeardOutByAll, TakeInOrder, HearThemselves, NoneBefore}
+use Rattle.patience_laws.proofs.Common.{Send, Receive, Setup, has_proc, Recorded, step_at, tick_of, number_below}
+use Rattle.patience_laws.proofs.Common.{ticks_rise, part_of, node_before, HasHeardOf, heard_ids, is_complete}
+use Rattle.patience_laws.proofs.Common.{KeepsBounds, AreInTouch, AreInRoundFrom, IsHeardOutByAll, TakeInOrder}
+use Rattle.patience_laws.proofs.Common.{HearThemselves, NoneBefore}
 use Rattle.patience_laws.specs.PacedRuns.{pace_after}
 use Rattle.patience_laws.proofs.PacedSteps.{rounds_after, round-here}
 use Rattle.patience_laws.proofs.RoundSends.{round_at-up}
@@ -16,7 +19,8 @@ module _ (patience set : ℕ) (trace : Recorded) (g d f : ℕ) (keeps : KeepsBou
     (enough : 5 * d + (4 * trace.config.n + 14) * f ≤ patience) (base x0 : ℕ) (touch : AreInTouch patience set trace g base x0) (low : 1 < base)
     (hears : (p q n : ℕ) (ids : List ℕ) → has_proc set p ≡ true → has_proc set q ≡ true → step_at trace.steps (suc n) ≡ Some (record { proc = p; act = Receive true ids })
     → base ≤ rounds_after trace.steps p n + 1 → part_of (rounds_after trace.steps p n + 1) ≡ 4 → x0 ≤ tick_of trace (suc n)
-    → is_complete trace.config (node_before trace.config trace.steps p (suc n)) (rounds_after trace.steps p n + 1) p (heard_ids (take n trace.steps) p ids (pace_after trace.config patience trace.steps p n)) ≡ true
+    → is_complete trace.config (node_before trace.config trace.steps p (suc n)) (rounds_after trace.steps p n + 1) p
+    (heard_ids (take n trace.steps) p ids (pace_after trace.config patience trace.steps p n)) ≡ true
     → HasHeardOf trace.steps p q (rounds_after trace.steps p n + 1) (suc n)) where
   abbrev c : Setup
   c = trace.config
@@ -56,7 +60,9 @@ module _ (patience set : ℕ) (trace : Recorded) (g d f : ℕ) (keeps : KeepsBou
                   let h = hears end.proc q end.place end.ids end.member mq end.step (omega arith) (ap part_of is ∙ part) (omega arith) done in
                   let later = h.later in
                   let sent = keeps.trace_is.time.later h.place h.message (record { proc = end.proc; act = Receive h.take.ends h.take.ids }, h.take.step, h.take.taken) in
-                  let rise = ticks_rise trace keeps.trace_is.time h.place (suc end.place) (record { proc = end.proc; act = Receive h.take.ends h.take.ids }) (record { proc = end.proc; act = Receive true end.ids }) h.take.step end.step h.by in
+                  let rise = ticks_rise trace keeps.trace_is.time h.place (suc end.place)
+                  (record { proc = end.proc; act = Receive h.take.ends h.take.ids })
+                  (record { proc = end.proc; act = Receive true end.ids }) h.take.step end.step h.by in
                   let earlier = number_below trace keeps.trace_is.time h.message k (record { proc = q; act = Send end.proc }) (record { proc = q; act = step.0 }) h.sent step.1 (omega arith) in
                   let up_to = round_at-up c patience trace.steps q h.message k (omega arith) in
                   omega arith
@@ -64,9 +70,14 @@ module _ (patience set : ℕ) (trace : Recorded) (g d f : ℕ) (keeps : KeepsBou
             where
               of : rounds_after trace.steps end.proc end.place + 1 ≡ r → (b : Bool) → has_proc set ahead.proc ≡ b
                   → AreInRoundFrom set trace r (tick_of trace (suc end.place)) ⊎ (x + patience ≤ tick_of trace (suc end.place))
-              of e false other = absurd (unheard patience set trace g d f keeps base x0 touch low r x up late first end.proc ahead.proc end.place (rounds_after trace.steps end.proc end.place + 1 + 5) end.ids end.member other ahead.is end.step (omega arith) (omega arith) ahead.heard_of)
+              of e false other = absurd
+                  (unheard patience set trace g d f keeps base x0 touch low r x up late first end.proc ahead.proc
+                  end.place (rounds_after trace.steps end.proc end.place + 1 + 5) end.ids end.member other ahead.is
+                  end.step (omega arith) (omega arith) ahead.heard_of)
               of e true member =
-                  let before = ended-before patience set trace g d f keeps base x0 touch low r x up late first end.proc ahead.proc end.place (rounds_after trace.steps end.proc end.place + 1 + 5) ahead.heard_of r (omega arith) (omega arith) in
+                  let before = ended-before patience set trace g d f keeps base x0 touch low r x up late first end.proc
+                  ahead.proc end.place (rounds_after trace.steps end.proc end.place + 1 + 5) ahead.heard_of r
+                  (omega arith) (omega arith) in
                   let begins = end.first ahead.proc (suc before.0.place) before.0.ids member before.0.step (round-here trace.steps ahead.proc before.0.place ∙ before.0.round_is) in
                   absurd (omega (arith, before.1))
 
@@ -143,4 +154,6 @@ module _ (patience set : ℕ) (trace : Recorded) (g d f : ℕ) (keeps : KeepsBou
         ]
           where
             after : x0 ≤ tick_of trace (suc end.place)
-            after = let is = end.round_is in let t = since patience set trace g d f keeps base x0 touch low r x (omega arith) late first end.proc end.place (Receive true end.ids) end.member end.step (omega arith) in omega arith
+            after = let is = end.round_is in let t =
+                since patience set trace g d f keeps base x0 touch low r x (omega arith) late first end.proc end.place
+                (Receive true end.ids) end.member end.step (omega arith) in omega arith

@@ -1,5 +1,6 @@
 -- Which Receives end a round.
-use Rattle.std.proofs.Common.{ℕ, zero, suc, ◌≡◌, ◌+◌, ◌-◌, ◌<◌, ◌≤◌, inl, inr, List, [], ◌∷◌, length, take, Some, Bool, true, false, ◌||◌, not, cond, get_or, refl, sym, ap, subst, ◌∙◌, arith, ◌⊎◌, ◌==◌}
+use Rattle.std.proofs.Common.{ℕ, zero, suc, ◌≡◌, ◌+◌, ◌-◌, ◌<◌, ◌≤◌, inl, inr, List, [], ◌∷◌, length, take, Some, Bool}
+use Rattle.std.proofs.Common.{true, false, ◌||◌, not, cond, get_or, refl, sym, ap, subst, ◌∙◌, arith, ◌⊎◌, ◌==◌}
 use Rattle.std.specs.Prelude.{Contains, count_by, nat_le}
 use Rattle.std.specs.List.{range_with_len}
 use Rattle.std.proofs.lemmas.Bool.{eqb-true, leb-true, ltb-true, and_parts, true≢false, and_left, lt-ltb, le-leb}
@@ -7,7 +8,14 @@ use Rattle.std.proofs.lemmas.Option.{same_Some}
 use Rattle.std.proofs.lemmas.List.Folds.{list_any_at, Any-from_list_any}
 use Rattle.std.proofs.lemmas.List.{get_or_default}
 use Rattle.std.proofs.lemmas.List.Sums.{sum_by-cons}
-use Rattle.patience_laws.proofs.Common.{Receive, Step, Setup, IsProc, act_ids, has_proc, IsWithin, step_at, IsWellFormed, Contains-head, Contains-rest, Contains-nil, Contains-cons_cases, Contains-processors, State, Part, Listing, Locking, Acknowledging, Releasing, part_at, part_of, owner, phase_of, processors, All-range_with_len, act_ends, receiving, node_before, Peer, may_hear, may_hear_in, may_hear_all, may_hear_all_in, HasHeardOf, peer_of, unheard, is_heard_of, is_done_with, is_far_ahead, is_left_behind, is_awaited, awaited_count, heard_count, Paced, heard_ids, is_complete, is_over, Suspects}
+use Rattle.patience_laws.proofs.Common.{Receive, Step, Setup, IsProc, act_ids, has_proc, IsWithin, step_at}
+use Rattle.patience_laws.proofs.Common.{IsWellFormed, Contains-head, Contains-rest, Contains-nil, Contains-cons_cases}
+use Rattle.patience_laws.proofs.Common.{Contains-processors, State, Part, Listing, Locking, Acknowledging, Releasing}
+use Rattle.patience_laws.proofs.Common.{part_at, part_of, owner, phase_of, processors, All-range_with_len, act_ends}
+use Rattle.patience_laws.proofs.Common.{receiving, node_before, Peer, may_hear, may_hear_in, may_hear_all}
+use Rattle.patience_laws.proofs.Common.{may_hear_all_in, HasHeardOf, peer_of, unheard, is_heard_of, is_done_with}
+use Rattle.patience_laws.proofs.Common.{is_far_ahead, is_left_behind, is_awaited, awaited_count, heard_count, Paced}
+use Rattle.patience_laws.proofs.Common.{heard_ids, is_complete, is_over, Suspects}
 use Rattle.lock_phases.specs.Hearing.{number_of}
 use Rattle.patience_laws.specs.PacedRuns.{pace_after, peer_after, pace_taking, StepsByPace}
 use Rattle.patience_laws.proofs.HeardMessages.{heard-long}
@@ -270,7 +278,9 @@ module _ (c : Setup) (patience : ℕ) (steps : List Step) (p : ℕ) (w : IsWellF
         where
           quorum : c.n - c.t ≤ heard_count (rounds_after steps p k + 1) known.peers
           quorum =
-              let part = (and_parts (awaited_count c here (rounds_after steps p k + 1) p known.peers == 0) (not (may_hear_all c here (rounds_after steps p k + 1) p) || nat_le known.quorum (heard_count (rounds_after steps p k + 1) known.peers)) done).1 in
+              let part = (and_parts (awaited_count c here (rounds_after steps p k + 1) p known.peers == 0)
+              (not (may_hear_all c here (rounds_after steps p k + 1) p) || nat_le known.quorum
+              (heard_count (rounds_after steps p k + 1) known.peers)) done).1 in
               let le : nat_le known.quorum (heard_count (rounds_after steps p k + 1) known.peers) ≡ true =
               sym (ap (λ b. not b || nat_le known.quorum (heard_count (rounds_after steps p k + 1) known.peers)) all) ∙ part in
               let e : known.quorum ≡ c.n - c.t = pace-quorum c patience steps p k in
@@ -285,7 +295,9 @@ module _ (c : Setup) (patience : ℕ) (steps : List Step) (p : ℕ) (w : IsWellF
               let f : 1 + (q - 1) ≡ q = omega arith in
               let fewer = count_by-fewer (has_proc set) (is_heard_of (rounds_after steps p k + 1)) known.peers 1 (q - 1) (λ i l t. heard-member i (omega arith) t) (omega arith)
               (subst (λ n. has_proc set n ≡ true) (sym f) m) e in
-              let counted : heard_count (rounds_after steps p k + 1) known.peers < number_of c.n (has_proc set) = subst (λ n. heard_count (rounds_after steps p k + 1) known.peers < count_by (has_proc set) (range_with_len 1 n)) long fewer in
+              let counted : heard_count (rounds_after steps p k + 1) known.peers < number_of c.n (has_proc set) =
+              subst (λ n. heard_count (rounds_after steps p k + 1) known.peers < count_by (has_proc set)
+              (range_with_len 1 n)) long fewer in
               let enough = quorum in
               absurd (omega arith)
 
@@ -332,7 +344,9 @@ module _ (c : Setup) (patience : ℕ) (steps : List Step) (p : ℕ) (w : IsWellF
           let e : 1 + i - 1 ≡ i = omega arith in
           subst (λ n. is_heard_of (rounds_after steps p k + 1) (get_or known.peers n unheard) ≡ true) e
           (member-known (1 + i) (omega arith, omega arith) m (all-each c here (rounds_after steps p k + 1) p (1 + i) all))) in
-          let counted : number_of c.n (has_proc set) ≤ heard_count (rounds_after steps p k + 1) known.peers = subst (λ n. count_by (has_proc set) (range_with_len 1 n) ≤ heard_count (rounds_after steps p k + 1) known.peers) long places in
+          let counted : number_of c.n (has_proc set) ≤ heard_count (rounds_after steps p k + 1) known.peers =
+          subst (λ n. count_by (has_proc set) (range_with_len 1 n) ≤ heard_count
+          (rounds_after steps p k + 1) known.peers) long places in
           omega arith
 
       quorum-is : known.quorum ≡ c.n - c.t

@@ -1,7 +1,9 @@
 -- One lock-release round that all members hear out brings them together.
 use Rattle.std.proofs.Common.{ℕ, zero, suc, ◌≡◌, ◌+◌, ◌-◌, ◌*◌, true, subst, arith}
 use Rattle.std.proofs.lemmas.Option.{none-some}
-use Rattle.patience_laws.proofs.Common.{Send, Receive, has_proc, Recorded, number_below, ticks_rise, part_of, member-positive, HasHeardOf, Suspects, IsInRoundFrom, KeepsBounds, AreInRoundFrom, ComesTo, ComeTogether, MeetOnce}
+use Rattle.patience_laws.proofs.Common.{Send, Receive, has_proc, Recorded, number_below, ticks_rise, part_of}
+use Rattle.patience_laws.proofs.Common.{member-positive, HasHeardOf, Suspects, IsInRoundFrom, KeepsBounds}
+use Rattle.patience_laws.proofs.Common.{AreInRoundFrom, ComesTo, ComeTogether, MeetOnce}
 use Rattle.patience_laws.proofs.PacedSteps.{round-here}
 use Rattle.patience_laws.proofs.RoundSends.{round_at-up}
 use Rattle.patience_laws.proofs.UnheardSuspects.{suspect-unheard}
@@ -24,7 +26,9 @@ module _ (patience set : ℕ) (trace : Recorded) (g d f : ℕ) (keeps : KeepsBou
       let at = meet.at in
       let later = h.later in
       let sent = keeps.trace_is.time.later h.place h.message (record { proc = meet.one; act = Receive h.take.ends h.take.ids }, h.take.step, h.take.taken) in
-      let rise = ticks_rise trace keeps.trace_is.time h.place meet.place (record { proc = meet.one; act = Receive h.take.ends h.take.ids }) (record { proc = meet.one; act = Receive true meet.comes.ids }) h.take.step meet.comes.step h.by in
+      let rise = ticks_rise trace keeps.trace_is.time h.place meet.place
+      (record { proc = meet.one; act = Receive h.take.ends h.take.ids })
+      (record { proc = meet.one; act = Receive true meet.comes.ids }) h.take.step meet.comes.step h.by in
       let earlier = number_below trace keeps.trace_is.time h.message k (record { proc = q; act = Send meet.one }) (record { proc = q; act = is.0 }) h.sent is.1 (omega arith) in
       let up = round_at-up trace.config patience trace.steps q h.message k (omega arith) in
       omega arith

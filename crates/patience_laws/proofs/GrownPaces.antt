@@ -3,7 +3,10 @@ use Rattle.std.proofs.Common.{ℕ, zero, suc, ◌≡◌, ◌+◌, ◌-◌, ◌�
 use Rattle.std.specs.Prelude.{slice_get}
 use Rattle.std.proofs.lemmas.Bool.{true≢false}
 use Rattle.std.proofs.Math.Seq.{take-append-le, take-length}
-use Rattle.patience_laws.proofs.Common.{Act, Send, Receive, Step, Setup, act_sends, step_at, IsWellFormed, step_at_within, step_at-push_cases, slice_get-last, before-prefix, passed-before, next_destination-prefix, before-now, state_after-prefix, heard_ids, is_over}
+use Rattle.patience_laws.proofs.Common.{Act, Send, Receive, Step, Setup, act_sends, step_at, IsWellFormed}
+use Rattle.patience_laws.proofs.Common.{step_at_within, step_at-push_cases, slice_get-last, before-prefix}
+use Rattle.patience_laws.proofs.Common.{passed-before, next_destination-prefix, before-now, state_after-prefix}
+use Rattle.patience_laws.proofs.Common.{heard_ids, is_over}
 use Rattle.step_trace.proofs.PagePlaces.{slice_get-left}
 use Rattle.step_buffers.specs.HeardTables.{passed, before, round_at, heard_table}
 use Rattle.step_buffers.specs.Moves.{next_send}
@@ -25,7 +28,9 @@ pub pace_after-push : (c : Setup) (patience : ℕ) (steps : List Step) (step : S
     → pace_after c patience (steps ++ step ∷ []) p (suc (length steps)) ≡ pace_stepping steps p (Some step) (pace_after c patience steps p (length steps))
 unfolding pace_after
 pace_after-push c patience steps step p =
-    ap (λ xs. pace_stepping xs p (slice_get (steps ++ step ∷ []) (length steps)) (pace_after c patience (steps ++ step ∷ []) p (length steps))) (take-append-le (length steps) steps (step ∷ []) (omega arith) ∙ take-length steps)
+    ap (λ xs. pace_stepping xs p (slice_get (steps ++ step ∷ []) (length steps))
+    (pace_after c patience (steps ++ step ∷ []) p (length steps)))
+    (take-append-le (length steps) steps (step ∷ []) (omega arith) ∙ take-length steps)
     ∙ ap (λ o. pace_stepping steps p o (pace_after c patience (steps ++ step ∷ []) p (length steps))) (slice_get-last steps step)
     ∙ ap (pace_stepping steps p (Some step)) (pace_after-prefix c patience steps (step ∷ []) p (length steps) (omega arith))
 
@@ -66,7 +71,10 @@ module _ (c : Setup) (patience : ℕ) (steps : List Step) (step : Step) (p : ℕ
       go None f h =
           h
           ∙ ap (λ node. is_over c node (passed steps p + 1) p (heard_ids steps p ids (pace_after c patience steps p (length steps)))) (state_after-prefix c steps (step ∷ []) (passed steps p) p w (omega arith))
-          ∙ ap (λ x. is_over c (state_after c (heard_table longer) (passed steps p) p) (passed steps p + 1) p (heard_ids steps p ids x)) (sym (ap (pace_after c patience longer p) back ∙ pace_after-prefix c patience steps (step ∷ []) p (length steps) (omega arith)))
+          ∙ ap (λ x. is_over c (state_after c (heard_table longer) (passed steps p) p) (passed steps p + 1) p
+          (heard_ids steps p ids x))
+          (sym (ap (pace_after c patience longer p) back
+          ∙ pace_after-prefix c patience steps (step ∷ []) p (length steps) (omega arith)))
           ∙ ap (λ xs. is_over c (state_after c (heard_table longer) (passed xs p) p) (passed xs p + 1) p (heard_ids xs p ids (pace_after c patience longer p (length steps + 1 - 1)))) (sym before-is)
 
   ends-old : (k : ℕ) (ids : List ℕ) (ends : Bool) → step_at steps k ≡ Some (record { proc = p; act = Receive ends ids })
@@ -76,7 +84,9 @@ module _ (c : Setup) (patience : ℕ) (steps : List Step) (step : Step) (p : ℕ
       let high = within.1 in
       paced.ends k ids ends at
       ∙ ap (λ node. is_over c node (round_at steps p k) p (pace_taking c patience steps p k ids)) (state_after-prefix c steps (step ∷ []) (passed (before steps k) p) p w (passed-before steps p k))
-      ∙ ap (λ x. is_over c (state_after c (heard_table longer) (passed (before steps k) p) p) (round_at steps p k) p (heard_ids (before steps k) p ids x)) (sym (pace_after-prefix c patience steps (step ∷ []) p (k - 1) (omega arith)))
+      ∙ ap (λ x. is_over c (state_after c (heard_table longer) (passed (before steps k) p) p) (round_at steps p k) p
+      (heard_ids (before steps k) p ids x))
+      (sym (pace_after-prefix c patience steps (step ∷ []) p (k - 1) (omega arith)))
       ∙ ap (λ xs. is_over c (state_after c (heard_table longer) (passed xs p) p) (passed xs p + 1) p (heard_ids xs p ids (pace_after c patience longer p (k - 1)))) (sym (before-prefix steps (step ∷ []) k (omega arith)))
 
   pub StepsByPace-push : StepsByPace c patience (steps ++ step ∷ []) p

@@ -97,7 +97,9 @@ module _ (steps : List Step) (p q : ℕ) (low : 1 ≤ q) where
         suspected = ap (λ (x : Peer). x.suspected) e;
         up = subst (λ (x : Peer). old.latest ≤ x.latest) (sym e) (latest-up (round_ahead steps p s) old);
         each = λ m d from. elim (Contains-cons_cases s m ids d) [
-          | inl f ↦ subst (λ (x : Peer). round_ahead steps p m ≤ x.latest) (sym e) (subst (λ i. round_ahead steps p i ≤ (after_hearing (round_ahead steps p s) old).latest) (sym f) (latest-this (round_ahead steps p s) old))
+          | inl f ↦ subst (λ (x : Peer). round_ahead steps p m ≤ x.latest) (sym e)
+              (subst (λ i. round_ahead steps p i ≤ (after_hearing (round_ahead steps p s) old).latest) (sym f)
+              (latest-this (round_ahead steps p s) old))
           | inr rest ↦ absurd (un.none (record { message = m; is_in = rest; sender = from }))
         ];
         origin = elim (latest-origin (round_ahead steps p s) old) [

@@ -1,7 +1,9 @@
 -- What a step of a trace does to what a pace has heard of one processor.
 use Rattle.std.proofs.Common.{ℕ, zero, suc, ◌≡◌, ◌+◌, ◌-◌, ◌<◌, ◌≤◌, ◌⊎◌, inl, inr, List, [], ◌∷◌, length, take, Some, Bool, true, false, ◌==◌, ◌&&◌, cond, refl, sym, ap, subst, ◌∙◌, arith}
 use Rattle.std.specs.Prelude.{Contains, slice_get, if◌then◌else◌}
-use Rattle.patience_laws.proofs.Common.{act_ids, Send, Receive, Step, Setup, IsProc, step_at, IsWellFormed, part_of, passed, round_at, IsSend, sender_of, round_ahead, Peer, IsTakenAt, peer_of, unheard, after_phase, Paced, heard_ids, after_receive, TakesOf}
+use Rattle.patience_laws.proofs.Common.{act_ids, Send, Receive, Step, Setup, IsProc, step_at, IsWellFormed, part_of}
+use Rattle.patience_laws.proofs.Common.{passed, round_at, IsSend, sender_of, round_ahead, Peer, IsTakenAt, peer_of}
+use Rattle.patience_laws.proofs.Common.{unheard, after_phase, Paced, heard_ids, after_receive, TakesOf}
 use Rattle.std.proofs.lemmas.Bool.{cases_lt}
 use Rattle.std.proofs.lemmas.Option.{same_Some}
 use Rattle.std.proofs.lemmas.List.{take-take, get_or-map, length-map, length-replicate}

@@ -2,7 +2,12 @@
 use Rattle.std.proofs.Common.{ℕ, zero, suc, ◌≡◌, ◌≢◌, ◌+◌, ◌-◌, ◌%◌, ◌*◌, ◌<◌, ◌≤◌, ◌⊎◌, inl, inr, List, length, Some, true, refl, sym, ap, subst, ◌∙◌, arith, Bool, false}
 use Rattle.std.proofs.lemmas.Bool.{cases_lt, cases_eq}
 use Rattle.std.proofs.lemmas.Option.{none-some}
-use Rattle.patience_laws.proofs.Common.{Act, Send, Receive, Step, Setup, IsProc, has_proc, Recorded, step_at, tick_of, step_at_within, number_below, ticks_rise, part_of, Releasing, part_at-releasing, member-positive, passed, before, round_at, node_before, may_hear, HasHeardOf, HearOut, IsHeardOut, deciding_round, HasPassedBy, round_at-passed, Suspects, WasSilent, IsInRoundFrom, may_hear_of, KeepsBounds, AreInRoundFrom, OweAcknowledgements, IsHeardOutByAll, ComesTo, ComeTogether}
+use Rattle.patience_laws.proofs.Common.{Act, Send, Receive, Step, Setup, IsProc, has_proc, Recorded, step_at, tick_of}
+use Rattle.patience_laws.proofs.Common.{step_at_within, number_below, ticks_rise, part_of, Releasing, part_at-releasing}
+use Rattle.patience_laws.proofs.Common.{member-positive, passed, before, round_at, node_before, may_hear, HasHeardOf}
+use Rattle.patience_laws.proofs.Common.{HearOut, IsHeardOut, deciding_round, HasPassedBy, round_at-passed, Suspects}
+use Rattle.patience_laws.proofs.Common.{WasSilent, IsInRoundFrom, may_hear_of, KeepsBounds, AreInRoundFrom}
+use Rattle.patience_laws.proofs.Common.{OweAcknowledgements, IsHeardOutByAll, ComesTo, ComeTogether}
 use Rattle.std.proofs.Math.Seq.{take-length}
 use Rattle.patience_laws.specs.PacedRuns.{pace_after}
 use Rattle.patience_laws.proofs.PacedSteps.{rounds_after, round-here}
@@ -70,7 +75,12 @@ module _ (patience set : ℕ) (trace : Recorded) (g d f : ℕ) (keeps : KeepsBou
 
       go : (round < fr) ⊎ (fr ≤ round) → (y ≤ tick_of trace (suc e.place)) × AreInRoundFrom set trace fr (tick_of trace (suc e.place) + t4)
       go (inr l) = begins (omega arith)
-      go (inl l) = (since, λ q mq. subst (λ n. IsInRoundFrom trace q n (tick_of trace (suc e.place) + t4)) next (sooner q (fr - 1 + 1) (tick_of trace (suc e.place) + trace.config.n * f + d + f) (tick_of trace (suc e.place) + t4) (omega arith) (after q mq)))
+      go (inl l) = (
+        since,
+        λ q mq. subst (λ n. IsInRoundFrom trace q n (tick_of trace (suc e.place) + t4)) next
+            (sooner q (fr - 1 + 1) (tick_of trace (suc e.place) + trace.config.n * f + d + f)
+            (tick_of trace (suc e.place) + t4) (omega arith) (after q mq)),
+      )
         where
           next : fr - 1 + 1 ≡ fr
           next = omega arith
@@ -100,7 +110,9 @@ module _ (patience set : ℕ) (trace : Recorded) (g d f : ℕ) (keeps : KeepsBou
               omega arith
 
           after : AreInRoundFrom set trace (fr - 1 + 1) (tick_of trace (suc e.place) + trace.config.n * f + d + f)
-          after = releasing-ends patience set trace g d f keeps (fr - 1) (tick_of trace (suc e.place)) (touch-later patience set trace g round y (fr - 1) (tick_of trace (suc e.place)) (omega arith) since come.touch) there (let low_round = come.later in omega arith) last
+          after = releasing-ends patience set trace g d f keeps (fr - 1) (tick_of trace (suc e.place))
+              (touch-later patience set trace g round y (fr - 1) (tick_of trace (suc e.place))
+              (omega arith) since come.touch) there (let low_round = come.later in omega arith) last
 
   -- the parts of a phase
   module _ (fr x : ℕ) (low : round ≤ fr) (since : y ≤ x) (part : part_of fr ≡ 1) (there : AreInRoundFrom set trace fr x) where
@@ -195,11 +207,17 @@ module _ (patience set : ℕ) (trace : Recorded) (g d f : ℕ) (keeps : KeepsBou
       phase-low : round ≤ fr
       phase-low = let p1 = come.part in omega arith
 
-      of : (x : ℕ) → round ≤ fr → y ≤ x → AreInRoundFrom set trace fr x → (r ≡ fr) ⊎ (r ≢ fr) → (r ≡ fr + 1) ⊎ (r ≢ fr + 1) → (r ≡ fr + 1 + 1) ⊎ (r ≢ fr + 1 + 1) → IsInRoundFrom trace p (r + 1) (x + t)
+      of : (x : ℕ) → round ≤ fr → y ≤ x → AreInRoundFrom set trace fr x → (r ≡ fr) ⊎ (r ≢ fr)
+          → (r ≡ fr + 1) ⊎ (r ≢ fr + 1) → (r ≡ fr + 1 + 1) ⊎ (r ≢ fr + 1 + 1) → IsInRoundFrom trace p (r + 1) (x + t)
       of x begins since there (inl a) b d = subst (λ s. IsInRoundFrom trace p (s + 1) (x + t)) (sym a) (sooner p (fr + 1) (x2 fr x begins since part there) (x + t) (omega arith) (second fr x begins since part there p m))
-      of x begins since there (inr a) (inl b) d = subst (λ s. IsInRoundFrom trace p (s + 1) (x + t)) (sym b) (sooner p (fr + 1 + 1) (x3 fr x begins since part there) (x + t) (omega arith) (third fr x begins since part there p m))
+      of x begins since there (inr a) (inl b) d =
+          subst (λ s. IsInRoundFrom trace p (s + 1) (x + t)) (sym b)
+          (sooner p (fr + 1 + 1) (x3 fr x begins since part there) (x + t) (omega arith)
+          (third fr x begins since part there p m))
       of x begins since there (inr a) (inr b) (inl d) =
-          subst (λ s. IsInRoundFrom trace p (s + 1) (x + t)) (sym d) (sooner p (fr + 1 + 1 + 1) (x4 fr x begins since part there) (x + t) (omega arith) (fourth fr x begins since part there (heard (fr + 1) (omega arith) (omega arith)) p m))
+          subst (λ s. IsInRoundFrom trace p (s + 1) (x + t)) (sym d)
+          (sooner p (fr + 1 + 1 + 1) (x4 fr x begins since part there) (x + t) (omega arith)
+          (fourth fr x begins since part there (heard (fr + 1) (omega arith) (omega arith)) p m))
       of x begins since there (inr a) (inr b) (inr d) =
           let z : r ≡ fr + 1 + 1 + 1 = omega arith in
           subst (λ s. IsInRoundFrom trace p (s + 1) (x + t)) (sym z) (next-phase fr x begins since part there (heard (fr + 1) (omega arith) (omega arith)) p m)
@@ -232,7 +250,9 @@ module _ (patience set : ℕ) (trace : Recorded) (g d f : ℕ) (keeps : KeepsBou
           phase-low = let p1 = come.part in omega arith
 
     -- from when p comes to the round, time is past y
-    since-coming : (p n : ℕ) (act : Act) → has_proc set p ≡ true → step_at trace.steps (suc n) ≡ Some (record { proc = p; act = act }) → round ≤ rounds_after trace.steps p n + 1 → y ≤ tick_of trace (suc n)
+    since-coming : (p n : ℕ) (act : Act) → has_proc set p ≡ true
+        → step_at trace.steps (suc n) ≡ Some (record { proc = p; act = act }) → round ≤ rounds_after trace.steps p n + 1
+        → y ≤ tick_of trace (suc n)
     since-coming p n act m at low =
         let low_round = come.later in
         let e = end-of c patience trace.steps p (round - 1) n (omega arith) (omega arith) in
@@ -242,7 +262,8 @@ module _ (patience set : ℕ) (trace : Recorded) (g d f : ℕ) (keeps : KeepsBou
         omega arith
 
     -- whom p may hear at a step, by its round
-    may-at : (p q n m : ℕ) → rounds_after trace.steps p n + 1 ≡ m → may_hear_of c trace.steps p m q ≡ true → may_hear c (node_before c trace.steps p (suc n)) (rounds_after trace.steps p n + 1) p q ≡ true
+    may-at : (p q n m : ℕ) → rounds_after trace.steps p n + 1 ≡ m → may_hear_of c trace.steps p m q ≡ true
+        → may_hear c (node_before c trace.steps p (suc n)) (rounds_after trace.steps p n + 1) p q ≡ true
     may-at p q n m is may =
         let before_is : passed (before trace.steps (suc n)) p ≡ m - 1 = omega (arith, round-here trace.steps p n) in
         rw (is, before_is) may
@@ -259,7 +280,8 @@ module _ (patience set : ℕ) (trace : Recorded) (g d f : ℕ) (keeps : KeepsBou
         → round_at trace.steps p k ≡ r → may_hear_of c trace.steps p r q ≡ true → HasHeardOf trace.steps p q r k
 
     -- then each suspects none in a round before the next but one lock-release round
-    loud-to : (r n m : ℕ) → HeardBefore r → HeardTo r n → part_of m ≡ 4 → m ≤ r + 4 → round ≤ m → (q p k : ℕ) → has_proc set q ≡ true → has_proc set p ≡ true → k ≤ n → rounds_after trace.steps q k + 1 ≡ m
+    loud-to : (r n m : ℕ) → HeardBefore r → HeardTo r n → part_of m ≡ 4 → m ≤ r + 4 → round ≤ m → (q p k : ℕ)
+        → has_proc set q ≡ true → has_proc set p ≡ true → k ≤ n → rounds_after trace.steps q k + 1 ≡ m
         → ¬ Suspects c patience trace.steps q p k
     loud-to r n m heard to mpart near low q p k mq mp l is = loud-on q p k mq mp (omega arith) last
       where
@@ -280,8 +302,10 @@ module _ (patience set : ℕ) (trace : Recorded) (g d f : ℕ) (keeps : KeepsBou
         (p n : ℕ) (act : Act) (mp : has_proc set p ≡ true) (at : step_at trace.steps (suc n) ≡ Some (record { proc = p; act = act })) (here : rounds_after trace.steps p n + 1 ≡ r) (to : HeardTo r n)
         (m : ℕ) (mpart : part_of m ≡ 4) (later : r < m) (near : m ≤ r + 4) where
       -- who was heard to be ahead isn't
-      unheard-of : (q z k s : ℕ) (ids : List ℕ) → has_proc set q ≡ true → has_proc set z ≡ false → IsProc c z → step_at trace.steps (suc k) ≡ Some (record { proc = q; act = Receive true ids }) → round ≤ rounds_after trace.steps q k + 1
-          → rounds_after trace.steps q k + 1 ≤ s → HasHeardOf trace.steps q z s (suc k) → ⊥
+      unheard-of : (q z k s : ℕ) (ids : List ℕ) → has_proc set q ≡ true → has_proc set z ≡ false → IsProc c z
+          → step_at trace.steps (suc k) ≡ Some (record { proc = q; act = Receive true ids })
+          → round ≤ rounds_after trace.steps q k + 1 → rounds_after trace.steps q k + 1 ≤ s
+          → HasHeardOf trace.steps q z s (suc k) → ⊥
       unheard-of q z k s ids mq mz is there up far h =
           let silent = come.touch.silent q z mq is mz (suc k) (record { ids = ids; ends = true; step = there }) (since-coming q k (Receive true ids) mq there up) in
           let ended = rounds-ended c patience trace.steps q k ids there in
@@ -299,7 +323,9 @@ module _ (patience set : ℕ) (trace : Recorded) (g d f : ℕ) (keeps : KeepsBou
               let up = round_at-up c patience trace.steps p h.message (suc n) (omega arith) in
               omega (arith, h.later, round-here trace.steps p n)
 
-          go : ((k q : ℕ) (ids : List ℕ) → k < bound → suc k ≤ n → has_proc set q ≡ true → step_at trace.steps (suc k) ≡ Some (record { proc = q; act = Receive true ids }) → rounds_after trace.steps q k + 1 ≡ m → ⊥)
+          go : ((k q : ℕ) (ids : List ℕ) → k < bound → suc k ≤ n → has_proc set q ≡ true
+              → step_at trace.steps (suc k) ≡ Some (record { proc = q; act = Receive true ids })
+              → rounds_after trace.steps q k + 1 ≡ m → ⊥)
               → Why c patience trace.steps q keeps.run.well_formed k ids true there (keeps.paced q mq) → ⊥
           go before (Complete done) =
               heard_p (complete-heard c patience trace.steps q keeps.run.well_formed k ids true there (keeps.paced q mq) p (proc p mp) done (may-at q p k m is (may-all c trace.steps q m p mpart))
@@ -333,8 +359,11 @@ module _ (patience set : ℕ) (trace : Recorded) (g d f : ℕ) (keeps : KeepsBou
               nobody-ended (suc end.0.place) end.0.place z end.0.ids (omega arith) (omega arith) f end.0.step end.0.round_is
 
     -- A round is heard out, if those before were.
-    heard-step : (r : ℕ) → round ≤ r → HeardBefore r → (n : ℕ) → HeardTo r n → (p q : ℕ) (ids : List ℕ) → has_proc set p ≡ true → has_proc set q ≡ true
-        → step_at trace.steps (suc n) ≡ Some (record { proc = p; act = Receive true ids }) → round_at trace.steps p (suc n) ≡ r → may_hear_of c trace.steps p r q ≡ true → HasHeardOf trace.steps p q r (suc n)
+    heard-step : (r : ℕ) → round ≤ r → HeardBefore r → (n : ℕ) → HeardTo r n → (p q : ℕ) (ids : List ℕ)
+        → has_proc set p ≡ true → has_proc set q ≡ true
+        → step_at trace.steps (suc n) ≡ Some (record { proc = p; act = Receive true ids })
+        → round_at trace.steps p (suc n) ≡ r → may_hear_of c trace.steps p r q ≡ true
+        → HasHeardOf trace.steps p q r (suc n)
     heard-step r low heard n to p q ids mp mq at here may = go (why-ends c patience trace.steps p keeps.run.well_formed n ids true at (keeps.paced p mp) refl)
       where
         is : rounds_after trace.steps p n + 1 ≡ r
@@ -355,7 +384,9 @@ module _ (patience set : ℕ) (trace : Recorded) (g d f : ℕ) (keeps : KeepsBou
             let low_round = come.later in
             elim (cases_eq ((r - 1) % 4) 3) [
               | inl at_end ↦ nobody-ahead r low heard (r - (r - 1) % 4) (omega arith) (omega arith) (omega arith) p n (Receive true ids) mp at is to (r + 4) (omega arith) (omega arith) (omega arith) z ids proper refl h
-              | inr inside ↦ nobody-ahead r low heard (r - (r - 1) % 4) (omega arith) (omega arith) (omega arith) p n (Receive true ids) mp at is to (r - (r - 1) % 4 + 3) (omega arith) (omega arith) (omega arith) z ids proper refl h
+              | inr inside ↦ nobody-ahead r low heard (r - (r - 1) % 4) (omega arith) (omega arith) (omega arith) p n
+                  (Receive true ids) mp at is to (r - (r - 1) % 4 + 3) (omega arith) (omega arith)
+                  (omega arith) z ids proper refl h
             ]
 
         impossible : (pace_after c patience trace.steps p n).left ≤ 1 → ⊥
@@ -448,7 +479,9 @@ module _ (patience set : ℕ) (trace : Recorded) (g d f : ℕ) (keeps : KeepsBou
         deciding : deciding_round c round + 2 ≡ round + 4 * (trace.config.n + 1)
         deciding = let first_part = come.part in omega arith
 
-        of : (k : ℕ) (act : Act) → step_at trace.steps k ≡ Some (record { proc = p; act = act }) → round + 4 * (trace.config.n + 1) ≤ round_at trace.steps p k → tick_of trace k ≤ y + t4 + (trace.config.n + 1) * t + f
+        of : (k : ℕ) (act : Act) → step_at trace.steps k ≡ Some (record { proc = p; act = act })
+            → round + 4 * (trace.config.n + 1) ≤ round_at trace.steps p k
+            → tick_of trace k ≤ y + t4 + (trace.config.n + 1) * t + f
             → HasPassedBy trace p (deciding_round c round) (y + t4 + (trace.config.n + 1) * t + f)
         of zero act at up by = absurd (none-some _ at)
         of (suc k) act at up by =

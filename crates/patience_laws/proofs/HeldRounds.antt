@@ -2,7 +2,9 @@
 use Rattle.std.proofs.Common.{ℕ, zero, suc, ◌≡◌, ◌+◌, ◌-◌, ◌<◌, ◌≤◌, inl, inr, List, take, Some, Bool, true, false, refl, sym, subst, ◌∙◌, arith}
 use Rattle.std.proofs.lemmas.Bool.{cases_lt}
 use Rattle.std.proofs.lemmas.Option.{none-some}
-use Rattle.patience_laws.proofs.Common.{Act, Receive, Setup, IsProc, has_proc, Recorded, step_at, tick_of, ticks_rise, part_of, node_before, HasHeardOf, heard_ids, is_complete, KeepsBounds, AreInTouch, AreInRoundFrom, IsHeardOutByAll, TakeInOrder, MeetOnce, NoneBefore}
+use Rattle.patience_laws.proofs.Common.{Act, Receive, Setup, IsProc, has_proc, Recorded, step_at, tick_of, ticks_rise}
+use Rattle.patience_laws.proofs.Common.{part_of, node_before, HasHeardOf, heard_ids, is_complete, KeepsBounds}
+use Rattle.patience_laws.proofs.Common.{AreInTouch, AreInRoundFrom, IsHeardOutByAll, TakeInOrder, MeetOnce, NoneBefore}
 use Rattle.patience_laws.specs.PacedRuns.{pace_after}
 use Rattle.patience_laws.proofs.PacedSteps.{rounds_after, round-here}
 use Rattle.patience_laws.proofs.KnownRounds.{rounds-up}
@@ -75,7 +77,8 @@ module _ (patience set : ℕ) (trace : Recorded) (g d f : ℕ) (keeps : KeepsBou
         let e = end-of c patience trace.steps z m (h.message - 1) positive (omega (arith, h.later)) in
         (e.0, omega (arith, e.1, h.later))
 
-    -- Who ends the round as complete heard of all; and so does who ends the next lock-release round, if it did in this one.
+    -- Who ends the round as complete heard of all; and so does who ends the next lock-release round, if it did in this
+    -- one.
     module _ (part : part_of r ≡ 4) (over : AreInRoundFrom set trace (r + 1) (x + patience))
         (now : (p q n : ℕ) (ids : List ℕ) → has_proc set p ≡ true → has_proc set q ≡ true → step_at trace.steps (suc n) ≡ Some (record { proc = p; act = Receive true ids })
         → rounds_after trace.steps p n + 1 ≡ r → IsCompleteAt p n ids → HasHeardOf trace.steps p q (rounds_after trace.steps p n + 1) (suc n))
@@ -101,8 +104,9 @@ module _ (patience set : ℕ) (trace : Recorded) (g d f : ℕ) (keeps : KeepsBou
 
           -- it heard of p when it ended the round itself
           heard-then : (e : IsEndOf trace.steps q r) → suc e.place ≤ k
-              → ((k q : ℕ) (ids : List ℕ) → k < bound → suc k ≤ n → has_proc set q ≡ true → step_at trace.steps (suc k) ≡ Some (record { proc = q; act = Receive true ids }) → rounds_after trace.steps q k + 1 ≡ r + 4 → ⊥)
-              → HasHeardOf trace.steps q p r (suc e.place)
+              → ((k q : ℕ) (ids : List ℕ) → k < bound → suc k ≤ n → has_proc set q ≡ true
+              → step_at trace.steps (suc k) ≡ Some (record { proc = q; act = Receive true ids })
+              → rounds_after trace.steps q k + 1 ≡ r + 4 → ⊥) → HasHeardOf trace.steps q p r (suc e.place)
           heard-then e early before = why (why-ends c patience trace.steps q keeps.run.well_formed e.place e.ids true e.step (keeps.paced q mq) refl)
             where
               ended : rounds_after trace.steps q e.place + 1 ≡ r
@@ -125,7 +129,9 @@ module _ (patience set : ℕ) (trace : Recorded) (g d f : ℕ) (keeps : KeepsBou
                       let inside = end.1 in
                       absurd (before end.0.place ahead.proc end.0.ids (omega arith) (omega arith) member end.0.step end.0.round_is)
 
-          go : ((k q : ℕ) (ids : List ℕ) → k < bound → suc k ≤ n → has_proc set q ≡ true → step_at trace.steps (suc k) ≡ Some (record { proc = q; act = Receive true ids }) → rounds_after trace.steps q k + 1 ≡ r + 4 → ⊥)
+          go : ((k q : ℕ) (ids : List ℕ) → k < bound → suc k ≤ n → has_proc set q ≡ true
+              → step_at trace.steps (suc k) ≡ Some (record { proc = q; act = Receive true ids })
+              → rounds_after trace.steps q k + 1 ≡ r + 4 → ⊥)
               → Why c patience trace.steps q keeps.run.well_formed k ids true there (keeps.paced q mq) → ⊥
           go before (Complete done) =
               let e = end-of c patience trace.steps q r k (omega arith) (omega arith) in
@@ -170,8 +176,10 @@ module _ (patience set : ℕ) (trace : Recorded) (g d f : ℕ) (keeps : KeepsBou
                   absurd (nobody-ended p n (Receive true ids) mp at e (suc end.0.place) end.0.place ahead.proc end.0.ids (omega arith) (omega arith) member end.0.step end.0.round_is)
 
 -- A round that all hear out brings them together, from when the first has ended it.
-pub meet-once : (patience set : ℕ) (trace : Recorded) (g d f : ℕ) → KeepsBounds patience set trace g d f → TakeInOrder set trace → (base x0 r : ℕ) → AreInTouch patience set trace g base x0 → base ≤ r → part_of r ≡ 4
-    → IsHeardOutByAll set trace r → (end : FirstEnd set trace.steps r) → x0 ≤ tick_of trace (suc end.place) → MeetOnce patience set trace g (r + 1) (tick_of trace (suc end.place))
+pub meet-once : (patience set : ℕ) (trace : Recorded) (g d f : ℕ) → KeepsBounds patience set trace g d f
+    → TakeInOrder set trace → (base x0 r : ℕ) → AreInTouch patience set trace g base x0 → base ≤ r → part_of r ≡ 4
+    → IsHeardOutByAll set trace r → (end : FirstEnd set trace.steps r) → x0 ≤ tick_of trace (suc end.place)
+    → MeetOnce patience set trace g (r + 1) (tick_of trace (suc end.place))
 meet-once patience set trace g d f keeps order base x0 r touch up part heard end late = record {
   later = omega arith;
   part = omega arith;

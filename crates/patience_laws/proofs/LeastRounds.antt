@@ -1,7 +1,13 @@
 -- By which tick the least round of the members is over.
-use Rattle.std.proofs.Common.{ℕ, suc, ◌≡◌, ◌+◌, ◌-◌, ◌*◌, ◌<◌, ◌≤◌, inl, inr, List, length, Option, Some, None, is_some, Bool, true, false, ◌==◌, ◌&&◌, ◌||◌, not, refl, sym, ap, subst, ◌∙◌, arith, eq-eqb}
+use Rattle.std.proofs.Common.{ℕ, suc, ◌≡◌, ◌+◌, ◌-◌, ◌*◌, ◌<◌, ◌≤◌, inl, inr, List, length, Option, Some, None, is_some}
+use Rattle.std.proofs.Common.{Bool, true, false, ◌==◌, ◌&&◌, ◌||◌, not, refl, sym, ap, subst, ◌∙◌, arith, eq-eqb}
 use Rattle.std.proofs.lemmas.Bool.{true≢false, eqb-true, and_parts}
-use Rattle.patience_laws.proofs.Common.{Receive, Step, Setup, IsProc, has_proc, Recorded, Body, with_proper, State, part_of, owner, phase_of, Part, Listing, Locking, Acknowledging, part_at, locking-keeps, part_at-listing, part_at-locking, part_at-acknowledging, list-sent, lock-sent, acknowledgement-sent, locks-sent, member-positive, passed-before, may_hear_in, IsInRoundFrom, sends_to, may_hear_of, KeepsBounds, AreInTouch, AreInRoundFrom, node_in, OweAcknowledgements}
+use Rattle.patience_laws.proofs.Common.{Receive, Step, Setup, IsProc, has_proc, Recorded, Body, with_proper, State}
+use Rattle.patience_laws.proofs.Common.{part_of, owner, phase_of, Part, Listing, Locking, Acknowledging, part_at}
+use Rattle.patience_laws.proofs.Common.{locking-keeps, part_at-listing, part_at-locking, part_at-acknowledging}
+use Rattle.patience_laws.proofs.Common.{list-sent, lock-sent, acknowledgement-sent, locks-sent, member-positive}
+use Rattle.patience_laws.proofs.Common.{passed-before, may_hear_in, IsInRoundFrom, sends_to, may_hear_of, KeepsBounds}
+use Rattle.patience_laws.proofs.Common.{AreInTouch, AreInRoundFrom, node_in, OweAcknowledgements}
 use Rattle.lock_phases.specs.declared.bodies.Kind.TheVariants.{List as Listed, Lock, Ack, Locks}
 use Rattle.lock_phases.specs.NodeFunctions.{out, next, values_to_list}
 use Rattle.round_model.specs.RoundStates.{state_after, messages_heard}
@@ -87,7 +93,9 @@ module _ (patience set : ℕ) (trace : Recorded) (g d f : ℕ) (keeps : KeepsBou
           let own : p ≡ owner c.n (phase_of round) = eqb-true p (owner c.n (phase_of round)) (sym (may-in Listing c trace.steps p round q (part_at-listing round part)) ∙ may) in
           let e = times-more 0 f in
           let s = says 0 p q (with_proper (node_in c trace.steps q round) (Listed (values_to_list (node_in c trace.steps q round)))) mq (proc p m) (few-one c trace.steps q round (inl part))
-          (subst (λ to. out c (node_in c trace.steps q round) q round to ≡ Some (with_proper (node_in c trace.steps q round) (Listed (values_to_list (node_in c trace.steps q round))))) (sym own) (list-sent c (node_in c trace.steps q round) q round part)) (omega arith) in
+          (subst (λ to. out c (node_in c trace.steps q round) q round to ≡ Some
+          (with_proper (node_in c trace.steps q round) (Listed (values_to_list (node_in c trace.steps q round)))))
+          (sym own) (list-sent c (node_in c trace.steps q round) q round part)) (omega arith) in
           record { message = s.message; sent = s.sent; later = s.later; by = omega (arith, s.by) }
 
   -- a lock-release round: each sends its locks to all
@@ -128,7 +136,9 @@ module _ (patience set : ℕ) (trace : Recorded) (g d f : ℕ) (keeps : KeepsBou
           let owes = owe v.0 (subst (λ o. has_proc set o ≡ true) own m) (subst (λ o. (node_in c trace.steps o round).proposal ≡ Some v.0) own v.1) q mq (came q mq last) in
           let e = times-more 0 f in
           let s = says 0 p q (with_proper (node_in c trace.steps q round) Ack) mq (proc p m) (few-one c trace.steps q round (inr part))
-          (subst (λ to. out c (node_in c trace.steps q round) q round to ≡ Some (with_proper (node_in c trace.steps q round) Ack)) (sym own) (acknowledgement-sent c (node_in c trace.steps q round) q round part owes)) (omega arith) in
+          (subst (λ to. out c (node_in c trace.steps q round) q round to ≡ Some
+          (with_proper (node_in c trace.steps q round) Ack)) (sym own)
+          (acknowledgement-sent c (node_in c trace.steps q round) q round part owes)) (omega arith) in
           record { message = s.message; sent = s.sent; later = s.later; by = omega (arith, s.by) }
 
   -- an owner without a proposal waits for nobody, until it sends its locks
@@ -182,7 +192,9 @@ module _ (patience set : ℕ) (trace : Recorded) (g d f : ℕ) (keeps : KeepsBou
           let l = low_n in
           let few = few-all c trace.steps o round in
           let s = says (c.n - 1) p o (with_proper (node_in c trace.steps o round) (Lock v)) mo (proc p m) (omega arith)
-          (subst (λ j. out c (node_in c trace.steps o round) j round p ≡ Some (with_proper (node_in c trace.steps o round) (Lock v))) (sym own) (lock-sent c (node_in c trace.steps o round) round p v part e)) (omega arith) in
+          (subst (λ j. out c (node_in c trace.steps o round) j round p ≡ Some
+          (with_proper (node_in c trace.steps o round) (Lock v))) (sym own)
+          (lock-sent c (node_in c trace.steps o round) round p v part e)) (omega arith) in
           record { message = s.message; sent = s.sent; later = s.later; by = omega (arith, s.by) }
       of o mo own last None e =
           let times = product in
@@ -199,7 +211,9 @@ module _ (patience set : ℕ) (trace : Recorded) (g d f : ℕ) (keeps : KeepsBou
 
       told : AreTold p (x + 3 * f + c.n * f)
       told q mq may last =
-          let parts = and_parts (q == owner c.n (phase_of round)) (not (p == owner c.n (phase_of round)) || is_some (node_in c trace.steps p round).proposal) (sym (may-in Locking c trace.steps p round q (part_at-locking round part)) ∙ may) in
+          let parts = and_parts (q == owner c.n (phase_of round))
+          (not (p == owner c.n (phase_of round)) || is_some (node_in c trace.steps p round).proposal)
+          (sym (may-in Locking c trace.steps p round q (part_at-locking round part)) ∙ may) in
           of q mq (eqb-true q (owner c.n (phase_of round)) parts.0) last (node_in c trace.steps q round).proposal refl
 
 -- what is in touch stays so

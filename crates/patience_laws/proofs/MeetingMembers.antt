@@ -1,7 +1,11 @@
 -- Members that need one another meet.
 use Rattle.std.proofs.Common.{ℕ, suc, ◌≡◌, ◌+◌, ◌-◌, ◌*◌, ◌%◌, ◌<◌, ◌≤◌, inl, inr, List, take, Some, true, false, sym, ap, subst, ◌∙◌, arith}
 use Rattle.std.proofs.lemmas.Bool.{cases_lt}
-use Rattle.patience_laws.proofs.Common.{Receive, Setup, IsProc, has_proc, Recorded, step_at, tick_of, ticks_rise, part_of, owner, phase_of, part_at-releasing, member-positive, node_before, may_hear_in, may_hear_all_in, HasHeardOf, heard_ids, is_complete, KeepsBounds, AreInTouch, AreInRoundFrom, IsHeardOutByAll, TakeInOrder, ComesTo, AreAlone, HearThemselves, NeedAll, longest_round, met_round, met_tick, HaveMet}
+use Rattle.patience_laws.proofs.Common.{Receive, Setup, IsProc, has_proc, Recorded, step_at, tick_of, ticks_rise}
+use Rattle.patience_laws.proofs.Common.{part_of, owner, phase_of, part_at-releasing, member-positive, node_before}
+use Rattle.patience_laws.proofs.Common.{may_hear_in, may_hear_all_in, HasHeardOf, heard_ids, is_complete, KeepsBounds}
+use Rattle.patience_laws.proofs.Common.{AreInTouch, AreInRoundFrom, IsHeardOutByAll, TakeInOrder, ComesTo, AreAlone}
+use Rattle.patience_laws.proofs.Common.{HearThemselves, NeedAll, longest_round, met_round, met_tick, HaveMet}
 use Rattle.patience_laws.specs.PacedRuns.{pace_after}
 use Rattle.patience_laws.proofs.PacedSteps.{rounds_after, round-here}
 use Rattle.patience_laws.proofs.UnheardSuspects.{suspect-unheard}
@@ -110,7 +114,10 @@ module _ (patience set : ℕ) (trace : Recorded) (g d f : ℕ) (keeps : KeepsBou
                     since = tick_of trace (suc end.place);
                     met = meet-once patience set trace g d f keeps order base x0 r touch (omega arith) part heard end late;
                     in_time = omega arith;
-                    before = let l = own-early in let rise = rises one (suc own.place) own.ids own.step (end.first one (suc own.place) own.ids mo own.step (round-here trace.steps one own.place ∙ own.round_is)) in omega arith;
+                    before = let l = own-early in let rise =
+                        rises one (suc own.place) own.ids own.step
+                        (end.first one (suc own.place) own.ids mo own.step
+                        (round-here trace.steps one own.place ∙ own.round_is)) in omega arith;
                   }
                     where
                       late : x0 ≤ tick_of trace (suc end.place)
@@ -119,7 +126,9 @@ module _ (patience set : ℕ) (trace : Recorded) (g d f : ℕ) (keeps : KeepsBou
                           since patience set trace g d f keeps base x0 touch (omega arith) r x0 (omega arith) (omega arith) from
                           end.proc end.place (Receive true end.ids) end.member end.step (omega arith)
 
-                      rises : (p k : ℕ) (ids : List ℕ) → step_at trace.steps k ≡ Some (record { proc = p; act = Receive true ids }) → suc end.place ≤ k → tick_of trace (suc end.place) ≤ tick_of trace k
+                      rises : (p k : ℕ) (ids : List ℕ)
+                          → step_at trace.steps k ≡ Some (record { proc = p; act = Receive true ids })
+                          → suc end.place ≤ k → tick_of trace (suc end.place) ≤ tick_of trace k
                       rises p k ids at l = ticks_rise trace keeps.trace_is.time (suc end.place) k (record { proc = end.proc; act = Receive true end.ids }) (record { proc = p; act = Receive true ids }) end.step at l
 
                       own-early : tick_of trace (suc own.place) < met_tick c patience g f least most

@@ -1,7 +1,11 @@
 -- Members within a phase of one another that suspect none of their own hear out the next lock-release round.
 use Rattle.std.proofs.Common.{ℕ, zero, suc, ◌≡◌, ◌+◌, ◌-◌, ◌*◌, ◌<◌, ◌≤◌, inl, inr, List, Some, true, sym, ap, subst, ◌∙◌, arith}
 use Rattle.std.proofs.lemmas.Bool.{cases_lt}
-use Rattle.patience_laws.proofs.Common.{Receive, Setup, IsProc, has_proc, Recorded, step_at, part_of, owner, phase_of, part_at-releasing, member-positive, round_at, node_before, may_hear, may_hear_in, HasHeardOf, peer_after, Suspects, WasSilent, KeepsBounds, AreInTouch, AreInRoundFrom, IsHeardOutByAll, TakeInOrder, HearThemselves, HaveMet, NoneBefore, SuspectNoneIn, ticks_rise, tick_of}
+use Rattle.patience_laws.proofs.Common.{Receive, Setup, IsProc, has_proc, Recorded, step_at, part_of, owner, phase_of}
+use Rattle.patience_laws.proofs.Common.{part_at-releasing, member-positive, round_at, node_before, may_hear}
+use Rattle.patience_laws.proofs.Common.{may_hear_in, HasHeardOf, peer_after, Suspects, WasSilent, KeepsBounds}
+use Rattle.patience_laws.proofs.Common.{AreInTouch, AreInRoundFrom, IsHeardOutByAll, TakeInOrder, HearThemselves}
+use Rattle.patience_laws.proofs.Common.{HaveMet, NoneBefore, SuspectNoneIn, ticks_rise, tick_of}
 use Rattle.patience_laws.proofs.PacedSteps.{rounds_after, round-here}
 use Rattle.patience_laws.proofs.KnownRounds.{rounds-up, heard-weaker}
 use Rattle.patience_laws.proofs.SilentPhases.{suspected-silent, silent-suspected}
@@ -37,7 +41,8 @@ module _ (patience set : ℕ) (trace : Recorded) (g d f : ℕ) (keeps : KeepsBou
       (λ y. loud p q (suc n) mp mq (record { ids = ids; ends = true; step = at }) (round-here trace.steps p n ∙ is) (subst (λ m. (peer_after c patience trace.steps p q m).suspected ≡ true) (sym e) y))
 
   -- who heard of another in the round doesn't suspect it in the next phase
-  trusts : (p q n : ℕ) → has_proc set p ≡ true → has_proc set q ≡ true → rounds_after trace.steps p n + 1 ≡ r + 4 → (e : IsEndOf trace.steps p r) → suc e.place ≤ n → HasHeardOf trace.steps p q r (suc e.place)
+  trusts : (p q n : ℕ) → has_proc set p ≡ true → has_proc set q ≡ true → rounds_after trace.steps p n + 1 ≡ r + 4
+      → (e : IsEndOf trace.steps p r) → suc e.place ≤ n → HasHeardOf trace.steps p q r (suc e.place)
       → Suspects c patience trace.steps p q n → ⊥
   trusts p q n mp mq is e early h suspects = go (suspected-silent c patience trace.steps p q keeps.run.well_formed (proc q mq) n suspects)
     where
@@ -108,7 +113,9 @@ module _ (patience set : ℕ) (trace : Recorded) (g d f : ℕ) (keeps : KeepsBou
             in_time = omega arith;
             before =
                 let l = early in
-                let rise = ticks_rise trace keeps.trace_is.time (suc end.place) (suc own.place) (record { proc = end.proc; act = Receive true end.ids }) (record { proc = one; act = Receive true own.ids }) end.step own.step
+                let rise = ticks_rise trace keeps.trace_is.time (suc end.place) (suc own.place)
+                (record { proc = end.proc; act = Receive true end.ids })
+                (record { proc = one; act = Receive true own.ids }) end.step own.step
                 (end.first one (suc own.place) own.ids mo own.step (round-here trace.steps one own.place ∙ own.round_is)) in
                 omega arith;
           }

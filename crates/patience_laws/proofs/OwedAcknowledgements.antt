@@ -2,7 +2,12 @@
 use Rattle.std.proofs.Common.{ℕ, zero, suc, ◌≡◌, ◌+◌, ◌-◌, ◌≤◌, inl, inr, List, length, Some, is_some, Bool, true, false, ◌==◌, ◌&&◌, ◌||◌, not, refl, sym, ap, subst, ◌∙◌, arith, eq-eqb}
 use Rattle.std.proofs.lemmas.Bool.{cases_lt, cases_eq, eqb-true, true≢false}
 use Rattle.std.proofs.lemmas.Option.{none-some, same_Some}
-use Rattle.patience_laws.proofs.Common.{act_sends, Step, HearThemselves, Send, Receive, Setup, IsProc, has_proc, Recorded, step_at, step_at_within, Body, Lock, with_proper, IsToldToLock, State, part_of, owner, phase_of, Locking, locking-told, part_at-locking, lock-sent, messages_heard-has, IsRun, IsSend, sent_before, heard_table-from_heard, HasHeardOf, IsTakenAt, may_hear_of, sends_to, node_in, OweAcknowledgements, IsHeardOutByAll, TakeInOrder}
+use Rattle.patience_laws.proofs.Common.{act_sends, Step, HearThemselves, Send, Receive, Setup, IsProc, has_proc}
+use Rattle.patience_laws.proofs.Common.{Recorded, step_at, step_at_within, Body, Lock, with_proper, IsToldToLock, State}
+use Rattle.patience_laws.proofs.Common.{part_of, owner, phase_of, Locking, locking-told, part_at-locking, lock-sent}
+use Rattle.patience_laws.proofs.Common.{messages_heard-has, IsRun, IsSend, sent_before, heard_table-from_heard}
+use Rattle.patience_laws.proofs.Common.{HasHeardOf, IsTakenAt, may_hear_of, sends_to, node_in, OweAcknowledgements}
+use Rattle.patience_laws.proofs.Common.{IsHeardOutByAll, TakeInOrder}
 use Rattle.std.proofs.Math.Seq.{take-length}
 use Rattle.round_model.specs.RoundStates.{state_after, messages_heard}
 use Rattle.round_model.proofs.SendersHeard.{messages_heard-rise}

@@ -2,7 +2,9 @@
 use Rattle.std.proofs.Common.{ℕ, zero, suc, ◌≡◌, ◌+◌, ◌-◌, ◌*◌, ◌<◌, ◌≤◌, List, take, length, Some, Bool, true, false, cond, refl, sym, ap, subst, ◌∙◌, arith, inl, inr}
 use Rattle.std.proofs.lemmas.Bool.{cases_lt, true≢false}
 use Rattle.std.proofs.lemmas.Option.{none-some, same_Some}
-use Rattle.patience_laws.proofs.Common.{Receive, Step, Setup, has_proc, Recorded, step_at, IsStepOf, tick_of, IsTimed, PhiHolds, round_at, act_ends, receiving, IsRun, sent_before, Paced, heard_ids, after_receive, IsInRoundFrom, EachEnds, sends_to}
+use Rattle.patience_laws.proofs.Common.{Receive, Step, Setup, has_proc, Recorded, step_at, IsStepOf, tick_of, IsTimed}
+use Rattle.patience_laws.proofs.Common.{PhiHolds, round_at, act_ends, receiving, IsRun, sent_before, Paced, heard_ids}
+use Rattle.patience_laws.proofs.Common.{after_receive, IsInRoundFrom, EachEnds, sends_to}
 use Rattle.patience_laws.specs.PacedRuns.{pace_after, StepsByPace}
 use Rattle.patience_laws.proofs.PacedSteps.{rounds_after, round-here, step-cases}
 use Rattle.patience_laws.proofs.KnownRounds.{rounds-step, rounds-up}
@@ -75,8 +77,9 @@ module _ (trace : Recorded) (patience set g f p : ℕ) (run : IsRun trace.config
 
   module _ (round x : ℕ) (since : g ≤ x) (there : IsInRoundFrom trace p round x) (most : ℕ) (few : length (sends_to trace.config trace.steps p round) ≤ most) where
     -- a Receive that ends no round uses the patience up
-    uses : (j k : ℕ) (ids : List ℕ) (ends : Bool) → step_at trace.steps j ≡ Some (record { proc = p; act = Receive ends ids }) → round_at trace.steps p j ≡ round → j < k → round_at trace.steps p k ≡ round
-        → remains (k - 1) + 1 ≤ remains (j - 1)
+    uses : (j k : ℕ) (ids : List ℕ) (ends : Bool)
+        → step_at trace.steps j ≡ Some (record { proc = p; act = Receive ends ids }) → round_at trace.steps p j ≡ round
+        → j < k → round_at trace.steps p k ≡ round → remains (k - 1) + 1 ≤ remains (j - 1)
     uses zero k ids ends at here l there_too = absurd (none-some _ at)
     uses (suc j) k ids ends at here l there_too = of ends refl
       where

@@ -5,7 +5,10 @@ use Rattle.std.specs.List.{range_with_len}
 use Rattle.std.proofs.lemmas.Bool.{cases_lt, cases_eq, true≢false, eq-eqb}
 use Rattle.std.proofs.lemmas.Option.{slice_get-get_or, none-some}
 use Rattle.std.proofs.lemmas.List.Sums.{sum_by-cons, length-filter}
-use Rattle.patience_laws.proofs.Common.{Act, Send, Receive, Step, Setup, IsProc, has_proc, Recorded, step_at, tick_of, IsTimed, PhiHolds, Contains-filter, ticks_rise, Body, part_of, owner, phase_of, Locking, out-in, part_at-locking, processors, Contains-processors, All-range_with_len, round_at, StepsByPace, IsInRoundFrom, sends_to, node_in}
+use Rattle.patience_laws.proofs.Common.{Act, Send, Receive, Step, Setup, IsProc, has_proc, Recorded, step_at, tick_of}
+use Rattle.patience_laws.proofs.Common.{IsTimed, PhiHolds, Contains-filter, ticks_rise, Body, part_of, owner, phase_of}
+use Rattle.patience_laws.proofs.Common.{Locking, out-in, part_at-locking, processors, Contains-processors}
+use Rattle.patience_laws.proofs.Common.{All-range_with_len, round_at, StepsByPace, IsInRoundFrom, sends_to, node_in}
 use Rattle.lock_phases.specs.NodeFunctions.{out}
 use Rattle.step_buffers.specs.Runs.{IsRun, IsSend, next_destination, sent_before}
 use Rattle.step_buffers.proofs.NextSends.{sent-to_owner}

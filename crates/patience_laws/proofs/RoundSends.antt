@@ -4,7 +4,10 @@ use Rattle.std.specs.Prelude.{slice_get, count_by, get_or}
 use Rattle.std.specs.List.{range_with_len}
 use Rattle.std.proofs.lemmas.Bool.{cases_lt}
 use Rattle.std.proofs.lemmas.Option.{slice_get-get_or, slice_get_past, none-some}
-use Rattle.patience_laws.proofs.Common.{Act, Send, Receive, Step, Setup, has_proc, Recorded, step_at, IsStepOf, tick_of, IsTimed, PhiHolds, number_below, passed, before, round_at, is_sent_in, count_by-more, is_sent_in-from_send, round_at-ended, StepsByPace, IsInRoundFrom, sends_to, EachEnds}
+use Rattle.patience_laws.proofs.Common.{Act, Send, Receive, Step, Setup, has_proc, Recorded, step_at, IsStepOf, tick_of}
+use Rattle.patience_laws.proofs.Common.{IsTimed, PhiHolds, number_below, passed, before, round_at, is_sent_in}
+use Rattle.patience_laws.proofs.Common.{count_by-more, is_sent_in-from_send, round_at-ended, StepsByPace, IsInRoundFrom}
+use Rattle.patience_laws.proofs.Common.{sends_to, EachEnds}
 use Rattle.step_buffers.specs.Runs.{IsRun, next_destination, sent_before}
 use Rattle.patience_laws.proofs.PacedSteps.{rounds_after, step-cases}
 use Rattle.patience_laws.proofs.KnownRounds.{rounds-up}
@@ -98,7 +101,8 @@ module _ (trace : Recorded) (patience set g f p : ℕ) (run : IsRun trace.config
 
   module _ (round x : ℕ) (since : g ≤ x) (there : IsInRoundFrom trace p round x) where
     -- a step between is in the round
-    pub same-round : (j k : ℕ) (act : Act) → step_at trace.steps j ≡ Some (record { proc = p; act = act }) → x ≤ tick_of trace j → j ≤ k → round_at trace.steps p k ≡ round → round_at trace.steps p j ≡ round
+    pub same-round : (j k : ℕ) (act : Act) → step_at trace.steps j ≡ Some (record { proc = p; act = act })
+        → x ≤ tick_of trace j → j ≤ k → round_at trace.steps p k ≡ round → round_at trace.steps p j ≡ round
     same-round j k act at from l here =
         omega (arith, round_at-up trace.config patience trace.steps p j k l, there j (act, at) from)
 

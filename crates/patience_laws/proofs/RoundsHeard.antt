@@ -3,7 +3,11 @@ use Rattle.std.proofs.Common.{ℕ, zero, suc, ◌≡◌, ◌+◌, ◌-◌, ◌*�
 use Rattle.std.specs.Prelude.{Contains}
 use Rattle.std.proofs.lemmas.Bool.{cases_lt}
 use Rattle.std.proofs.lemmas.Option.{none-some, same_Some}
-use Rattle.patience_laws.proofs.Common.{Act, Send, Receive, Step, IsProc, act_ids, act_dest, has_proc, IsWithin, Recorded, step_at, IsReceiveOf, tick_of, IsTimed, IsTrace, DeltaHolds, PhiHolds, own_ticks_rise, passed, before, IsRun, IsSend, node_before, may_hear, HasHeardOf, IsTakenAt, IsTakenBefore, StepsByPace, IsInRoundFrom, sends_to, EachEnds, HasHeardFrom, HearsMembers, may_hear_of}
+use Rattle.patience_laws.proofs.Common.{Act, Send, Receive, Step, IsProc, act_ids, act_dest, has_proc, IsWithin}
+use Rattle.patience_laws.proofs.Common.{Recorded, step_at, IsReceiveOf, tick_of, IsTimed, IsTrace, DeltaHolds, PhiHolds}
+use Rattle.patience_laws.proofs.Common.{own_ticks_rise, passed, before, IsRun, IsSend, node_before, may_hear}
+use Rattle.patience_laws.proofs.Common.{HasHeardOf, IsTakenAt, IsTakenBefore, StepsByPace, IsInRoundFrom, sends_to}
+use Rattle.patience_laws.proofs.Common.{EachEnds, HasHeardFrom, HearsMembers, may_hear_of}
 use Rattle.lock_phases.specs.Hearing.{number_of}
 use Rattle.patience_laws.proofs.PacedSteps.{rounds_after, round-here}
 use Rattle.patience_laws.proofs.RoundSends.{round-ends, round-grows}

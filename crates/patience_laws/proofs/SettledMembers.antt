@@ -2,7 +2,9 @@
 use Rattle.std.proofs.Common.{ℕ, zero, suc, ◌≡◌, ◌+◌, ◌-◌, ◌<◌, ◌≤◌, inl, inr, Some, true, false, refl, ◌∙◌, arith}
 use Rattle.std.proofs.lemmas.Bool.{cases_lt}
 use Rattle.std.proofs.lemmas.Option.{none-some}
-use Rattle.patience_laws.proofs.Common.{Act, Send, Receive, IsProc, has_proc, Recorded, step_at, IsReceiveOf, tick_of, own_ticks_rise, part_of, round_at, HasHeardOf, Suspects, WasSilent, KeepsBounds, AreInTouch, AreInRoundFrom, AreAlone}
+use Rattle.patience_laws.proofs.Common.{Act, Send, Receive, IsProc, has_proc, Recorded, step_at, IsReceiveOf, tick_of}
+use Rattle.patience_laws.proofs.Common.{own_ticks_rise, part_of, round_at, HasHeardOf, Suspects, WasSilent, KeepsBounds}
+use Rattle.patience_laws.proofs.Common.{AreInTouch, AreInRoundFrom, AreAlone}
 use Rattle.patience_laws.proofs.PacedSteps.{rounds_after, round-here, step-cases}
 use Rattle.patience_laws.proofs.KnownRounds.{rounds-step}
 use Rattle.patience_laws.proofs.RoundSends.{round-grows}
@@ -55,7 +57,8 @@ module _ (patience set : ℕ) (trace : Recorded) (g d f : ℕ) (keeps : KeepsBou
         | inr l ↦ l
       ]
 
-      silent : (p q : ℕ) → has_proc set p ≡ true → IsProc trace.config q → has_proc set q ≡ false → (k : ℕ) → IsReceiveOf trace.steps k p → x ≤ tick_of trace k → Suspects trace.config patience trace.steps p q k
+      silent : (p q : ℕ) → has_proc set p ≡ true → IsProc trace.config q → has_proc set q ≡ false → (k : ℕ)
+          → IsReceiveOf trace.steps k p → x ≤ tick_of trace k → Suspects trace.config patience trace.steps p q k
       silent p q mp is other zero receive by = absurd (none-some _ receive.step)
       silent p q mp is other (suc k) receive by =
           let low = there p mp (suc k) (Receive receive.ends receive.ids, receive.step) by in

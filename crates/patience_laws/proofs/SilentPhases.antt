@@ -4,7 +4,9 @@ use Rattle.std.specs.Prelude.{nat_lt}
 use Rattle.std.proofs.lemmas.Bool.{cases_lt, cases_eq, true≢false, eqb-true, eqb-false, and_parts, lt-ltb, ltb-true}
 use Rattle.std.proofs.lemmas.Option.{same_Some}
 use Rattle.std.proofs.lemmas.List.{get_or-replicate}
-use Rattle.patience_laws.proofs.Common.{Receive, Step, Setup, IsProc, IsWellFormed, step_at, step_at_within, part_of, round_at, act_ends, Peer, after_phase, unheard, Suspects, TakesOf, TakesNothingOf, WasSilent}
+use Rattle.patience_laws.proofs.Common.{Receive, Step, Setup, IsProc, IsWellFormed, step_at, step_at_within, part_of}
+use Rattle.patience_laws.proofs.Common.{round_at, act_ends, Peer, after_phase, unheard, Suspects, TakesOf}
+use Rattle.patience_laws.proofs.Common.{TakesNothingOf, WasSilent}
 use Rattle.patience_laws.specs.PacedRuns.{pace_after, peer_after}
 use Rattle.patience_laws.proofs.PacedSteps.{rounds_after, round-here}
 use Rattle.patience_laws.proofs.HeardPeers.{IsDeaf, IsListening, peer_received, IsStillOf, IsReceivedOf, peer-cases}
@@ -98,7 +100,8 @@ module _ (c : Setup) (patience : ℕ) (steps : List Step) (p q : ℕ) (w : IsWel
   spoken zero = subst (IsSpoken zero) (sym (opening-spoke c patience steps p q is)) (λ m from by t. let a = (step_at_within steps m _ t.take.step).0 in omega arith)
   spoken (suc k) = go (spoken k) (peer-cases c patience steps p q w is k)
     where
-      go : IsSpoken k (peer_after c patience steps p q k).spoke → IsStillOf c patience steps p q k ⊎ IsReceivedOf c patience steps p q k → IsSpoken (suc k) (peer_after c patience steps p q (suc k)).spoke
+      go : IsSpoken k (peer_after c patience steps p q k).spoke → IsStillOf c patience steps p q k
+          ⊎ IsReceivedOf c patience steps p q k → IsSpoken (suc k) (peer_after c patience steps p q (suc k)).spoke
       go before (inl s) =
           subst (IsSpoken (suc k)) (sym (ap (λ (x : Peer). x.spoke) s.same))
           (spoken-still k (peer_after c patience steps p q k).spoke s.round s.none before)
@@ -136,7 +139,9 @@ module _ (c : Setup) (patience : ℕ) (steps : List Step) (p q : ℕ) (w : IsWel
   suspected-silent zero s = absurd (true≢false (sym s ∙ opening-suspected c patience steps p q is))
   suspected-silent (suc k) s = go (suspected-silent k) (spoken k) (peer-cases c patience steps p q w is k)
     where
-      go : (Suspects c patience steps p q k → WasSilent steps p q k) → IsSpoken k (peer_after c patience steps p q k).spoke → IsStillOf c patience steps p q k ⊎ IsReceivedOf c patience steps p q k → WasSilent steps p q (suc k)
+      go : (Suspects c patience steps p q k → WasSilent steps p q k)
+          → IsSpoken k (peer_after c patience steps p q k).spoke
+          → IsStillOf c patience steps p q k ⊎ IsReceivedOf c patience steps p q k → WasSilent steps p q (suc k)
       go before spoke (inl x) = silent-longer k x.none (before (sym (ap (λ (y : Peer). y.suspected) x.same) ∙ s))
       go before spoke (inr x) = elim (part-cases x.ends (rounds_after steps p k) x.mid) [
         | inl part ↦ kept x.heard (sym (ap (λ (y : Peer). y.suspected) (x.new ∙ part.1)) ∙ s)
@@ -204,7 +209,9 @@ module _ (c : Setup) (patience : ℕ) (steps : List Step) (p q : ℕ) (w : IsWel
         | inr part ↦ ap (λ (y : Peer). y.suspected) (x.new ∙ part.2) ∙ rw e refl
       ]
 
-      go : (WasSilent steps p q k → Suspects c patience steps p q k) → (s.place < suc k) ⊎ (suc k ≤ s.place) → IsStillOf c patience steps p q k ⊎ IsReceivedOf c patience steps p q k → Suspects c patience steps p q (suc k)
+      go : (WasSilent steps p q k → Suspects c patience steps p q k) → (s.place < suc k) ⊎ (suc k ≤ s.place)
+          → IsStillOf c patience steps p q k ⊎ IsReceivedOf c patience steps p q k
+          → Suspects c patience steps p q (suc k)
       go before (inl l) (inl x) = ap (λ (y : Peer). y.suspected) x.same ∙ before (earlier l)
       go before (inl l) (inr x) = elim x.heard [
         | inl deaf ↦ stays x (ap (λ (y : Peer). y.suspected) deaf.same ∙ before (earlier l))
@@ -222,8 +229,10 @@ module _ (c : Setup) (patience : ℕ) (steps : List Step) (p q : ℕ) (w : IsWel
           let three = part-three (rounds_after steps p k) (sym (ap part_of round) ∙ s.last) in
           of ends round three e (part-cases x.ends (rounds_after steps p k) x.mid) x.heard
         where
-          of : x.ends ≡ true → s.round ≡ rounds_after steps p k + 1 → rounds_after steps p k % 4 ≡ 3 → s.place ≡ suc k → IsPart x.ends (rounds_after steps p k) x.mid (peer_received x.ends (rounds_after steps p k + 1) x.mid)
-              → IsDeaf steps p q k (peer_after c patience steps p q k) x.mid ⊎ IsListening steps p q k (peer_after c patience steps p q k) x.mid → Suspects c patience steps p q (suc k)
+          of : x.ends ≡ true → s.round ≡ rounds_after steps p k + 1 → rounds_after steps p k % 4 ≡ 3 → s.place ≡ suc k
+              → IsPart x.ends (rounds_after steps p k) x.mid (peer_received x.ends (rounds_after steps p k + 1) x.mid)
+              → IsDeaf steps p q k (peer_after c patience steps p q k) x.mid ⊎ IsListening steps p q k
+              (peer_after c patience steps p q k) x.mid → Suspects c patience steps p q (suc k)
           of ends round three e part (inr listening) = absurd (none listening.one)
           of ends round three e (inl part) (inl deaf) = absurd (true≢false (sym (rw (ends, eq-eqb (part_of (rounds_after steps p k + 1)) 4 (part-four (rounds_after steps p k) three)) refl) ∙ part.0))
           of ends round three e (inr part) (inl deaf) =

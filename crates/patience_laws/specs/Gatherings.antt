@@ -16,7 +16,8 @@ use Rattle.patience_laws.specs.Meetings.{ComesTo, MeetOnce}
 -- and each member is in round `least` or in a later one.
 pub record AreAlone (set : ℕ) (trace : Recorded) (g least most : ℕ) : Type 0 where
   pub early : (p k : ℕ) → IsStepOf trace.steps k p → tick_of trace k < g → round_at trace.steps p k ≤ most
-  pub quiet : (p q k : ℕ) → IsTrue (has_proc set p) → IsProc trace.config q → has_proc set q ≡ false → TakesOf trace.steps p q k → tick_of trace k < g
+  pub quiet : (p q k : ℕ) → IsTrue (has_proc set p) → IsProc trace.config q → has_proc set q ≡ false
+      → TakesOf trace.steps p q k → tick_of trace k < g
   pub there : AreInRoundFrom set trace least g
   pub low : 1 ≤ least
 
@@ -26,21 +27,25 @@ NoneBefore set trace round x = (p k : ℕ) → IsTrue (has_proc set p) → Comes
 
 -- by each of its Receives a member has taken what it sent to itself before
 abbrev pub HearThemselves : ℕ → Recorded → Type 0
-HearThemselves set trace = (p s k : ℕ) → IsTrue (has_proc set p) → IsSend trace.steps p p s → IsReceiveOf trace.steps k p → s < k → IsTakenBefore trace.steps p k s
+HearThemselves set trace = (p s k : ℕ) → IsTrue (has_proc set p) → IsSend trace.steps p p s
+    → IsReceiveOf trace.steps k p → s < k → IsTakenBefore trace.steps p k s
 
 -- when a member makes a Receive from tick x on, it suspects no member
 abbrev pub SuspectNone : ℕ → ℕ → Recorded → ℕ → Type 0
-SuspectNone patience set trace x = (p q k : ℕ) → IsTrue (has_proc set p) → IsTrue (has_proc set q) → IsReceiveOf trace.steps k p → x ≤ tick_of trace k
+SuspectNone patience set trace x = (p q k : ℕ) → IsTrue (has_proc set p) → IsTrue (has_proc set q)
+    → IsReceiveOf trace.steps k p → x ≤ tick_of trace k
     → ¬ Suspects trace.config patience trace.steps p q (k - 1)
 
 -- when a member makes a Receive in this round of its own, it suspects no member
 abbrev pub SuspectNoneIn : ℕ → ℕ → Recorded → ℕ → Type 0
-SuspectNoneIn patience set trace round = (p q k : ℕ) → IsTrue (has_proc set p) → IsTrue (has_proc set q) → IsReceiveOf trace.steps k p → round_at trace.steps p k ≡ round
+SuspectNoneIn patience set trace round = (p q k : ℕ) → IsTrue (has_proc set p) → IsTrue (has_proc set q)
+    → IsReceiveOf trace.steps k p → round_at trace.steps p k ≡ round
     → ¬ Suspects trace.config patience trace.steps p q (k - 1)
 
 -- No member goes on without another: the members are no more than N - t, or none suspects a member from tick x on.
 abbrev pub NeedAll : ℕ → ℕ → Recorded → ℕ → Type 0
-NeedAll patience set trace x = (number_of trace.config.n (has_proc set) ≤ trace.config.n - trace.config.t) ⊎ SuspectNone patience set trace x
+NeedAll patience set trace x = (number_of trace.config.n (has_proc set) ≤ trace.config.n - trace.config.t)
+    ⊎ SuspectNone patience set trace x
 
 -- in how many ticks a member passes a round, whatever it hears
 abbrev pub longest_round : Setup → ℕ → ℕ → ℕ

@@ -27,12 +27,15 @@ pub record KeepsBounds (patience set : ℕ) (trace : Recorded) (g d f : ℕ) : T
   pub delta : DeltaHolds set trace g d
   pub phi : PhiHolds set trace g f
 
--- From tick x on the members suspect all others; and what they send to one another in this round or in a later one comes
+-- From tick x on the members suspect all others; and what they send to one another in this round or in a later one
+-- comes
 -- under the bounds.
 pub record AreInTouch (patience set : ℕ) (trace : Recorded) (g round x : ℕ) : Type 0 where
   pub since : g ≤ x
-  pub fresh : (p q s : ℕ) → IsTrue (has_proc set p) → IsTrue (has_proc set q) → IsSend trace.steps q p s → round ≤ round_at trace.steps q s → g ≤ tick_of trace s
-  pub silent : (p q : ℕ) → IsTrue (has_proc set p) → IsProc trace.config q → has_proc set q ≡ false → SuspectsFrom patience trace p q x
+  pub fresh : (p q s : ℕ) → IsTrue (has_proc set p) → IsTrue (has_proc set q) → IsSend trace.steps q p s
+      → round ≤ round_at trace.steps q s → g ≤ tick_of trace s
+  pub silent : (p q : ℕ) → IsTrue (has_proc set p) → IsProc trace.config q → has_proc set q ≡ false
+      → SuspectsFrom patience trace p q x
 
 -- from tick x on, each member is in this round or in a later one
 abbrev pub AreInRoundFrom : ℕ → Recorded → ℕ → ℕ → Type 0
@@ -47,7 +50,8 @@ node_in c steps p round = state_after c (heard_table steps) (round - 1) p
 abbrev pub OweAcknowledgements : ℕ → Recorded → ℕ → Type 0
 OweAcknowledgements set trace round = (v : ℕ) → IsTrue (has_proc set (owner trace.config.n (phase_of round)))
     → (node_in trace.config trace.steps (owner trace.config.n (phase_of round)) round).proposal ≡ Some v
-    → (q : ℕ) → IsTrue (has_proc set q) → round ≤ passed trace.steps q + 1 → (node_in trace.config trace.steps q round).owes_ack ≡ true
+    → (q : ℕ) → IsTrue (has_proc set q) → round ≤ passed trace.steps q + 1
+    → (node_in trace.config trace.steps q round).owes_ack ≡ true
 
 -- Each member that ends this round has heard, of each member that it may hear in it, something of this round or of a
 -- later one.

@@ -1,5 +1,6 @@
 -- Runs in which a processor steps by the pace "heard out" (own).
-use Rattle.std.specs.Prelude.{ℕ, zero, suc, ◌≡◌, ◌+◌, ◌-◌, List, Option, Some, None, take, length, slice_get, ◌==◌, if◌then◌else◌, Bool}
+use Rattle.std.specs.Prelude.{ℕ, zero, suc, ◌≡◌, ◌+◌, ◌-◌, List, Option, Some, None}
+use Rattle.std.specs.Prelude.{take, length, slice_get, ◌==◌, if◌then◌else◌, Bool}
 use Rattle.step_trace.specs.declared.steps.Act.{Act}
 use Rattle.step_trace.specs.declared.steps.Act.TheVariants.{Send, Receive}
 use Rattle.step_trace.specs.declared.steps.Step.{Step}
@@ -26,7 +27,8 @@ pace_stepping steps p (Some step) x = if step.proc == p then pace_acting steps p
 -- still
 unfoldable pub pace_after : Setup → ℕ → List Step → ℕ → ℕ → Paced
 pace_after c patience steps p zero = opening_pace c patience
-pace_after c patience steps p (suc k) = pace_stepping (take k steps) p (slice_get steps k) (pace_after c patience steps p k)
+pace_after c patience steps p (suc k) = pace_stepping (take k steps) p (slice_get steps k)
+    (pace_after c patience steps p k)
 
 -- what p has heard of q after the first k steps
 abbrev pub peer_after : Setup → ℕ → List Step → ℕ → ℕ → ℕ → Peer
@@ -39,16 +41,19 @@ pace_taking c patience steps p k ids = heard_ids (before steps k) p ids (pace_af
 -- p steps by the pace: it sends what it has to send, and else it receives; and a Receive ends its round exactly if the
 -- round is over with what it takes.
 pub record StepsByPace (c : Setup) (patience : ℕ) (steps : List Step) (p : ℕ) : Type 0 where
-  pub sends : (k to : ℕ) (act : Act) → step_at steps k ≡ Some (record { proc = p; act = act }) → next_destination c steps p k ≡ Some to → act ≡ Send to
+  pub sends : (k to : ℕ) (act : Act) → step_at steps k ≡ Some (record { proc = p; act = act })
+      → next_destination c steps p k ≡ Some to → act ≡ Send to
   pub ends : (k : ℕ) (ids : List ℕ) (ends : Bool) → step_at steps k ≡ Some (record { proc = p; act = Receive ends ids })
       → ends ≡ is_over c (node_before c steps p k) (round_at steps p k) p (pace_taking c patience steps p k ids)
 
--- what p does next by its pace, by where it sends next: it sends there, or a Receive ends its round exactly if the round
+-- what p does next by its pace, by where it sends next: it sends there, or a Receive ends its round exactly if the
+-- round
 -- is over then
 abbrev pub IsPacedAct : Setup → ℕ → List Step → ℕ → Option ℕ → Act → Type 0
 IsPacedAct c patience steps p (Some to) act = act ≡ Send to
 IsPacedAct c patience steps p None (Send to) = Unit {0}
-IsPacedAct c patience steps p None (Receive ends ids) = ends ≡ ends_taking c steps p ids (pace_after c patience steps p (length steps))
+IsPacedAct c patience steps p None (Receive ends ids) =
+    ends ≡ ends_taking c steps p ids (pace_after c patience steps p (length steps))
 
 -- if the step is one of p, it is what p does next by its pace
 abbrev pub IsPacedStep : Setup → ℕ → List Step → ℕ → Step → Type 0

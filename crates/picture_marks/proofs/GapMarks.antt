@@ -102,7 +102,8 @@ covers_shown w lanes a b p t =
     let ends : w.first ≤ b.to = t.inside.ends in
     record { inside = record { begins = omega arith; ends = omega arith }; lane = ap (has_proc lanes) p.proc ∙ t.lane }
 
-first_with : (set : ℕ) (trace : Recorded) (w : Window) (lanes : ℕ) (rows : List Row) → IsReport set trace rows → (k : ℕ) (b : Gap) → IsShownGap w lanes b → gap_at rows k ≡ Some b → Found w lanes rows b k
+first_with : (set : ℕ) (trace : Recorded) (w : Window) (lanes : ℕ) (rows : List Row) → IsReport set trace rows
+    → (k : ℕ) (b : Gap) → IsShownGap w lanes b → gap_at rows k ≡ Some b → Found w lanes rows b k
 first_with set trace w lanes rows is zero b t h = absurd (none-some b h)
 first_with set trace w lanes rows is (suc k) b t h = go (share_end (gap_at rows k) (gap_at rows (suc k))) refl (λ a. first_with set trace w lanes rows is k a)
   where
@@ -128,7 +129,9 @@ gaps_exact set trace w lanes rows is = record {
       let y = gathered_from (shown_gap w lanes rows) (length rows) g.0 g.1 in
       let i = if_option (option_map_or (λ x. shows_gap w lanes x) (gap_at rows y.0) false && not (share_end (gap_at rows (y.0 - 1)) (gap_at rows y.0))) (row_at rows y.0) g.0 y.3 in
       let h : gap_at rows y.0 ≡ Some a = rw i.1 g.2 in
-      let passed : option_map_or (λ x. shows_gap w lanes x) (gap_at rows y.0) false ≡ true = (both (option_map_or (λ x. shows_gap w lanes x) (gap_at rows y.0) false) (not (share_end (gap_at rows (y.0 - 1)) (gap_at rows y.0))) i.0).0 in
+      let passed : option_map_or (λ x. shows_gap w lanes x) (gap_at rows y.0) false ≡ true =
+      (both (option_map_or (λ x. shows_gap w lanes x) (gap_at rows y.0) false)
+      (not (share_end (gap_at rows (y.0 - 1)) (gap_at rows y.0))) i.0).0 in
       ((g.0, row_at-has rows y.0 g.0 i.1, g.2), shown_gap_so w lanes a (rw h at passed));
   covered = λ b (g : HasGap rows b) t.
       let at_place : row_at rows (suc g.1.0) ≡ Some g.0 = slice_get-get_or rows g.1.0 g.0 g.1.1 ∙ ap (λ (x : Row). Some x) g.1.2 in

@@ -7,7 +7,8 @@ use Rattle.step_trace.proofs.ListMembers.{Contains-head, Contains-nil, Contains-
 use Rattle.picture_marks.specs.Gathered.{gathered, one_or_none}
 
 -- one number more
-pub gathered_more : {X : Type 0} (f : ℕ → Option X) (n : ℕ) (list more : List X) (item : Option X) → list ≡ gathered f n → more ≡ list ++ one_or_none item → item ≡ f (n + 1) → more ≡ gathered f (n + 1)
+pub gathered_more : {X : Type 0} (f : ℕ → Option X) (n : ℕ) (list more : List X) (item : Option X) → list ≡ gathered f n
+    → more ≡ list ++ one_or_none item → item ≡ f (n + 1) → more ≡ gathered f (n + 1)
 gathered_more f n list more item before pushed is =
     let next : n + 1 ≡ suc n = omega arith in
     rw (pushed, before, is, next) refl

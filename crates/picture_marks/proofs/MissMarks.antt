@@ -82,7 +82,9 @@ misses_exact trace w lanes rows m = (
       let y = gathered_from (shown_miss trace w lanes rows) (length rows) g.0 g.1 in
       let i = if_option (option_map_or (λ m. shows_miss trace w lanes m) (miss_at rows y.0) false && not (same_miss (miss_at rows (y.0 - 1)) (miss_at rows y.0))) (row_at rows y.0) g.0 y.3 in
       let h : miss_at rows y.0 ≡ Some m = rw i.1 g.2 in
-      let passed : option_map_or (λ m. shows_miss trace w lanes m) (miss_at rows y.0) false ≡ true = (both (option_map_or (λ m. shows_miss trace w lanes m) (miss_at rows y.0) false) (not (same_miss (miss_at rows (y.0 - 1)) (miss_at rows y.0))) i.0).0 in
+      let passed : option_map_or (λ m. shows_miss trace w lanes m) (miss_at rows y.0) false ≡ true =
+      (both (option_map_or (λ m. shows_miss trace w lanes m) (miss_at rows y.0) false)
+      (not (same_miss (miss_at rows (y.0 - 1)) (miss_at rows y.0))) i.0).0 in
       ((g.0, row_at-has rows y.0 g.0 i.1, g.2), shown_miss_so trace w lanes m (rw h at passed))),
   (λ (g : HasMiss rows m × IsShownMiss trace w lanes m).
       let at_place : row_at rows (suc g.0.1.0) ≡ Some g.0.0 = slice_get-get_or rows g.0.1.0 g.0.0 g.0.1.1 ∙ ap (λ (x : Row). Some x) g.0.1.2 in

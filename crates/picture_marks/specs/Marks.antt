@@ -29,7 +29,8 @@ abbrev pub IsTakenBy : List Step → ℕ → Option ℕ → Type 0
 IsTakenBy steps s (Some r) = TakesAt steps r s
 IsTakenBy steps s None = (r : ℕ) → ¬ TakesAt steps r s
 
--- a message of the trace with the Receive that takes it, or none, that touches the window and goes from a lane to a lane
+-- a message of the trace with the Receive that takes it, or none, that touches the window and goes from a lane to a
+-- lane
 pub record IsShownMessage (trace : Recorded) (w : Window) (lanes : ℕ) (m : Message) : Type 0 where
   pub to : ℕ
   pub sent : IsSentTo trace.steps m.sent to

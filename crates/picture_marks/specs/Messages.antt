@@ -1,5 +1,6 @@
 -- Messages with the Receives that take them (own).
-use Rattle.std.specs.Prelude.{ℕ, ◌==◌, ◌&&◌, Bool, false, List, [], length, Option, Some, None, slice_index_or, if◌then◌else◌, suc, zero}
+use Rattle.std.specs.Prelude.{ℕ, ◌==◌, ◌&&◌, Bool, false, List, [], length, Option}
+use Rattle.std.specs.Prelude.{Some, None, slice_index_or, if◌then◌else◌, suc, zero}
 use Rattle.std.specs.List.{list_any}
 use Rattle.std.specs.Option.{option_map_or}
 use Rattle.step_trace.specs.declared.steps.Act.{Act}
@@ -47,4 +48,5 @@ sends_to_lane lanes (Receive ends ids) = false
 
 -- whether step s is a Send, and both its processor and its receiver have a lane
 abbrev pub sends_between : ℕ → List Step → ℕ → Bool
-sends_between lanes steps s = option_map_or (λ x. sends_to_lane lanes x.act && has_proc lanes x.proc) (step_at steps s) false
+sends_between lanes steps s = option_map_or (λ x. sends_to_lane lanes x.act && has_proc lanes x.proc)
+    (step_at steps s) false

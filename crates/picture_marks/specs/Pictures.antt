@@ -26,7 +26,8 @@ shown_step trace w lanes s =
 -- message s, if there is one that touches the window and goes from a lane to a lane
 abbrev pub shown_message : Recorded → Window → ℕ → ℕ → Option Message
 shown_message trace w lanes s =
-    if sends_between lanes trace.steps s && touches w (tick_of trace s) (end_of trace (message_of trace.steps s)) then Some (message_of trace.steps s)
+    if sends_between lanes trace.steps s && touches w (tick_of trace s)
+    (end_of trace (message_of trace.steps s)) then Some (message_of trace.steps s)
     else None
 
 -- whether a miss touches the window and goes from a lane to a lane
@@ -56,14 +57,16 @@ shown_gap w lanes rows k =
 -- row k, unless the rows before and after it begin in its column
 abbrev pub corner : ℕ → List Row → ℕ → Option Row
 corner last rows k =
-    if share_column last (row_at rows (k - 1)) (row_at rows k) && share_column last (row_at rows k) (row_at rows (k + 1)) then None
+    if share_column last (row_at rows (k - 1)) (row_at rows k) && share_column last (row_at rows k)
+    (row_at rows (k + 1)) then None
     else row_at rows k
 
 -- the window of all ticks
 abbrev pub all_ticks : Recorded → Window
 all_ticks trace = record { first = 1; to = trace.last }
 
--- The picture shows these ticks and lanes of the trace, with the witnesses and the corners of these rows. Of all ticks it
+-- The picture shows these ticks and lanes of the trace, with the witnesses and the corners of these rows. Of all ticks
+-- it
 -- shows so many columns, and the gaps of these rows.
 pub record Shows (trace : Recorded) (rows : List Row) (w : Window) (lanes : ℕ) (p : Picture) : Type 0 where
   pub window : p.window ≡ w

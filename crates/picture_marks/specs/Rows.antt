@@ -1,5 +1,6 @@
 -- The rows of a report, by their numbers from 1 on (own).
-use Rattle.std.specs.Prelude.{ℕ, ◌-◌, ◌*◌, ◌/◌, ◌==◌, ◌&&◌, Bool, false, List, Option, Some, None, slice_get, max, suc, zero}
+use Rattle.std.specs.Prelude.{ℕ, ◌-◌, ◌*◌, ◌/◌, ◌==◌, ◌&&◌, Bool, false, List}
+use Rattle.std.specs.Prelude.{Option, Some, None, slice_get, max, suc, zero}
 use Rattle.std.specs.Option.{option_and_then}
 use Rattle.step_trace.specs.declared.rows.Miss.{Miss}
 use Rattle.step_trace.specs.declared.rows.Gap.{Gap}

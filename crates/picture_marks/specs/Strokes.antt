@@ -1,5 +1,6 @@
 -- In which columns of ticks each processor makes steps (own). A stroke is a longest run of such columns.
-use Rattle.std.specs.Prelude.{ℕ, ◌≡◌, ◌<◌, ◌≤◌, ◌+◌, ◌*◌, ◌==◌, ◌&&◌, ◌↔◌, Bool, true, false, IsTrue, List, if◌then◌else◌, min, max, nat_le, nat_lt, slice_index_or, suc, zero}
+use Rattle.std.specs.Prelude.{ℕ, ◌≡◌, ◌<◌, ◌≤◌, ◌+◌, ◌*◌, ◌==◌, ◌&&◌, ◌↔◌, Bool, true, false, IsTrue, List}
+use Rattle.std.specs.Prelude.{if◌then◌else◌, min, max, nat_le, nat_lt, slice_index_or, suc, zero}
 use Rattle.step_trace.specs.declared.processors.TheConstants.{MAX_MEMBER}
 use Rattle.step_trace.specs.Ticks.{StepsIn, tick_of}
 use Rattle.step_trace.specs.Traces.{Recorded}
@@ -25,7 +26,8 @@ has_stroke s p c = if nat_le p MAX_MEMBER && nat_lt c COLUMNS then busy_at s.bus
 
 -- processors have strokes just in the columns in which they make steps
 pub record ShowsSteps (trace : Recorded) (s : Strokes) : Type 0 where
-  pub each : (p c : ℕ) → 1 ≤ p → p ≤ MAX_MEMBER → c < COLUMNS → IsTrue (has_stroke s p c) ↔ StepsInColumn trace s.columns p c
+  pub each : (p c : ℕ) → 1 ≤ p → p ≤ MAX_MEMBER → c < COLUMNS → IsTrue (has_stroke s p c)
+      ↔ StepsInColumn trace s.columns p c
 
 -- step k is one of processor p in column c
 abbrev pub is_in_column : Recorded → ℕ → ℕ → ℕ → ℕ → Bool
@@ -34,13 +36,15 @@ is_in_column trace columns p c k = proc_of trace.steps k == p && column_in colum
 -- whether one of the first n steps is
 abbrev pub steps_to : Recorded → ℕ → ℕ → ℕ → ℕ → Bool
 steps_to trace columns p c zero = false
-steps_to trace columns p c (suc n) = if is_in_column trace columns p c (suc n) then true else steps_to trace columns p c n
+steps_to trace columns p c (suc n) = if is_in_column trace columns p c
+    (suc n) then true else steps_to trace columns p c n
 
 -- how many columns a picture has for so many ticks: one for each, up to COLUMNS
 abbrev pub columns_for : ℕ → ℕ
 columns_for last = min (max last 1) COLUMNS
 
--- the first stroke of processor p from this column on: a step in each of its columns, none in those before it, and none in
+-- the first stroke of processor p from this column on: a step in each of its columns, none in those before it, and none
+-- in
 -- the one after it
 pub record IsNextStroke (s : Strokes) (p from : ℕ) (k : Stroke) : Type 0 where
   pub begins : from ≤ k.first

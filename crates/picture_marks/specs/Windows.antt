@@ -1,5 +1,6 @@
 -- The ticks that are drawn (own).
-use Rattle.std.specs.Prelude.{ℕ, ◌≡◌, ◌<◌, ◌≤◌, Bool, ◌&&◌, ◌||◌, ◌==◌, ◌+◌, ◌-◌, nat_le, nat_lt, min, max, Option, Some, None, Result, Ok, Err, if◌then◌else◌}
+use Rattle.std.specs.Prelude.{ℕ, ◌≡◌, ◌<◌, ◌≤◌, Bool, ◌&&◌, ◌||◌, ◌==◌, ◌+◌, ◌-◌, nat_le, nat_lt}
+use Rattle.std.specs.Prelude.{min, max, Option, Some, None, Result, Ok, Err, if◌then◌else◌}
 use Rattle.std.specs.Option.{unwrap_or}
 use Rattle.picture_marks.specs.declared.windows.TheConstants.{USUAL_TICKS, MAX_WINDOW}
 use Rattle.picture_marks.specs.declared.windows.Window.{Window}
@@ -38,4 +39,5 @@ window_of last from to = window_from last (unwrap_or from 1) to
 -- it.
 abbrev pub IsUnfitWindow : ℕ → Option ℕ → Option ℕ → WindowError → Type 0
 IsUnfitWindow last from to (BadFrom given end) = (from ≡ Some given) × (end ≡ last) × (1 ≤ given → max last 1 < given)
-IsUnfitWindow last from to (BadTo given first) = (to ≡ Some given) × (first ≡ unwrap_or from 1) × (first ≤ given → first + MAX_WINDOW ≤ given)
+IsUnfitWindow last from to (BadTo given first) = (to ≡ Some given) × (first ≡ unwrap_or from 1)
+    × (first ≤ given → first + MAX_WINDOW ≤ given)

@@ -5,7 +5,8 @@ ghost use Rattle.step_trace.specs.Fronts.{IsReport};
 ghost use Rattle.step_trace.specs.Traces.{IsWellFormed};
 ghost use Rattle.picture_marks.specs.Gathered.{gathered};
 ghost use Rattle.picture_marks.specs.Marks.{ShowsExactly, ShowsMisses, ShowsGaps};
-ghost use Rattle.picture_marks.specs.Pictures.{all_ticks, shown_step, shown_message, shown_miss, shown_gap, corner, Shows};
+ghost use Rattle.picture_marks.specs.Pictures.{all_ticks, shown_step, shown_message};
+ghost use Rattle.picture_marks.specs.Pictures.{shown_miss, shown_gap, corner, Shows};
 ghost use Rattle.picture_marks.specs.Strokes.{ShowsSteps};
 
 use crate::gathering::push_some;
@@ -47,9 +48,11 @@ pub fn picture_of(
     ensures shows { IfOk result (λ p. Shows trace.now rows.now window lanes p) }
     ensures exact { IfOk result (λ p. ShowsExactly trace.now window lanes p) }
     ensures misses { IfOk result (λ p. ShowsMisses trace.now rows.now window lanes p.misses.items) }
-    ensures gaps { IfOk result (λ p. (set : ℕ) → IsReport set trace.now rows.now → ShowsGaps rows.now window lanes p.gaps.items) }
+    ensures gaps { IfOk result (λ p. (set : ℕ) → IsReport set trace.now rows.now
+        → ShowsGaps rows.now window lanes p.gaps.items) }
     ensures strokes { IfOk result (λ p. ShowsSteps trace.now p.strokes) }
-    ensures stalls { IfOk result (λ p. (set : ℕ) → IsReport set trace.now rows.now → ShowsGaps rows.now (all_ticks trace.now) lanes p.stalls.items) }
+    ensures stalls { IfOk result (λ p. (set : ℕ) → IsReport set trace.now rows.now
+        → ShowsGaps rows.now (all_ticks trace.now) lanes p.stalls.items) }
     ensures more { OnErr result ((0 < length trace.now.steps) ⊎ (0 < length rows.now)) }
 {
     Ok(Picture {
@@ -71,7 +74,9 @@ fn steps(
     window: Window,
     lanes: ProcSet,
 ) -> Result<Vec<u64>, AllocError>
-    ensures listed { IfOk result (λ steps. steps.items ≡ gathered (shown_step trace.now window lanes) (length trace.now.steps)) }
+    ensures listed { IfOk result
+        (λ steps. steps.items ≡ gathered (shown_step trace.now window lanes)
+        (length trace.now.steps)) }
     ensures more { OnErr result (0 < length trace.now.steps) }
 {
     let mut steps = Vec::new(alloc);
@@ -90,7 +95,9 @@ fn messages(
     window: Window,
     lanes: ProcSet,
 ) -> Result<Vec<Message>, AllocError>
-    ensures listed { IfOk result (λ messages. messages.items ≡ gathered (shown_message trace.now window lanes) (length trace.now.steps)) }
+    ensures listed { IfOk result
+        (λ messages. messages.items ≡ gathered (shown_message trace.now window lanes)
+        (length trace.now.steps)) }
     ensures more { OnErr result (0 < length trace.now.steps) }
     ensures sound { OnOk result (IsWellFormed trace.now.config trace.now.steps) }
 {
@@ -115,7 +122,9 @@ fn misses(
     lanes: ProcSet,
     rows: &[Row],
 ) -> Result<Vec<Row>, AllocError>
-    ensures listed { IfOk result (λ misses. misses.items ≡ gathered (shown_miss trace.now window lanes rows.now) (length rows.now)) }
+    ensures listed { IfOk result
+        (λ misses. misses.items ≡ gathered (shown_miss trace.now window lanes rows.now)
+        (length rows.now)) }
     ensures more { OnErr result (0 < length rows.now) }
 {
     let mut misses = Vec::new(alloc);
@@ -129,7 +138,8 @@ fn misses(
 }
 
 fn gaps(alloc: Global, window: Window, lanes: ProcSet, rows: &[Row]) -> Result<Vec<Row>, AllocError>
-    ensures listed { IfOk result (λ gaps. gaps.items ≡ gathered (shown_gap window lanes rows.now) (length rows.now)) }
+    ensures listed { IfOk result
+        (λ gaps. gaps.items ≡ gathered (shown_gap window lanes rows.now) (length rows.now)) }
     ensures more { OnErr result (0 < length rows.now) }
 {
     let mut gaps = Vec::new(alloc);
@@ -149,7 +159,9 @@ fn stalls(
     lanes: ProcSet,
     rows: &[Row],
 ) -> Result<Vec<Row>, AllocError>
-    ensures listed { IfOk result (λ stalls. stalls.items ≡ gathered (shown_gap (all_ticks trace.now) lanes rows.now) (length rows.now)) }
+    ensures listed { IfOk result
+        (λ stalls. stalls.items ≡ gathered (shown_gap (all_ticks trace.now) lanes rows.now)
+        (length rows.now)) }
     ensures more { OnErr result (0 < length rows.now) }
 {
     let all = Window {
@@ -160,7 +172,8 @@ fn stalls(
 }
 
 fn corners(alloc: Global, last: u64, rows: &[Row]) -> Result<Vec<Row>, AllocError>
-    ensures listed { IfOk result (λ corners. corners.items ≡ gathered (corner last rows.now) (length rows.now)) }
+    ensures listed { IfOk result
+        (λ corners. corners.items ≡ gathered (corner last rows.now) (length rows.now)) }
     ensures more { OnErr result (0 < length rows.now) }
 {
     let mut corners = Vec::new(alloc);

@@ -1,6 +1,7 @@
 //! In which columns of ticks each processor makes steps.
 
-ghost use Rattle.std.specs.Prelude.{◌≡◌, ◌≢◌, ◌<◌, ◌≤◌, ◌==◌, ◌&&◌, ℕ, IfNone, IfOk, IfSome, OnErr, false, true, if◌then◌else◌, length, slice_index_or};
+ghost use Rattle.std.specs.Prelude.{◌≡◌, ◌≢◌, ◌<◌, ◌≤◌, ◌==◌, ◌&&◌, ℕ, IfNone, IfOk, IfSome, OnErr};
+ghost use Rattle.std.specs.Prelude.{false, true, if◌then◌else◌, length, slice_index_or};
 ghost use Rattle.step_trace.specs.declared.processors.TheConstants.{MAX_MEMBER};
 ghost use Rattle.picture_marks.specs.declared.report_rows.TheConstants.{COLUMNS};
 ghost use Rattle.picture_marks.specs.declared.strokes.TheConstants.{PLACES};
@@ -50,7 +51,8 @@ pub(crate) fn columns_for(last: u64) -> u64
 }
 
 fn busy_columns(alloc: Global, trace: &Trace, columns: u64) -> Result<Vec<bool>, AllocError>
-    ensures marked { IfOk result (λ busy. (p c : ℕ) → p ≤ MAX_MEMBER → c < COLUMNS → busy_at busy.items p c ≡ steps_to trace.now columns p c (length trace.now.steps)) }
+    ensures marked { IfOk result (λ busy. (p c : ℕ) → p ≤ MAX_MEMBER → c < COLUMNS
+        → busy_at busy.items p c ≡ steps_to trace.now columns p c (length trace.now.steps)) }
     ensures more { OnErr result (0 < length trace.now.steps) }
 {
     if trace.len() == 0 {
@@ -77,7 +79,9 @@ fn blank(alloc: Global, count: usize) -> Result<Vec<bool>, AllocError>
 fn note(busy: &mut [bool], processor: u64, column: u128)
     requires { length busy.old ≡ PLACES }
     ensures len { length busy.new ≡ PLACES }
-    ensures each { (p c : ℕ) → p ≤ MAX_MEMBER → c < COLUMNS → busy_at busy.new p c ≡ (if processor == p && column == c then true else busy_at busy.old p c) }
+    ensures each { (p c : ℕ) → p ≤ MAX_MEMBER → c < COLUMNS
+        → busy_at busy.new p c
+        ≡ (if processor == p && column == c then true else busy_at busy.old p c) }
 {
     if processor <= MAX_MEMBER && column < u128::from(COLUMNS) {
         busy[(processor * COLUMNS + column as u64) as usize] = true;
@@ -101,7 +105,8 @@ impl Strokes {
     /// The first stroke of a processor that begins in this column or later.
     pub fn stroke_from(&self, processor: u64, from: u64) -> Option<Stroke>
         ensures some { IfSome result (IsNextStroke self.now processor from) }
-        ensures none { IfNone result ((c : ℕ) → from ≤ c → has_stroke self.now processor c ≡ false) }
+        ensures none { IfNone result ((c : ℕ) → from ≤ c
+            → has_stroke self.now processor c ≡ false) }
     {
         let first = self.first_with(processor, from, true);
         if first >= COLUMNS {
@@ -117,7 +122,8 @@ impl Strokes {
         ensures high { result ≤ COLUMNS }
         ensures low { result < COLUMNS → from ≤ result }
         ensures here { result < COLUMNS → has_stroke self.now processor result ≡ is_busy }
-        ensures before { (c : ℕ) → from ≤ c → c < result → has_stroke self.now processor c ≢ is_busy }
+        ensures before { (c : ℕ) → from ≤ c → c < result
+            → has_stroke self.now processor c ≢ is_busy }
     {
         for column in from..COLUMNS {
             if self.has(processor, column) == is_busy {

@@ -10,7 +10,8 @@ use step_trace::Trace;
 /// For each number up to that of the last step, the step that takes the message of this number, in time
 /// that grows with the steps and the ids that they take.
 pub fn takers(alloc: Global, trace: &Trace) -> Result<Vec<Option<u64>>, AllocError>
-    ensures { IfOk result (λ takers. (s : ℕ) → taker_in takers.items s ≡ taker trace.now.steps (length trace.now.steps) s) }
+    ensures { IfOk result (λ takers. (s : ℕ)
+        → taker_in takers.items s ≡ taker trace.now.steps (length trace.now.steps) s) }
 {
     let mut takers = vec![in alloc; None; trace.len() + 1]?;
     for i in 0..trace.len() {
@@ -44,7 +45,8 @@ fn ids_at(trace: &Trace, no: u64) -> &[u64]
 /// Notes that step `no` takes these messages.
 fn mark(takers: &mut [Option<u64>], ids: &[u64], no: u64)
     requires { All (λ s. s < length takers.old) ids.now }
-    ensures { (s : ℕ) → taker_in takers.new s ≡ (if list_any (λ i. i == s) ids.now then Some no else taker_in takers.old s) }
+    ensures { (s : ℕ) → taker_in takers.new s
+        ≡ (if list_any (λ i. i == s) ids.now then Some no else taker_in takers.old s) }
 {
     for s in ids {
         takers[*s as usize] = Some(no);

@@ -2,7 +2,10 @@
 -- acknowledged it.
 use Rattle.std.proofs.Common.{ℕ, ◌≡◌, ◌+◌, ◌≤◌, ◌⊎◌, inl, inr, true, Some, refl, sym, ap, subst, ◌∙◌, arith}
 use Rattle.std.specs.Prelude.{Contains, count_by}
-use Rattle.round_model.proofs.Common.{Setup, phase_of, part_of, owner, State, LockPair, value_of, phase_of_lock, body_of, IsHeardToSay, acknowledging, AcknowledgingKeeps, IsAcknowledged, count_by-le, acknowledging-keeps, acknowledging-acknowledged, ack-said_by, Table, processors, messages_heard}
+use Rattle.round_model.proofs.Common.{Setup, phase_of, part_of, owner, State, LockPair, value_of, phase_of_lock}
+use Rattle.round_model.proofs.Common.{body_of, IsHeardToSay, acknowledging, AcknowledgingKeeps, IsAcknowledged}
+use Rattle.round_model.proofs.Common.{count_by-le, acknowledging-keeps, acknowledging-acknowledged, ack-said_by, Table}
+use Rattle.round_model.proofs.Common.{processors, messages_heard}
 use Rattle.round_model.proofs.HeardMessages.{heard_of, heard_of-sender, nodes_after}
 use Rattle.round_model.proofs.Invariants.{is_locked_since, is_locked_since-lock, IsAnchored, holders-kept, IsSafe, FlagsMeanFreshLocks-unset}
 

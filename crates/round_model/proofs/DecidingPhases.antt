@@ -2,7 +2,9 @@
 -- rounds, and that all list one value when it begins.
 use Rattle.std.proofs.Common.{ℕ, suc, ◌≡◌, ◌-◌, ◌≤◌, Bool, true, Option, Some, None, is_some, refl, sym, ap, subst, ◌∙◌, arith}
 use Rattle.std.specs.Prelude.{Contains, option_map}
-use Rattle.round_model.proofs.Common.{Setup, IsSetup, Body, phase_of, part_of, owner, State, Message, lists-from_Contains, list-sent, lock-sent, acknowledgement-sent, listing-quorum, locking-keeps, locking-told, acknowledging-quorum, Table, messages_heard}
+use Rattle.round_model.proofs.Common.{Setup, IsSetup, Body, phase_of, part_of, owner, State, Message}
+use Rattle.round_model.proofs.Common.{lists-from_Contains, list-sent, lock-sent, acknowledgement-sent, listing-quorum}
+use Rattle.round_model.proofs.Common.{locking-keeps, locking-told, acknowledging-quorum, Table, messages_heard}
 use Rattle.lock_phases.specs.declared.bodies.Kind.{Kind}
 use Rattle.lock_phases.specs.declared.bodies.Kind.TheVariants.{List as Listed, Lock, Ack}
 use Rattle.lock_phases.specs.NodeFunctions.{out, values_to_list}

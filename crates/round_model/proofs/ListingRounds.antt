@@ -2,7 +2,9 @@
 use Rattle.std.proofs.Common.{inl, inr, ℕ, ◌≡◌, true, Some, sym, ap, subst, ◌∙◌, arith}
 use Rattle.std.specs.Prelude.{Contains}
 use Rattle.std.proofs.lemmas.Bool.{cases_eq}
-use Rattle.round_model.proofs.Common.{Setup, IsSetup, phase_of, part_of, owner, State, LockPair, body_of, IsHeardToSay, listing, ListingKeeps, Contains-from_lists, listing-keeps, listing-refused, listed-said_by, Table, messages_heard}
+use Rattle.round_model.proofs.Common.{Setup, IsSetup, phase_of, part_of, owner, State, LockPair, body_of, IsHeardToSay}
+use Rattle.round_model.proofs.Common.{listing, ListingKeeps, Contains-from_lists, listing-keeps, listing-refused}
+use Rattle.round_model.proofs.Common.{listed-said_by, Table, messages_heard}
 use Rattle.lock_phases.proofs.LockLaws.{is_acceptable-locked}
 use Rattle.round_model.proofs.HeardMessages.{heard_of, heard_of-sender, nodes_after}
 use Rattle.round_model.proofs.Invariants.{is_locked_since, IsLockSince-from_test, IsAnchored, holders-kept, IsSafe, FlagsMeanFreshLocks-unset}

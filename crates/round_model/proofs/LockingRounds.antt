@@ -1,7 +1,9 @@
 -- A locking round keeps the invariants: what is locked is the owner's proposal.
 use Rattle.std.proofs.Common.{ℕ, ◌≡◌, ◌≤◌, ◌⊎◌, inl, inr, true, Some, refl, sym, subst, ◌∙◌, arith}
 use Rattle.std.specs.Prelude.{Contains}
-use Rattle.round_model.proofs.Common.{Setup, phase_of, part_of, owner, State, LockPair, value_of, phase_of_lock, IsToldToLock, LockingKeeps, LockingLocks, locking-keeps, locking-locks, lock-said_by, Table, messages_heard, sender_of, body_of}
+use Rattle.round_model.proofs.Common.{Setup, phase_of, part_of, owner, State, LockPair, value_of, phase_of_lock}
+use Rattle.round_model.proofs.Common.{IsToldToLock, LockingKeeps, LockingLocks, locking-keeps, locking-locks}
+use Rattle.round_model.proofs.Common.{lock-said_by, Table, messages_heard, sender_of, body_of}
 use Rattle.round_model.proofs.HeardMessages.{nodes_after, messages_heard-said}
 use Rattle.round_model.proofs.Invariants.{is_locked_since, IsLockSince-from_test, is_locked_since-lock, IsAnchored, holders-kept, IsSafe}
 

@@ -3,7 +3,8 @@
 use Rattle.std.proofs.Common.{ℕ, ◌≡◌, ◌≤◌, inl, inr, Bool, true, List, sym, arith}
 use Rattle.std.specs.Prelude.{Contains}
 use Rattle.std.proofs.lemmas.Bool.{cases_lt, cases_eq}
-use Rattle.round_model.proofs.Common.{Setup, IsProc, part_of, State, LockPair, value_of, phase_of_lock, Message, IsTold, with_proper, proper-taken_in, locks-sent, releasing-keeps, Table, messages_heard}
+use Rattle.round_model.proofs.Common.{Setup, IsProc, part_of, State, LockPair, value_of, phase_of_lock, Message, IsTold}
+use Rattle.round_model.proofs.Common.{with_proper, proper-taken_in, locks-sent, releasing-keeps, Table, messages_heard}
 use Rattle.lock_phases.specs.declared.bodies.Kind.TheVariants.{Locks}
 use Rattle.round_model.proofs.HeardMessages.{nodes_after}
 use Rattle.round_model.proofs.HeardLists.{messages_heard-has}

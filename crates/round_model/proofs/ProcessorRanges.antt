@@ -30,7 +30,8 @@ filter_map-range_with_len-agree f g a zero same = refl
 filter_map-range_with_len-agree f g a (suc n) same = rw (same a (omega arith) (omega arith), filter_map-range_with_len-agree f g (a + 1) n (λ p l h. same p (omega arith) (omega arith))) refl
 
 -- what f gives of a range with one more number
-pub filter_map-range_with_len-more : {X : Type 0} (f : ℕ → Option X) (a n j : ℕ) (r : Option X) → a + n ≡ j → f j ≡ r → filter_map f (range_with_len a (n + 1)) ≡ filter_map f (range_with_len a n) ++ option_to_list r
+pub filter_map-range_with_len-more : {X : Type 0} (f : ℕ → Option X) (a n j : ℕ) (r : Option X) → a + n ≡ j → f j ≡ r
+    → filter_map f (range_with_len a (n + 1)) ≡ filter_map f (range_with_len a n) ++ option_to_list r
 filter_map-range_with_len-more {X = X} f a n j r is gives =
     ap (filter_map f) (range_with_len-more a n j is) ∙ filter_map-append f (range_with_len a n) (j ∷ []) ∙ ap (λ xs. filter_map f (range_with_len a n) ++ xs) (go r gives)
   where
@@ -60,7 +61,8 @@ pub rows_of-length : {X A : Type 0} (rows : List (Vec X A)) (f : ℕ → List X)
 rows_of-length rows f a n are = sym (length-map rows (λ row. row.items)) ∙ ap length are ∙ length-map-range_with_len f a n
 
 -- the row of one number
-pub rows_of-at : {X A : Type 0} (rows : List (Vec X A)) (f : ℕ → List X) (a n i : ℕ) (row : Vec X A) → rows_of rows ≡ map f (range_with_len a n) → i < n → row ≡ get_or rows i row → row.items ≡ f (a + i)
+pub rows_of-at : {X A : Type 0} (rows : List (Vec X A)) (f : ℕ → List X) (a n i : ℕ) (row : Vec X A)
+    → rows_of rows ≡ map f (range_with_len a n) → i < n → row ≡ get_or rows i row → row.items ≡ f (a + i)
 rows_of-at rows f a n i row are h is =
     ap (λ r. r.items) is
     ∙ sym (get_or-map (λ r. r.items) rows i row row.items (omega (arith, rows_of-length rows f a n are)))

@@ -1,7 +1,10 @@
 -- What a node has locked or proposes is in its own PROPER, and so is its initial value, for any loss of messages.
 use Rattle.std.proofs.Common.{ℕ, ◌≡◌, ◌⊎◌, inl, inr, zero, suc, Some, List, [], sym, subst}
 use Rattle.std.specs.Prelude.{Contains}
-use Rattle.round_model.proofs.Common.{Setup, Contains-head, Contains-nil, phase_of, part_of, owner, State, LockPair, value_of, phase_of_lock, Message, sender_of, body_of, IsHeardListed, IsToldToLock, TakesIn, part_of-cases, listing-keeps, locking-locks, acknowledging-keeps, releasing-keeps, proper-taken_in, proposal-origin, listed-said_by, lock-said_by}
+use Rattle.round_model.proofs.Common.{Setup, Contains-head, Contains-nil, phase_of, part_of, owner, State, LockPair}
+use Rattle.round_model.proofs.Common.{value_of, phase_of_lock, Message, sender_of, body_of, IsHeardListed, IsToldToLock}
+use Rattle.round_model.proofs.Common.{TakesIn, part_of-cases, listing-keeps, locking-locks, acknowledging-keeps}
+use Rattle.round_model.proofs.Common.{releasing-keeps, proper-taken_in, proposal-origin, listed-said_by, lock-said_by}
 use Rattle.lock_phases.specs.NodeFunctions.{next}
 use Rattle.round_model.specs.RoundStates.{Table, initial_value, messages_heard, state_after}
 use Rattle.round_model.proofs.HeardMessages.{nodes_after, messages_heard-said}

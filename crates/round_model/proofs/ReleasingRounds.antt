@@ -1,6 +1,8 @@
 -- A lock-release round keeps the invariants: no lock on an anchored value is released, held since its anchor.
 use Rattle.std.proofs.Common.{ℕ, ◌≡◌, ◌+◌, ◌≤◌, true, sym, ◌∙◌, arith}
-use Rattle.round_model.proofs.Common.{Setup, phase_of, part_of, State, LockPair, value_of, phase_of_lock, IsTold, ReleasingKeeps, releasing-keeps, told-said_by, Table, messages_heard, sender_of, body_of}
+use Rattle.round_model.proofs.Common.{Setup, phase_of, part_of, State, LockPair, value_of, phase_of_lock, IsTold}
+use Rattle.round_model.proofs.Common.{ReleasingKeeps, releasing-keeps, told-said_by, Table, messages_heard, sender_of}
+use Rattle.round_model.proofs.Common.{body_of}
 use Rattle.round_model.proofs.HeardMessages.{nodes_after, messages_heard-said}
 use Rattle.round_model.proofs.Invariants.{is_locked_since, IsLockSince-from_test, is_locked_since-lock, IsAnchored, holders-kept, IsSafe, FlagsMeanFreshLocks-unset}
 

@@ -2,7 +2,9 @@
 use Rattle.std.proofs.Common.{ℕ, ◌≡◌, ◌-◌, ◌⊎◌, inl, inr, zero, suc, Some, List, [], sym, subst, arith}
 use Rattle.std.specs.Prelude.{Contains}
 use Rattle.std.proofs.lemmas.List.Elements.{Contains-get_or}
-use Rattle.round_model.proofs.Common.{Setup, IsSetup, IsProc, Contains-nil, State, Message, sender_of, body_of, IsHeardProper, IsHeardListed, Contains-cons_cases, proper-origin, proposal-origin, decision-origin, listed-said_by}
+use Rattle.round_model.proofs.Common.{Setup, IsSetup, IsProc, Contains-nil, State, Message, sender_of, body_of}
+use Rattle.round_model.proofs.Common.{IsHeardProper, IsHeardListed, Contains-cons_cases, proper-origin, proposal-origin}
+use Rattle.round_model.proofs.Common.{decision-origin, listed-said_by}
 use Rattle.round_model.specs.RoundStates.{Table, initial_value, messages_heard, state_after}
 use Rattle.round_model.proofs.HeardMessages.{nodes_after, messages_heard-said}
 

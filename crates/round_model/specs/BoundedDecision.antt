@@ -11,7 +11,8 @@ use Rattle.round_model.specs.RoundStates.{Table}
 abbrev pub HearsAllOf : ℕ → Table → ℕ → Type 0
 HearsAllOf set table round = (p q : ℕ) → IsTrue (has_proc set p) → IsTrue (has_proc set q) → IsTrue (table p round q)
 
--- A set of at least N - t processors, each of which hears all of them in the rounds from the first of these to the last.
+-- A set of at least N - t processors, each of which hears all of them in the rounds from the first of these to the
+-- last.
 pub record IsInTouch (c : Setup) (set : ℕ) (table : Table) (first last : ℕ) : Type 0 where
   pub within : IsWithin set c.n
   pub size : c.n - c.t ≤ number_of c.n (has_proc set)
@@ -33,10 +34,12 @@ HaveDecided set nodes = (p : ℕ) → IsTrue (has_proc set p) → IsTrue (is_som
 -- all locks held in the set are on one value
 abbrev pub HoldOneValue : ℕ → (ℕ → State) → Type 0
 HoldOneValue set nodes =
-    (p q : ℕ) (lock other : LockPair) → IsTrue (has_proc set p) → IsTrue (has_proc set q) → Contains (nodes p).locks lock → Contains (nodes q).locks other
+    (p q : ℕ) (lock other : LockPair) → IsTrue (has_proc set p) → IsTrue (has_proc set q)
+    → Contains (nodes p).locks lock → Contains (nodes q).locks other
     → value_of lock ≡ value_of other
 
 -- each value that is locked in the set is in the PROPER of all of the set
 abbrev pub LocksAreProper : ℕ → (ℕ → State) → Type 0
 LocksAreProper set nodes =
-    (p q : ℕ) (lock : LockPair) → IsTrue (has_proc set p) → IsTrue (has_proc set q) → Contains (nodes p).locks lock → Contains (nodes q).proper (value_of lock)
+    (p q : ℕ) (lock : LockPair) → IsTrue (has_proc set p) → IsTrue (has_proc set q) → Contains (nodes p).locks lock
+    → Contains (nodes q).proper (value_of lock)

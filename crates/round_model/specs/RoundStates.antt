@@ -25,14 +25,16 @@ initial_value c p = get_or c.init (p - 1) 0
 abbrev pub messages_heard : Setup → Table → (ℕ → State) → ℕ → ℕ → List Message
 messages_heard c table nodes p round =
     filter_map
-    (λ sender. if table p round sender then option_map (λ body. (sender, body)) (out c (nodes sender) sender round p) else None)
+    (λ sender. if table p round sender then option_map (λ body. (sender, body))
+    (out c (nodes sender) sender round p) else None)
     (processors c)
 
 -- The node of p after so many rounds of a table. (The state before round r is that after r - 1 rounds.)
 unfoldable pub state_after : Setup → Table → ℕ → ℕ → State
 state_after c table zero p = opening (initial_value c p)
 state_after c table (suc rounds) p =
-    next c (state_after c table rounds p) p (suc rounds) (messages_heard c table (state_after c table rounds) p (suc rounds))
+    next c (state_after c table rounds p) p (suc rounds)
+    (messages_heard c table (state_after c table rounds) p (suc rounds))
 
 -- the nodes of all processors after so many rounds
 abbrev pub states_after : Setup → Table → ℕ → List State

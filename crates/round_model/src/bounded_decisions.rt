@@ -4,7 +4,8 @@ ghost use Rattle.std.specs.Prelude.{◌≤◌, ◌*◌, ℕ};
 ghost use Rattle.step_trace.specs.Configurations.{Setup, IsSetup};
 ghost use Rattle.step_trace.specs.Processors.{IsWithin};
 ghost use Rattle.round_model.specs.RoundStates.{Table, state_after};
-ghost use Rattle.round_model.specs.BoundedDecision.{IsInTouch, HearsAllOf, deciding_round, HaveDecided, HoldOneValue, LocksAreProper};
+ghost use Rattle.round_model.specs.BoundedDecision.{IsInTouch, HearsAllOf, deciding_round, HaveDecided};
+ghost use Rattle.round_model.specs.BoundedDecision.{HoldOneValue, LocksAreProper};
 
 /// If the processors of a set of at least N - t hear one another from some round on, each of them decides
 /// (section 3 of the 1988 paper).
@@ -20,8 +21,10 @@ pub fn decided_by()
     ensures decided { (c : Setup) (set : ℕ) (table : Table) (first rounds : ℕ) → IsSetup c →
         IsInTouch c set table first (deciding_round c first) → deciding_round c first ≤ rounds →
         HaveDecided set (state_after c table rounds) }
-    ensures one_lock { (c : Setup) (set : ℕ) (table : Table) (phase : ℕ) → IsWithin set c.n → 1 ≤ phase →
+    ensures one_lock { (c : Setup) (set : ℕ) (table : Table) (phase : ℕ)
+        → IsWithin set c.n → 1 ≤ phase →
         HearsAllOf set table (4 * phase) → HoldOneValue set (state_after c table (4 * phase)) }
-    ensures proper { (c : Setup) (set : ℕ) (table : Table) (phase : ℕ) → IsWithin set c.n → 1 ≤ phase →
+    ensures proper { (c : Setup) (set : ℕ) (table : Table) (phase : ℕ)
+        → IsWithin set c.n → 1 ≤ phase →
         HearsAllOf set table (4 * phase) → LocksAreProper set (state_after c table (4 * phase)) }
 {}

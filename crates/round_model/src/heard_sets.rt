@@ -1,6 +1,7 @@
 //! Tables of who heard whom.
 
-ghost use Rattle.std.specs.Prelude.{◌≡◌, ◌≢◌, ◌≤◌, ◌<◌, ◌⊎◌, ℕ, All, IfOk, false, length, slice_set, slice_index, slice_index_or, []};
+ghost use Rattle.std.specs.Prelude.{◌≡◌, ◌≢◌, ◌≤◌, ◌<◌, ◌⊎◌, ℕ, All, IfOk, false, length};
+ghost use Rattle.std.specs.Prelude.{slice_set, slice_index, slice_index_or, []};
 ghost use Rattle.step_trace.specs.Processors.{has_proc, IsWithin};
 ghost use Rattle.round_model.specs.HeardSets.{rows_of};
 
@@ -121,7 +122,8 @@ fn put(sets: &mut [Vec<ProcSet>], i: usize, j: usize, set: ProcSet)
     requires outer { i < length sets.old }
     requires inner { j < length (slice_index_or (rows_of sets.old) i []) }
     ensures { rows_of sets.new
-        ≡ slice_set (rows_of sets.old) i (slice_set (slice_index_or (rows_of sets.old) i []) j set) }
+        ≡ slice_set (rows_of sets.old) i
+        (slice_set (slice_index_or (rows_of sets.old) i []) j set) }
 {
     let row = &mut sets[i];
     row[j] = set;

@@ -5,9 +5,11 @@ ghost use Rattle.step_trace.specs.Configurations.{IsProc, IsSetup};
 ghost use Rattle.step_trace.specs.Processors.{IsWithin};
 ghost use Rattle.round_model.specs.RoundStates.{messages_heard, states_after};
 ghost use Rattle.round_model.specs.Agreement.{AgreeAll, AreInitialValues};
-ghost use Rattle.round_model.specs.BoundedDecision.{IsInTouch, HearsAllOf, deciding_round, HaveDecided, HoldOneValue, LocksAreProper};
+ghost use Rattle.round_model.specs.BoundedDecision.{IsInTouch, HearsAllOf, deciding_round, HaveDecided};
+ghost use Rattle.round_model.specs.BoundedDecision.{HoldOneValue, LocksAreProper};
 ghost use Rattle.round_model.specs.HeardSets.{table_of, rows_of};
-ghost use Rattle.round_model.specs.NodeLists.{node_of, opening_nodes, messages_of_round, nodes_after_round, first_decision};
+ghost use Rattle.round_model.specs.NodeLists.{node_of, opening_nodes, messages_of_round};
+ghost use Rattle.round_model.specs.NodeLists.{nodes_after_round, first_decision};
 
 use crate::agreements::agreement;
 use crate::bounded_decisions::decided_by;
@@ -31,14 +33,19 @@ pub fn run_rounds(alloc: Global, config: &Config, heard: &Heard) -> Result<Vec<N
     ensures agreement { IfOk result (λ nodes. AgreeAll nodes.items) }
     ensures validity { IfOk result (λ nodes. AreInitialValues config.now nodes.items) }
     ensures decided { IfOk result
-        (λ nodes. (set first : ℕ) → IsInTouch config.now set (table_of heard.now) first (deciding_round config.now first) →
-        deciding_round config.now first ≤ heard.now.rounds → HaveDecided set (node_of nodes.items)) }
+        (λ nodes. (set first : ℕ)
+        → IsInTouch config.now set (table_of heard.now) first (deciding_round config.now first) →
+        deciding_round config.now first ≤ heard.now.rounds
+        → HaveDecided set (node_of nodes.items)) }
     ensures one_lock { IfOk result
-        (λ nodes. (set phase : ℕ) → IsWithin set config.now.n → 1 ≤ phase → heard.now.rounds ≡ 4 * phase →
+        (λ nodes. (set phase : ℕ) → IsWithin set config.now.n → 1 ≤ phase
+        → heard.now.rounds ≡ 4 * phase →
         HearsAllOf set (table_of heard.now) (4 * phase) → HoldOneValue set (node_of nodes.items)) }
     ensures proper { IfOk result
-        (λ nodes. (set phase : ℕ) → IsWithin set config.now.n → 1 ≤ phase → heard.now.rounds ≡ 4 * phase →
-        HearsAllOf set (table_of heard.now) (4 * phase) → LocksAreProper set (node_of nodes.items)) }
+        (λ nodes. (set phase : ℕ) → IsWithin set config.now.n → 1 ≤ phase
+        → heard.now.rounds ≡ 4 * phase →
+        HearsAllOf set (table_of heard.now) (4 * phase)
+        → LocksAreProper set (node_of nodes.items)) }
 {
     agreement();
     decided_by();

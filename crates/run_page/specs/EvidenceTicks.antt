@@ -1,5 +1,6 @@
 -- The ticks that show evidence (own).
-use Rattle.std.specs.Prelude.{ℕ, ◌≡◌, ◌+◌, ◌-◌, ◌/◌, ◌<◌, ◌≤◌, nat_lt, min, max, List, length, slice_get, Option, Some, None, option_map, option_and_then, if◌then◌else◌}
+use Rattle.std.specs.Prelude.{ℕ, ◌≡◌, ◌+◌, ◌-◌, ◌/◌, ◌<◌, ◌≤◌, nat_lt, min, max, List, length, slice_get}
+use Rattle.std.specs.Prelude.{Option, Some, None, option_map, option_and_then, if◌then◌else◌}
 use Rattle.step_trace.specs.declared.rows.Row.{Row}
 use Rattle.step_trace.specs.Traces.{Recorded}
 use Rattle.step_trace.specs.Ticks.{tick_of}
@@ -22,7 +23,8 @@ around_gap last s = record { first = s.gap.from - 1; to = min s.gap.to last + 1 
 abbrev pub miss_end : Recorded → Delay → Option ℕ → ℕ
 miss_end trace d None = tick_of trace d.miss.missed
 miss_end trace d (Some r) =
-    if nat_lt (tick_of trace r - tick_of trace d.miss.missed) (max d.ticks NEAR) then max (tick_of trace r) (tick_of trace d.miss.missed)
+    if nat_lt (tick_of trace r - tick_of trace d.miss.missed) (max d.ticks NEAR) then max (tick_of trace r)
+    (tick_of trace d.miss.missed)
     else tick_of trace d.miss.missed
 
 -- from the Send of a late message on
@@ -54,7 +56,8 @@ taker_of taken d = option_and_then (λ d. taken d.miss.sent) d
 
 -- the ticks that show evidence
 abbrev pub evidence_ticks : Recorded → Evidence → Span
-evidence_ticks trace e = padded trace.last (core_of trace e.stall e.delay (taker_of (taker trace.steps (length trace.steps)) e.delay))
+evidence_ticks trace e = padded trace.last
+    (core_of trace e.stall e.delay (taker_of (taker trace.steps (length trace.steps)) e.delay))
 
 -- the first of these ticks, as many as may be drawn
 abbrev pub drawn_first : Span → Window

@@ -9,11 +9,13 @@ joined texts = flat_map (λ text. text) texts
 
 -- one piece of so many, and several of them
 abbrev pub one_text : ℕ → List ℕ
-one_text all = joined (codes " <b>1 of the " ∷ count_text all ∷ codes " pieces of evidence below comes of that alone</b> and says little of the run." ∷ [])
+one_text all = joined (codes " <b>1 of the " ∷ count_text all
+    ∷ codes " pieces of evidence below comes of that alone</b> and says little of the run." ∷ [])
 
 abbrev pub some_text : ℕ → ℕ → List ℕ
 some_text made all =
-    joined (codes " <b>" ∷ count_text made ∷ codes " of the " ∷ count_text all ∷ codes " pieces of evidence below come of that alone</b> and say little of the run." ∷ [])
+    joined (codes " <b>" ∷ count_text made ∷ codes " of the " ∷ count_text all
+    ∷ codes " pieces of evidence below come of that alone</b> and say little of the run." ∷ [])
 
 -- all of them, some, or nothing if there is none
 abbrev pub made_text : ℕ → ℕ → List ℕ

@@ -1,5 +1,6 @@
 -- What the pieces of a phrase are as HTML (own).
-use Rattle.std.specs.Prelude.{ℕ, ◌==◌, ◌/◌, ◌%◌, ◌++◌, List, [], Option, Some, None, codes, decimal, if◌then◌else◌, is_none}
+use Rattle.std.specs.Prelude.{ℕ, ◌==◌, ◌/◌, ◌%◌, ◌++◌, List, [], Option, Some}
+use Rattle.std.specs.Prelude.{None, codes, decimal, if◌then◌else◌, is_none}
 use Rattle.std.specs.List.{flat_map}
 use Rattle.run_words.specs.Clocks.{amount_text, begin_text, from_text, time_of, time_point, time_text}
 use Rattle.run_words.specs.Digits.{count_text, digits_text}

@@ -1,6 +1,8 @@
--- Evidence by the clock, and which of it there is only because events were moved to later ticks (own). Times are those of a
+-- Evidence by the clock, and which of it there is only because events were moved to later ticks (own). Times are those
+-- of a
 -- table.
-use Rattle.std.specs.Prelude.{ℕ, ◌≡◌, ◌↔◌, ◌-◌, ◌+◌, ◌*◌, ◌<◌, Bool, IsTrue, List, Option, Some, None, option_map, slice_get, suc, zero, if◌then◌else◌}
+use Rattle.std.specs.Prelude.{ℕ, ◌≡◌, ◌↔◌, ◌-◌, ◌+◌, ◌*◌, ◌<◌, Bool, IsTrue, List, Option}
+use Rattle.std.specs.Prelude.{Some, None, option_map, slice_get, suc, zero, if◌then◌else◌}
 use Rattle.std.specs.Option.{option_and_then}
 use Rattle.step_trace.specs.Traces.{Recorded}
 use Rattle.step_tables.specs.Records.{time_at}
@@ -28,11 +30,13 @@ IsLessThanHalf width ticks time = 2 * time < ticks * width
 
 -- a silence of which the clock shows less than half
 abbrev pub IsSpreadStall : Recorded → List Said → ℕ → Stall → Type 0
-IsSpreadStall trace said width s = (time : ℕ) × Lasts trace said s time × IsLessThanHalf width (s.gap.to - (s.gap.from - 1)) time
+IsSpreadStall trace said width s = (time : ℕ) × Lasts trace said s time
+    × IsLessThanHalf width (s.gap.to - (s.gap.from - 1)) time
 
 -- a late message, from its Send to the Receive that misses it, likewise
 abbrev pub IsSpreadDelay : List Said → ℕ → Delay → Type 0
-IsSpreadDelay said width d = (time : ℕ) × (passed said d.miss.sent d.miss.missed ≡ Some time) × IsLessThanHalf width d.ticks time
+IsSpreadDelay said width d = (time : ℕ) × (passed said d.miss.sent d.miss.missed ≡ Some time)
+    × IsLessThanHalf width d.ticks time
 
 -- evidence is made by the spread alone if each part of it is
 abbrev pub IsSpread : Recorded → List Said → ℕ → Option Stall → Option Delay → Type 0
@@ -42,7 +46,8 @@ IsSpread trace said width None (Some d) = IsSpreadDelay said width d
 IsSpread trace said width None None = ⊥
 
 -- the evidence at place n is made by the spread alone just if the flag is set
-pub record IsSpreadAt (trace : Recorded) (said : List Said) (width : ℕ) (list : List Evidence) (n : ℕ) (made : Bool) : Type 0 where
+pub record IsSpreadAt (trace : Recorded) (said : List Said) (width : ℕ) (list : List Evidence) (n : ℕ)
+    (made : Bool) : Type 0 where
   pub evidence : Evidence
   pub there : slice_get list n ≡ Some evidence
   pub flag : IsTrue made ↔ IsSpread trace said width evidence.stall evidence.delay
@@ -51,4 +56,5 @@ pub record IsSpreadAt (trace : Recorded) (said : List Said) (width : ℕ) (list 
 abbrev pub IsSpreadCount : Recorded → List Said → ℕ → List Evidence → ℕ → ℕ → Type 0
 IsSpreadCount trace said width list zero count = count ≡ 0
 IsSpreadCount trace said width list (suc n) count = (before : ℕ) × (flag : Bool)
-    × IsSpreadCount trace said width list n before × IsSpreadAt trace said width list n flag × (count ≡ (if flag then before + 1 else before))
+    × IsSpreadCount trace said width list n before × IsSpreadAt trace said width list n flag
+    × (count ≡ (if flag then before + 1 else before))

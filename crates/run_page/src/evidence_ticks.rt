@@ -3,7 +3,8 @@
 ghost use Rattle.std.specs.Prelude.{◌≡◌, ℕ, IfOk, IfSome};
 ghost use Rattle.step_trace.specs.Fronts.{IsReport};
 ghost use Rattle.picture_marks.specs.Messages.{taker_in};
-ghost use Rattle.run_page.specs.EvidenceTicks.{IsEvidenceWindow, IsWindowOf, around_gap, around_miss, both, core_of, drawn_first, margin, miss_end, padded, taker_of};
+ghost use Rattle.run_page.specs.EvidenceTicks.{IsEvidenceWindow, IsWindowOf, around_gap, around_miss, both};
+ghost use Rattle.run_page.specs.EvidenceTicks.{core_of, drawn_first, margin, miss_end, padded, taker_of};
 
 use crate::scales::Span;
 use crate::scans::tick_at;
@@ -32,7 +33,8 @@ pub fn evidence_window(
     rows: &[Row],
 ) -> Result<Option<Window>, AllocError>
     ensures window { IfOk result (IsEvidenceWindow trace.now rows.now) }
-    ensures inside { IfOk result (λ w. (set : ℕ) → IsReport set trace.now rows.now → IfSome w (IsWindowOf trace.now.last)) }
+    ensures inside { IfOk result (λ w. (set : ℕ) → IsReport set trace.now rows.now
+        → IfSome w (IsWindowOf trace.now.last)) }
 {
     let evidence = evidence_of(alloc, trace, rows)?;
     let Some(first) = evidence.get(0) else {

@@ -63,7 +63,8 @@ impl<'a> Pen<'a> {
 
     /// Writes these pieces, one after the other.
     pub(crate) fn put(&mut self, pieces: &[Piece])
-        ensures { HasWritten (pieces_text (map (λ x. x.now) self.old.names.now) self.old.said.now self.old.clock pieces.now) self.old self.new }
+        ensures { HasWritten (pieces_text (map (λ x. x.now) self.old.names.now) self.old.said.now
+            self.old.clock pieces.now) self.old self.new }
     {
         if self.is_refused {
             return;

@@ -1,7 +1,10 @@
 //! The pieces of a phrase, and how each of them is written.
 
 ghost use Rattle.std.specs.Prelude.{◌≡◌, ◌≤◌, ◌<◌, ◌++◌, OnOk, codes, map, length, decimal};
-ghost use Rattle.run_page.specs.Pieces.{aside_text, begins_text, both_aside_text, bound_text, from_tick_text, in_tick_text, known_text, made_text, many_text, percent_text, piece_text, pieces_text, place_text, short_ticks_text, step_at_text, stepped_text, tick_aside_text, tick_text, ticks_text, told_tick_text};
+ghost use Rattle.run_page.specs.Pieces.{aside_text, begins_text, both_aside_text, bound_text, from_tick_text};
+ghost use Rattle.run_page.specs.Pieces.{in_tick_text, known_text, made_text, many_text, percent_text, piece_text};
+ghost use Rattle.run_page.specs.Pieces.{pieces_text, place_text, short_ticks_text, step_at_text, stepped_text};
+ghost use Rattle.run_page.specs.Pieces.{tick_aside_text, tick_text, ticks_text, told_tick_text};
 
 use crate::scales::Place;
 use run_words::{
@@ -74,7 +77,8 @@ pub(crate) fn push_pieces(
     clock: Option<Clock>,
     pieces: &[Piece],
 ) -> Result<(), AllocError>
-    ensures { OnOk result (out.new.items ≡ out.old.items ++ pieces_text (map (λ x. x.now) names.now) said.now clock pieces.now) }
+    ensures { OnOk result (out.new.items ≡ out.old.items
+        ++ pieces_text (map (λ x. x.now) names.now) said.now clock pieces.now) }
 {
     for piece in pieces {
         push_piece(out, names, said, clock, *piece)?;
@@ -89,7 +93,8 @@ fn push_piece(
     clock: Option<Clock>,
     piece: Piece,
 ) -> Result<(), AllocError>
-    ensures { OnOk result (out.new.items ≡ out.old.items ++ piece_text (map (λ x. x.now) names.now) said.now clock piece) }
+    ensures { OnOk result (out.new.items ≡ out.old.items
+        ++ piece_text (map (λ x. x.now) names.now) said.now clock piece) }
 {
     match piece {
         Piece::Text(text) => out.extend_from_slice(text.as_bytes()),

@@ -1,7 +1,8 @@
 //! Evidence by the clock, and which of it there is only because events were moved to later ticks.
 
 ghost use Rattle.std.specs.Prelude.{◌≡◌, ◌↔◌, ◌+◌, ◌<◌, ◌^◌, ℕ, IsTrue, Some, length, if◌then◌else◌};
-ghost use Rattle.run_page.specs.Spreads.{IsLessThanHalf, IsSpread, IsSpreadCount, IsSpreadDelay, IsSpreadStall, Lasts, passed};
+ghost use Rattle.run_page.specs.Spreads.{IsLessThanHalf, IsSpread, IsSpreadCount, IsSpreadDelay};
+ghost use Rattle.run_page.specs.Spreads.{IsSpreadStall, Lasts, passed};
 
 use crate::pens::Pen;
 use crate::pieces::Piece::{Node, Text, Ticks, Time};
@@ -40,7 +41,8 @@ fn plus(count: u64, counts: bool) -> u64
 /// Whether evidence is made by the spread alone: of each part of it the clock shows less than half of what the ticks
 /// say.
 fn is_spread(trace: &Trace, said: &[StepRow], width: u64, evidence: &Evidence) -> bool
-    ensures { IsTrue result ↔ IsSpread trace.now said.now width evidence.now.stall evidence.now.delay }
+    ensures { IsTrue result ↔ IsSpread trace.now said.now width evidence.now.stall
+        evidence.now.delay }
 {
     match (evidence.stall, evidence.delay) {
         (Some(stall), Some(delay)) => {

@@ -1,5 +1,6 @@
 -- How marks name steps, messages and bounds, with their times (own).
-use Rattle.std.specs.Prelude.{ℕ, ◌-◌, ◌==◌, ◌++◌, List, [], Option, Some, None, codes, decimal, if◌then◌else◌, length, nat_lt, take}
+use Rattle.std.specs.Prelude.{ℕ, ◌-◌, ◌==◌, ◌++◌, List, [], Option, Some, None, codes}
+use Rattle.std.specs.Prelude.{decimal, if◌then◌else◌, length, nat_lt, take}
 use Rattle.std.specs.List.{flat_map}
 use Rattle.step_tables.specs.Told.{Said}
 use Rattle.run_words.specs.Clocks.{amount_text, begin_text, time_of}

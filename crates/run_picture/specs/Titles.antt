@@ -23,7 +23,8 @@ subject_text w k = made_text (said_in w) w.clock k.no k.tick ++ (codes ": " ++ n
 -- the step is a Send to q
 abbrev pub send_title : Words → Made → ℕ → List ℕ
 send_title w k q =
-    subject_text w k ++ (codes " sends message " ++ (message_text (said_in w) k.no ++ (codes " to " ++ node_text (names_in w) q)))
+    subject_text w k
+    ++ (codes " sends message " ++ (message_text (said_in w) k.no ++ (codes " to " ++ node_text (names_in w) q)))
 
 -- the step is a Receive, which takes these messages
 abbrev pub ending_text : Bool → List ℕ
@@ -35,7 +36,9 @@ receive_title w k ends ids = subject_text w k ++ (codes " receives " ++ (ids_tex
 -- message s from p to q
 unfoldable pub way_text : Words → ℕ → ℕ → ℕ → List ℕ
 way_text w s p q =
-    codes "message " ++ (message_text (said_in w) s ++ (codes " from " ++ (node_text (names_in w) p ++ (codes " to " ++ node_text (names_in w) q))))
+    codes "message "
+    ++ (message_text (said_in w) s
+    ++ (codes " from " ++ (node_text (names_in w) p ++ (codes " to " ++ node_text (names_in w) q))))
 
 -- by which step it is sent
 unfoldable pub sent_text : List Said → Option Clock → Made → List ℕ
@@ -71,7 +74,9 @@ miss_title w k s p g n =
 abbrev pub gap_title : Words → Gap → ℕ → ℕ → List ℕ
 gap_title w gap g n =
     node_text (names_in w) gap.proc
-    ++ (codes " takes no step from " ++ (timed_text w.clock gap.from ++ (codes " to " ++ (timed_text w.clock gap.to ++ (codes ": " ++ phi_text w.clock g n)))))
+    ++ (codes " takes no step from "
+    ++ (timed_text w.clock gap.from
+    ++ (codes " to " ++ (timed_text w.clock gap.to ++ (codes ": " ++ phi_text w.clock g n)))))
 
 -- both bounds that hold from tick g on
 abbrev pub delta_is : List ℕ
@@ -81,7 +86,8 @@ abbrev pub phi_is : List ℕ
 phi_is = 44 ∷ 32 ∷ 206 ∷ 166 ∷ 32 ∷ 61 ∷ 32 ∷ []
 
 abbrev pub corner_title : Option Clock → ℕ → ℕ → ℕ → List ℕ
-corner_title clock g delta phi = codes "from " ++ (timed_text clock g ++ (delta_is ++ (bound_text clock delta ++ (phi_is ++ bound_text clock phi))))
+corner_title clock g delta phi = codes "from "
+    ++ (timed_text clock g ++ (delta_is ++ (bound_text clock delta ++ (phi_is ++ bound_text clock phi))))
 
 -- a strip has the steps of processor p in all ticks
 abbrev pub strip_title : Words → ℕ → List ℕ

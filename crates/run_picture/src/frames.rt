@@ -3,7 +3,8 @@
 ghost use Rattle.std.specs.Prelude.{◌≡◌, ◌≤◌, ◌<◌, ◌↔◌, ◌+◌, ◌-◌, ◌*◌, ◌/◌, ◌^◌, IsTrue, min};
 ghost use Rattle.step_trace.specs.Processors.{has_proc};
 ghost use Rattle.run_picture.specs.ShownLanes.{lane_number};
-ghost use Rattle.run_picture.specs.Places.{half_lane, half_tick, height_at, lane_middle, left_end, left_height, lost_height, right_end, right_height, tick_count, tick_edge, tick_middle};
+ghost use Rattle.run_picture.specs.Places.{half_lane, half_tick, height_at, lane_middle, left_end, left_height};
+ghost use Rattle.run_picture.specs.Places.{lost_height, right_end, right_height, tick_count, tick_edge, tick_middle};
 
 use crate::shown_lanes::lane_number;
 use picture_marks::{MAX_WINDOW, Window};

@@ -1,7 +1,8 @@
 //! How marks name steps, messages and bounds, with their times.
 
 ghost use Rattle.std.specs.Prelude.{◌≡◌, ◌++◌, OnOk, length};
-ghost use Rattle.run_picture.specs.MarkWords.{bound_text, ids_text, kind_text, made_text, more_text, named_text, step_at_text, time_text, timed_text};
+ghost use Rattle.run_picture.specs.MarkWords.{bound_text, ids_text, kind_text, made_text, more_text};
+ghost use Rattle.run_picture.specs.MarkWords.{named_text, step_at_text, time_text, timed_text};
 
 use run_words::{Clock, push_message, push_number, push_step};
 use std::alloc::AllocError;

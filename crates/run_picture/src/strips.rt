@@ -41,7 +41,8 @@ impl Strips {
     /// The strips of a picture of processors 1 to `processors`: none if its window has all ticks up to the last.
     pub(crate) fn of(picture: &Picture, processors: u64, last: u64) -> Self
         ensures shown { result.shown ≡ picture.now.lanes }
-        ensures count { result.count ≡ strip_count picture.now.window last (lane_number picture.now.lanes processors) }
+        ensures count { result.count ≡ strip_count picture.now.window last
+            (lane_number picture.now.lanes processors) }
     {
         let window = picture.window;
         let count = if window.first <= 1 && last <= window.to {

@@ -1,7 +1,9 @@
 //! What marks say of themselves to a reader who points there.
 
 ghost use Rattle.std.specs.Prelude.{◌≡◌, ◌++◌, OnOk};
-ghost use Rattle.run_picture.specs.Titles.{corner_title, delta_text, ending_text, gap_title, message_title, miss_title, missing_text, phi_text, receive_title, received_text, send_title, sent_text, strip_title, subject_text, way_text};
+ghost use Rattle.run_picture.specs.Titles.{corner_title, delta_text, ending_text, gap_title, message_title, miss_title};
+ghost use Rattle.run_picture.specs.Titles.{missing_text, phi_text, receive_title, received_text, send_title, sent_text};
+ghost use Rattle.run_picture.specs.Titles.{strip_title, subject_text, way_text};
 
 use crate::mark_words::{Words, push_bound, push_ids, push_made, push_step_at, push_timed};
 use run_words::{Clock, push_message, push_node, push_number};
@@ -50,7 +52,8 @@ pub(crate) fn push_receive_title(
     ends: bool,
     ids: &[u64],
 ) -> Result<(), AllocError>
-    ensures { OnOk result (out.new.items ≡ out.old.items ++ receive_title words.entry made ends ids.now) }
+    ensures { OnOk result (out.new.items ≡ out.old.items
+        ++ receive_title words.entry made ends ids.now) }
 {
     push_subject(out, words, made)?;
     out.extend_from_slice(b" receives ")?;
@@ -96,7 +99,8 @@ pub(crate) fn push_message_title(
     taken: Option<u64>,
     end: u64,
 ) -> Result<(), AllocError>
-    ensures { OnOk result (out.new.items ≡ out.old.items ++ message_title words.entry made to taken end) }
+    ensures { OnOk result (out.new.items ≡ out.old.items
+        ++ message_title words.entry made to taken end) }
 {
     push_way(out, words, made.no, made.processor, to)?;
     push_sent(out, words.said, words.clock, made)?;
@@ -126,7 +130,8 @@ fn push_received(
     taken: Option<u64>,
     tick: u64,
 ) -> Result<(), AllocError>
-    ensures { OnOk result (out.new.items ≡ out.old.items ++ received_text said.now clock taken tick) }
+    ensures { OnOk result (out.new.items ≡ out.old.items
+        ++ received_text said.now clock taken tick) }
 {
     let Some(taken) = taken else {
         return out.extend_from_slice(b"never received");
@@ -146,7 +151,8 @@ pub(crate) fn push_miss_title(
     gst: u64,
     delta: u64,
 ) -> Result<(), AllocError>
-    ensures { OnOk result (out.new.items ≡ out.old.items ++ miss_title words.entry missed sent from gst delta) }
+    ensures { OnOk result (out.new.items ≡ out.old.items
+        ++ miss_title words.entry missed sent from gst delta) }
 {
     push_way(out, words, sent, from, missed.processor)?;
     push_missing(out, words.said, words.clock, missed)?;

@@ -1,5 +1,7 @@
 -- Evidence is found in lists of delays that are in order.
-use Rattle.std.proofs.Common.{ℕ, ◌≡◌, ◌+◌, ◌-◌, ◌*◌, ◌<◌, ◌≤◌, ◌⊎◌, ◌==◌, ◌&&◌, ◌∙◌, inl, inr, not, Bool, true, false, cond, List, [], ◌∷◌, ◌++◌, length, get_or, map, filter, find, take, None, Some, refl, sym, subst, ap, suc, zero, arith}
+use Rattle.std.proofs.Common.{ℕ, ◌≡◌, ◌+◌, ◌-◌, ◌*◌, ◌<◌, ◌≤◌, ◌⊎◌, ◌==◌, ◌&&◌, ◌∙◌, inl, inr, not, Bool, true, false}
+use Rattle.std.proofs.Common.{cond, List, [], ◌∷◌, ◌++◌, length, get_or, map, filter, find, take, None, Some, refl, sym}
+use Rattle.std.proofs.Common.{subst, ap, suc, zero, arith}
 use Rattle.std.specs.Prelude.{AllPairs, nat_le, nat_lt, slice_get}
 use Rattle.std.specs.List.{list_any}
 use Rattle.std.specs.List.Sorted.{IsSortedByKey}

@@ -1,5 +1,7 @@
 -- The rows of a report: their bounds fit in the trace, and their stalls are whole silences.
-use Rattle.std.proofs.Common.{ℕ, ◌≡◌, ◌+◌, ◌-◌, ◌<◌, ◌≤◌, inl, inr, List, [], ◌∷◌, length, map, get_or, All, Contains, Option, None, Some, Bool, true, false, cond, ◌&&◌, refl, sym, subst, ap, ◌∙◌, suc, zero, arith}
+use Rattle.std.proofs.Common.{ℕ, ◌≡◌, ◌+◌, ◌-◌, ◌<◌, ◌≤◌, inl, inr, List, [], ◌∷◌, length, map, get_or, All, Contains}
+use Rattle.std.proofs.Common.{Option, None, Some, Bool, true, false, cond, ◌&&◌, refl, sym, subst, ap, ◌∙◌, suc, zero}
+use Rattle.std.proofs.Common.{arith}
 use Rattle.std.specs.Prelude.{IsSomeAnd, nat_le, slice_get}
 use Rattle.std.specs.List.Sorted.{IsStrictlyIncreasing}
 use Rattle.std.specs.Option.{option_and_then}
@@ -102,7 +104,9 @@ module _ (members : ℕ) (trace : Recorded) where
   begun-member : (rows : List Row) (g : ℕ) (q : Row) → last_begun rows g ≡ Some q → Contains rows q × (q.gst ≤ g)
   begun-member [] g q is = absurd (none-some q is)
   begun-member (r ∷ rest) g q is = go (last_begun rest g) refl (nat_le r.gst g) refl (λ y. begun-member rest g y) is where
-    go : (o : Option Row) → last_begun rest g ≡ o → (b : Bool) → nat_le r.gst g ≡ b → ((y : Row) → last_begun rest g ≡ Some y → Contains rest y × (y.gst ≤ g)) → first_of o (cond b (Some r) None) ≡ Some q → Contains (r ∷ rest) q × (q.gst ≤ g)
+    go : (o : Option Row) → last_begun rest g ≡ o → (b : Bool) → nat_le r.gst g ≡ b
+        → ((y : Row) → last_begun rest g ≡ Some y → Contains rest y × (y.gst ≤ g))
+        → first_of o (cond b (Some r) None) ≡ Some q → Contains (r ∷ rest) q × (q.gst ≤ g)
     go (Some y) e b t more f =
         let same : y ≡ q = same_Some y q f in
         let found = more q (e ∙ ap (λ (z : Row). Some z) same) in (Contains-rest r q rest found.0, found.1)

@@ -1,5 +1,6 @@
 -- Late messages as runs of rows that name their misses (own). Places of rows count from 0.
-use Rattle.std.specs.Prelude.{ℕ, ◌≡◌, ◌+◌, ◌-◌, ◌<◌, ◌≤◌, ◌⊎◌, ◌↔◌, ◌==◌, ◌&&◌, ◌||◌, Bool, not, nat_le, List, length, Option, Some, IsTrue, IsSome, IsSomeAnd, slice_get, if◌then◌else◌, suc, zero}
+use Rattle.std.specs.Prelude.{ℕ, ◌≡◌, ◌+◌, ◌-◌, ◌<◌, ◌≤◌, ◌⊎◌, ◌↔◌, ◌==◌, ◌&&◌, ◌||◌, Bool, not, nat_le, List, length}
+use Rattle.std.specs.Prelude.{Option, Some, IsTrue, IsSome, IsSomeAnd, slice_get, if◌then◌else◌, suc, zero}
 use Rattle.std.specs.Option.{option_and_then, option_map_or}
 use Rattle.step_trace.specs.declared.rows.Miss.{Miss}
 use Rattle.step_trace.specs.declared.rows.Row.{Row}
@@ -22,7 +23,8 @@ message_at rows k = option_map_or (λ m. m.sent) (miss_at rows k) 0
 -- sent no later than the Receive that misses the earlier one.
 abbrev pub are_alike : Recorded → Miss → Miss → Bool
 are_alike trace m o =
-    if is_taken trace.steps m.sent then is_taken trace.steps o.sent && nat_le (tick_of trace o.sent) (tick_of trace m.missed)
+    if is_taken trace.steps m.sent then is_taken trace.steps o.sent && nat_le (tick_of trace o.sent)
+    (tick_of trace m.missed)
     else not (is_taken trace.steps o.sent)
 
 -- what the messages of these rows have in common with message s
@@ -68,7 +70,8 @@ longer d s one_receiver one_sender = record {
 
 -- whether a miss goes on with a delay that then has one receiver, or one sender
 abbrev pub goes_on : Recorded → Miss → Miss → Bool → Bool → Bool
-goes_on trace m o one_receiver one_sender = are_alike trace m o && (not (is_taken trace.steps m.sent) || (one_receiver || one_sender))
+goes_on trace m o one_receiver one_sender =
+    are_alike trace m o && (not (is_taken trace.steps m.sent) || (one_receiver || one_sender))
 
 -- and no such run from the first row is longer
 pub record IsDelay (trace : Recorded) (rows : List Row) (d : Delay) : Type 0 where
@@ -77,7 +80,8 @@ pub record IsDelay (trace : Recorded) (rows : List Row) (d : Delay) : Type 0 whe
 
 -- the delays of rows that end before place n: each row before it with a miss is in one
 abbrev pub AreDelaysTo : Recorded → List Row → ℕ → List Delay → Type 0
-AreDelaysTo trace rows n delays = AreStretches Delay (λ d. d.first) (λ d. d.last) (IsDelay trace rows) (λ k. IsSome (miss_at rows k)) n delays
+AreDelaysTo trace rows n delays = AreStretches Delay (λ d. d.first) (λ d. d.last) (IsDelay trace rows)
+    (λ k. IsSome (miss_at rows k)) n delays
 
 -- the delays of rows
 abbrev pub AreDelays : Recorded → List Row → List Delay → Type 0
@@ -86,4 +90,5 @@ AreDelays trace rows delays = AreDelaysTo trace rows (length rows) delays
 -- delays each of which ends before the next begins
 pub record AreInOrder (delays : List Delay) : Type 0 where
   pub each : (k : ℕ) (d : Delay) → slice_get delays k ≡ Some d → d.first ≤ d.last
-  pub ordered : (j k : ℕ) (c d : Delay) → j < k → slice_get delays j ≡ Some c → slice_get delays k ≡ Some d → c.last < d.first
+  pub ordered : (j k : ℕ) (c d : Delay) → j < k → slice_get delays j ≡ Some c → slice_get delays k ≡ Some d
+      → c.last < d.first

@@ -1,5 +1,6 @@
 -- The silence that ended shortly before a message was missed (own). Places of evidence count from 0.
-use Rattle.std.specs.Prelude.{ℕ, ◌-◌, ◌+◌, ◌*◌, ◌==◌, ◌&&◌, ◌||◌, Bool, false, nat_le, nat_lt, List, length, Option, Some, None}
+use Rattle.std.specs.Prelude.{ℕ, ◌-◌, ◌+◌, ◌*◌, ◌==◌, ◌&&◌, ◌||◌, Bool, false, nat_le}
+use Rattle.std.specs.Prelude.{nat_lt, List, length, Option, Some, None}
 use Rattle.std.specs.Option.{option_map_or}
 use Rattle.step_trace.specs.Ticks.{tick_of}
 use Rattle.step_trace.specs.Traces.{Recorded}

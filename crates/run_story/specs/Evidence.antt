@@ -1,5 +1,6 @@
 -- Evidence: silences with the late messages that they explain, and the other late messages (own).
-use Rattle.std.specs.Prelude.{ℕ, ◌≡◌, ◌-◌, ◌*◌, ◌<◌, ◌≤◌, ◌⊎◌, ◌==◌, ◌&&◌, Bool, false, not, nat_le, min, max, List, ◌++◌, map, filter, find, AllPairs, Option, Some, None}
+use Rattle.std.specs.Prelude.{ℕ, ◌≡◌, ◌-◌, ◌*◌, ◌<◌, ◌≤◌, ◌⊎◌, ◌==◌, ◌&&◌, Bool, false, not, nat_le}
+use Rattle.std.specs.Prelude.{min, max, List, ◌++◌, map, filter, find, AllPairs, Option, Some, None}
 use Rattle.std.specs.List.{list_any}
 use Rattle.std.specs.List.Sorted.{IsPermutation}
 use Rattle.std.specs.Option.{option_map_or}
@@ -59,7 +60,8 @@ all_evidence trace stalls delays =
 
 -- the length of its gap or of its miss, the longer of the two, in ticks; none in a trace is above MAX_TICKS
 abbrev pub ticks_of : Evidence → ℕ
-ticks_of e = min MAX_TICKS (max (option_map_or (λ s. s.gap.to - (s.gap.from - 1)) e.stall 0) (option_map_or (λ d. d.ticks) e.delay 0))
+ticks_of e = min MAX_TICKS
+    (max (option_map_or (λ s. s.gap.to - (s.gap.from - 1)) e.stall 0) (option_map_or (λ d. d.ticks) e.delay 0))
 
 -- the earlier first row comes first, and of one first row the longer evidence
 abbrev pub IsBefore : Evidence → Evidence → Type 0

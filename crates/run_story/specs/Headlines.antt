@@ -1,5 +1,6 @@
 -- What a page says first about a run (own).
-use Rattle.std.specs.Prelude.{ℕ, ◌-◌, ◌&&◌, ◌||◌, ◌==◌, Bool, false, not, nat_le, nat_lt, List, length, Option, Some, None, slice_index_or, suc, zero, if◌then◌else◌}
+use Rattle.std.specs.Prelude.{ℕ, ◌-◌, ◌&&◌, ◌||◌, ◌==◌, Bool, false, not, nat_le, nat_lt, List, length}
+use Rattle.std.specs.Prelude.{Option, Some, None, slice_index_or, suc, zero, if◌then◌else◌}
 use Rattle.std.specs.Option.{option_map_or}
 use Rattle.step_trace.specs.declared.rows.Row.{Row}
 use Rattle.step_trace.specs.declared.steps.Step.{Step}
@@ -24,12 +25,14 @@ is_between set steps s = has_proc set (sender_of steps s) && has_proc set (recei
 -- whether, of the first n messages, one is sent in tick g or later between members
 abbrev pub sends_from : ℕ → Recorded → ℕ → ℕ → Bool
 sends_from set trace g zero = false
-sends_from set trace g (suc n) = (is_between set trace.steps (suc n) && nat_le g (tick_of trace (suc n))) || sends_from set trace g n
+sends_from set trace g (suc n) = (is_between set trace.steps (suc n) && nat_le g (tick_of trace (suc n))) ||
+    sends_from set trace g n
 
 -- the last of the first n steps that is one of p
 abbrev pub last_step_of : ℕ → List Step → ℕ → Option ℕ
 last_step_of p steps zero = None
-last_step_of p steps (suc n) = if option_map_or (λ x. x.proc == p) (step_at steps (suc n)) false then Some (suc n) else last_step_of p steps n
+last_step_of p steps (suc n) = if option_map_or (λ x. x.proc == p) (step_at steps (suc n)) false then Some
+    (suc n) else last_step_of p steps n
 
 -- whether the gap of a row lasts to the end, and its processor bound is no smaller than the other
 abbrev pub is_silent_to_end : ℕ → Row → Bool
@@ -42,7 +45,8 @@ is_lost_in steps r = option_map_or (λ m. not (is_taken steps m.sent)) r.miss fa
 -- the headline of a run that isn't short, and whose calm row is poor
 abbrev pub poor_headline : Recorded → Row → Headline
 poor_headline trace r =
-    if is_silent_to_end trace.last r then said.SilentToEnd (option_map_or (λ w. w.proc) r.gap 0) (last_step_of (option_map_or (λ w. w.proc) r.gap 0) trace.steps (length trace.steps))
+    if is_silent_to_end trace.last r then said.SilentToEnd (option_map_or (λ w. w.proc) r.gap 0)
+    (last_step_of (option_map_or (λ w. w.proc) r.gap 0) trace.steps (length trace.steps))
     else if is_lost_in trace.steps r then said.NeverReceived
     else if nat_le r.delta r.phi then said.Silence (r.phi - 1)
     else said.Late (r.delta - 1)

@@ -1,5 +1,6 @@
 -- The few receivers of most lost messages (own).
-use Rattle.std.specs.Prelude.{ℕ, ◌≡◌, ◌+◌, ◌*◌, ◌≤◌, ◌&&◌, ◌||◌, ◌==◌, ◌++◌, ◌∷◌, Bool, nat_le, nat_lt, List, [], length, slice_index_or, suc, zero, if◌then◌else◌}
+use Rattle.std.specs.Prelude.{ℕ, ◌≡◌, ◌+◌, ◌*◌, ◌≤◌, ◌&&◌, ◌||◌, ◌==◌, ◌++◌, ◌∷◌, Bool, nat_le, nat_lt}
+use Rattle.std.specs.Prelude.{List, [], length, slice_index_or, suc, zero, if◌then◌else◌}
 use Rattle.step_trace.specs.Processors.{has_proc}
 use Rattle.step_trace.specs.Traces.{Recorded}
 use Rattle.run_story.specs.declared.losses.LostReceivers.{LostReceivers}
@@ -22,7 +23,8 @@ sum_to share (suc n) = sum_to share n + share (suc n)
 
 -- whether q comes before p: more are for it, or as many and its number is smaller
 abbrev pub comes_before : List ℕ → ℕ → ℕ → Bool
-comes_before counts p q = nat_lt (count_at counts p) (count_at counts q) || (count_at counts q == count_at counts p && nat_lt q p)
+comes_before counts p q = nat_lt (count_at counts p) (count_at counts q) ||
+    (count_at counts q == count_at counts p && nat_lt q p)
 
 -- how many are for q, if it comes before p
 abbrev pub share_before : List ℕ → ℕ → ℕ → ℕ
@@ -39,7 +41,8 @@ share_needed n counts p = if is_needed n counts p then count_at counts p else 0
 -- those of the first k processors that are
 abbrev pub needed_to : ℕ → List ℕ → ℕ → List ℕ
 needed_to n counts zero = []
-needed_to n counts (suc k) = if is_needed n counts (suc k) then needed_to n counts k ++ suc k ∷ [] else needed_to n counts k
+needed_to n counts (suc k) = if is_needed n counts (suc k) then needed_to n counts k
+    ++ suc k ∷ [] else needed_to n counts k
 
 -- whether enough are lost, and so many receivers are few among so many members
 abbrev pub are_few : ℕ → List ℕ → ℕ → ℕ → Bool

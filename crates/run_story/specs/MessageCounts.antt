@@ -1,5 +1,6 @@
 -- How many messages are never taken (own).
-use Rattle.std.specs.Prelude.{ℕ, ◌+◌, ◌&&◌, ◌==◌, Bool, false, not, nat_lt, List, length, Option, Some, None, slice_index_or, suc, zero, if◌then◌else◌}
+use Rattle.std.specs.Prelude.{ℕ, ◌+◌, ◌&&◌, ◌==◌, Bool, false, not, nat_lt, List, length, Option}
+use Rattle.std.specs.Prelude.{Some, None, slice_index_or, suc, zero, if◌then◌else◌}
 use Rattle.std.specs.Option.{option_map_or}
 use Rattle.step_trace.specs.declared.steps.Step.{Step}
 use Rattle.step_trace.specs.PushRefusals.{is_taken}
@@ -17,7 +18,8 @@ is_receive_at p steps k = option_map_or (λ x. not (act_sends x.act) && x.proc =
 -- the tick of the last Receive of p among the first n steps; 0 if there is none
 abbrev pub last_receive : ℕ → Recorded → ℕ → ℕ
 last_receive p trace zero = 0
-last_receive p trace (suc n) = if is_receive_at p trace.steps (suc n) then tick_of trace (suc n) else last_receive p trace n
+last_receive p trace (suc n) = if is_receive_at p trace.steps (suc n) then tick_of trace
+    (suc n) else last_receive p trace n
 
 -- the tick of this processor in a list of ticks
 abbrev pub tick_in : List ℕ → ℕ → ℕ

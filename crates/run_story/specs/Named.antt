@@ -1,5 +1,6 @@
 -- Which evidence each row names (own). Places of rows and of evidence count from 0.
-use Rattle.std.specs.Prelude.{ℕ, ◌≡◌, ◌<◌, ◌&&◌, Bool, true, false, nat_le, not, ◌==◌, ◌++◌, ◌∷◌, [], suc, zero, List, length, Option, Some, None, slice_get, slice_index_or, if◌then◌else◌}
+use Rattle.std.specs.Prelude.{ℕ, ◌≡◌, ◌<◌, ◌&&◌, Bool, true, false, nat_le, not, ◌==◌, ◌++◌, ◌∷◌, [], suc, zero}
+use Rattle.std.specs.Prelude.{List, length, Option, Some, None, slice_get, slice_index_or, if◌then◌else◌}
 use Rattle.std.specs.Option.{option_map_or}
 use Rattle.run_story.specs.declared.delays.Delay.{Delay}
 use Rattle.run_story.specs.declared.evidence.Evidence.{Evidence}
@@ -34,11 +35,13 @@ named_at named k = slice_index_or named k (record { miss = None; gap = None })
 
 -- what is named at place k, with evidence of this place for the gap if its stall has row k
 abbrev pub with_gap : Named → Option Stall → ℕ → ℕ → Named
-with_gap x stall k place = if option_map_or (λ s. is_from_to s.first s.last k) stall false then record { miss = x.miss; gap = Some place } else x
+with_gap x stall k place = if option_map_or (λ s. is_from_to s.first s.last k) stall false
+    then record { miss = x.miss; gap = Some place } else x
 
 -- and for the miss if its delay has
 abbrev pub with_miss : Named → Option Delay → ℕ → ℕ → Named
-with_miss x delay k place = if option_map_or (λ d. is_from_to d.first d.last k) delay false then record { miss = Some place; gap = x.gap } else x
+with_miss x delay k place = if option_map_or (λ d. is_from_to d.first d.last k) delay false
+    then record { miss = Some place; gap = x.gap } else x
 
 -- for each of so many rows the evidence that it names, of that before place n
 pub record AreNamedBelow (rows : ℕ) (list : List Evidence) (n : ℕ) (named : List Named) : Type 0 where
@@ -60,7 +63,8 @@ same_place None (Some b) = false
 abbrev pub begins : List Named → ℕ → Bool
 begins named zero = true
 begins named (suc k) =
-    not (same_place (named_at named k).miss (named_at named (suc k)).miss && same_place (named_at named k).gap (named_at named (suc k)).gap)
+    not (same_place (named_at named k).miss (named_at named (suc k)).miss && same_place (named_at named k).gap
+    (named_at named (suc k)).gap)
 
 -- the rows before place n that do
 abbrev pub brief_to : List Named → ℕ → List ℕ

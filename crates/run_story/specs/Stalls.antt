@@ -30,7 +30,8 @@ pub record IsStall (rows : List Row) (s : Stall) : Type 0 where
 
 -- the stalls of rows that end before place n: each row before it with a gap is in one
 abbrev pub AreStallsTo : List Row → ℕ → List Stall → Type 0
-AreStallsTo rows n stalls = AreStretches Stall (λ s. s.first) (λ s. s.last) (IsStall rows) (λ k. IsSome (gap_at rows k)) n stalls
+AreStallsTo rows n stalls = AreStretches Stall (λ s. s.first) (λ s. s.last) (IsStall rows)
+    (λ k. IsSome (gap_at rows k)) n stalls
 
 -- the stalls of rows
 abbrev pub AreStalls : List Row → List Stall → Type 0

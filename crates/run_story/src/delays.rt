@@ -1,6 +1,7 @@
 //! Late messages as runs of rows that name their misses.
 
-ghost use Rattle.std.specs.Prelude.{◌≡◌, ◌+◌, ◌-◌, ◌<◌, ◌≤◌, ◌^◌, ◌&&◌, ◌==◌, ℕ, IfOk, IfSome, MatchOption, None, length};
+ghost use Rattle.std.specs.Prelude.{◌≡◌, ◌+◌, ◌-◌, ◌<◌, ◌≤◌, ◌^◌, ◌&&◌, ◌==◌, ℕ};
+ghost use Rattle.std.specs.Prelude.{IfOk, IfSome, MatchOption, None, length};
 ghost use Rattle.step_trace.specs.PushRefusals.{is_taken};
 ghost use Rattle.run_story.specs.Messages.{flag_at, receiver_of, sender_of};
 ghost use Rattle.run_story.specs.Delays.{AreDelays, IsDelay, IsDelayUpTo, are_alike, goes_on, longer, miss_at};
@@ -57,7 +58,8 @@ pub fn delays_of(alloc: Global, trace: &Trace, rows: &[Row]) -> Result<Vec<Delay
 /// The delay whose first row is at this place, if that has a miss.
 fn delay_from(trace: &Trace, taken: &[bool], rows: &[Row], first: usize) -> Option<Delay>
     requires { (s : ℕ) → flag_at taken.now s ≡ is_taken trace.now.steps s }
-    ensures delay { MatchOption result (miss_at rows.now first ≡ None) (IsDelay trace.now rows.now) }
+    ensures delay { MatchOption result (miss_at rows.now first ≡ None)
+        (IsDelay trace.now rows.now) }
     ensures first { MatchOption result (miss_at rows.now first ≡ None) (λ d. d.first ≡ first) }
 {
     let mut delay = of_row(trace, rows, first)?;
@@ -69,8 +71,10 @@ fn delay_from(trace: &Trace, taken: &[bool], rows: &[Row], first: usize) -> Opti
 
 /// The delay of the row at this place alone, if that has a miss.
 fn of_row(trace: &Trace, rows: &[Row], first: usize) -> Option<Delay>
-    ensures run { MatchOption result (miss_at rows.now first ≡ None) (IsDelayUpTo trace.now rows.now) }
-    ensures first { MatchOption result (miss_at rows.now first ≡ None) (λ d. (d.first ≡ first) × (d.last ≡ first) × (d.messages ≡ 1)) }
+    ensures run { MatchOption result (miss_at rows.now first ≡ None)
+        (IsDelayUpTo trace.now rows.now) }
+    ensures first { MatchOption result (miss_at rows.now first ≡ None)
+        (λ d. (d.first ≡ first) × (d.last ≡ first) × (d.messages ≡ 1)) }
 {
     let miss = miss_at(rows, first)?;
     Some(Delay {
@@ -91,8 +95,10 @@ fn with_next(trace: &Trace, taken: &[bool], rows: &[Row], delay: Delay) -> Optio
     requires taken { (s : ℕ) → flag_at taken.now s ≡ is_taken trace.now.steps s }
     requires run { IsDelayUpTo trace.now rows.now delay }
     requires few { delay.messages ≤ delay.last - delay.first + 1 }
-    ensures run { MatchOption result ((o : Delay) → IsDelayUpTo trace.now rows.now o → o.first ≡ delay.first → o.last ≤ delay.last) (IsDelayUpTo trace.now rows.now) }
-    ensures next { IfSome result (λ o. (o.first ≡ delay.first) × (o.last ≡ delay.last + 1) × (o.messages ≤ o.last - o.first + 1)) }
+    ensures run { MatchOption result ((o : Delay) → IsDelayUpTo trace.now rows.now o
+        → o.first ≡ delay.first → o.last ≤ delay.last) (IsDelayUpTo trace.now rows.now) }
+    ensures next { IfSome result (λ o. (o.first ≡ delay.first) × (o.last ≡ delay.last + 1)
+        × (o.messages ≤ o.last - o.first + 1)) }
 {
     let next = miss_at(rows, delay.last + 1)?;
     let one_receiver = with_receiver(trace, delay, next.sent);
@@ -134,7 +140,8 @@ fn with_receiver(trace: &Trace, delay: Delay, s: u64) -> bool
 
 /// Whether the delay has one sender, and message `s` comes from there too.
 fn with_sender(trace: &Trace, delay: Delay, s: u64) -> bool
-    ensures { result ≡ (delay.one_sender && sender_of trace.now.steps s == sender_of trace.now.steps delay.miss.sent) }
+    ensures { result ≡ (delay.one_sender && sender_of trace.now.steps s == sender_of trace.now.steps
+        delay.miss.sent) }
 {
     delay.one_sender && sender_of(trace, s) == sender_of(trace, delay.miss.sent)
 }

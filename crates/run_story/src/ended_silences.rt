@@ -1,7 +1,8 @@
 //! Silences that ended shortly before a message was missed.
 
 ghost use Rattle.std.specs.Prelude.{◌≡◌};
-ghost use Rattle.run_story.specs.EndedSilences.{IsFirstPlace, ended_shortly, is_much_longer, is_of_pair, matters, may_matter};
+ghost use Rattle.run_story.specs.EndedSilences.{IsFirstPlace, ended_shortly, is_much_longer};
+ghost use Rattle.run_story.specs.EndedSilences.{is_of_pair, matters, may_matter};
 
 use crate::delays::Delay;
 use crate::evidence::Evidence;

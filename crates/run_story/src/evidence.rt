@@ -5,7 +5,8 @@ ghost use Rattle.std.specs.List.{list_any};
 ghost use Rattle.run_story.specs.Delays.{AreInOrder};
 ghost use Rattle.run_story.specs.Stalls.{AreStalls};
 ghost use Rattle.run_story.specs.Messages.{flag_at};
-ghost use Rattle.run_story.specs.Evidence.{AreEvidence, alone, explained, explains, has_delay, other_evidence, shared_ticks, stall_evidence, with_delay};
+ghost use Rattle.run_story.specs.Evidence.{AreEvidence, alone, explained, explains, has_delay, other_evidence};
+ghost use Rattle.run_story.specs.Evidence.{shared_ticks, stall_evidence, with_delay};
 
 use crate::delays::{Delay, delays_of};
 use crate::messages::{flag_at, tick_at};
@@ -93,7 +94,8 @@ fn first_from(delays: &[Delay], from: usize, row: usize) -> usize
     requires { from ≤ length delays.now }
     ensures low { from ≤ result }
     ensures high { result ≤ length delays.now }
-    ensures before { (k : ℕ) (d : Delay) → from ≤ k → k < result → slice_get delays.now k ≡ Some d → d.last < row }
+    ensures before { (k : ℕ) (d : Delay) → from ≤ k → k < result → slice_get delays.now k ≡ Some d
+        → d.last < row }
 {
     for k in from..delays.len() {
         if delays[k].last >= row {
@@ -106,7 +108,8 @@ fn first_from(delays: &[Delay], from: usize, row: usize) -> usize
 /// The first delay that the stall explains. Those before place `from` end before its first row.
 fn explained(trace: &Trace, delays: &[Delay], from: usize, stall: Stall) -> Option<Delay>
     requires from { from ≤ length delays.now }
-    requires before { (k : ℕ) (d : Delay) → k < from → slice_get delays.now k ≡ Some d → d.last < stall.first }
+    requires before { (k : ℕ) (d : Delay) → k < from → slice_get delays.now k ≡ Some d
+        → d.last < stall.first }
     requires order { AreInOrder delays.now }
     ensures { result ≡ explained trace.now delays.now stall }
 {
@@ -169,7 +172,8 @@ fn push_others(
     list: &mut Vec<Evidence>,
 ) -> Result<(), AllocError>
     requires { (k : ℕ) (d : Delay) → slice_get delays.now k ≡ Some d → d.first < length rows.now }
-    ensures { OnOk result (list.new.items ≡ list.old.items ++ other_evidence list.old.items delays.now) }
+    ensures { OnOk result (list.new.items ≡ list.old.items
+        ++ other_evidence list.old.items delays.now) }
 {
     let has_delay = delay_flags(alloc, rows.len(), list)?;
     for i in 0..delays.len() {
@@ -183,7 +187,8 @@ fn push_others(
 
 /// For each of so many rows whether the list has the delay whose first row it is.
 fn delay_flags(alloc: Global, rows: usize, list: &[Evidence]) -> Result<Vec<bool>, AllocError>
-    ensures { IfOk result (λ flags. (k : ℕ) → k < rows → flag_at flags.items k ≡ list_any (has_delay k) list.now) }
+    ensures { IfOk result (λ flags. (k : ℕ) → k < rows
+        → flag_at flags.items k ≡ list_any (has_delay k) list.now) }
 {
     let mut flags = vec![in alloc; false; rows]?;
     for i in 0..list.len() {
@@ -195,7 +200,8 @@ fn delay_flags(alloc: Global, rows: usize, list: &[Evidence]) -> Result<Vec<bool
 /// Sets the flag of the first row of the evidence's delay.
 fn mark_delay(flags: &mut Vec<bool>, evidence: &Evidence)
     ensures len { length flags.new.items ≡ length flags.old.items }
-    ensures flags { (k : ℕ) → k < length flags.old.items → flag_at flags.new.items k ≡ (flag_at flags.old.items k || has_delay k evidence.now) }
+    ensures flags { (k : ℕ) → k < length flags.old.items
+        → flag_at flags.new.items k ≡ (flag_at flags.old.items k || has_delay k evidence.now) }
 {
     if let Some(delay) = evidence.delay {
         if delay.first < flags.len() {

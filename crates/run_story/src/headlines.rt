@@ -8,7 +8,8 @@ ghost use Rattle.step_trace.specs.Traces.{step_at};
 ghost use Rattle.step_trace.specs.PushRefusals.{is_taken};
 ghost use Rattle.run_story.specs.CalmRows.{FitsIn};
 ghost use Rattle.run_story.specs.Messages.{ids_at};
-ghost use Rattle.run_story.specs.Headlines.{headline_of, is_between, is_lost_in, is_silent_to_end, last_step_of, poor_headline, row_in, sends_from};
+ghost use Rattle.run_story.specs.Headlines.{headline_of, is_between, is_lost_in, is_silent_to_end};
+ghost use Rattle.run_story.specs.Headlines.{last_step_of, poor_headline, row_in, sends_from};
 
 use crate::calm::is_poor;
 use crate::messages::{receiver_of, sender_of, tick_at};
@@ -53,7 +54,8 @@ pub fn headline_of(
 ) -> Headline
     requires report { IsReport set trace.now rows.now }
     requires calm { calm < length rows.now }
-    ensures { result ≡ headline_of set trace.now (row_in rows.now 0) (row_in rows.now calm) is_given }
+    ensures { result ≡ headline_of set trace.now (row_in rows.now 0)
+        (row_in rows.now calm) is_given }
 {
     let _last = trace.last_tick();
     headline_from(trace, set, &rows[0], &rows[calm], is_given)

@@ -5,7 +5,8 @@ ghost use Rattle.step_trace.specs.declared.processors.TheConstants.{MAX_MEMBER};
 ghost use Rattle.step_trace.specs.declared.traces.TheConstants.{MAX_STEPS};
 ghost use Rattle.step_trace.specs.Processors.{IsWithin, has_proc};
 ghost use Rattle.run_story.specs.MessageCounts.{count_of};
-ghost use Rattle.run_story.specs.Losses.{AreFewOf, AreLostReceivers, are_few, comes_before, count_at, is_needed, lost_for, needed_to, share_before, share_needed, sum_to};
+ghost use Rattle.run_story.specs.Losses.{AreFewOf, AreLostReceivers, are_few, comes_before, count_at, is_needed};
+ghost use Rattle.run_story.specs.Losses.{lost_for, needed_to, share_before, share_needed, sum_to};
 
 use crate::message_counts::{is_lost, last_receives, plus};
 use crate::messages::{receiver_of, taken_messages};
@@ -50,8 +51,10 @@ pub fn lost_receivers(
 /// For each processor how many lost messages are for it.
 fn lost_counts(alloc: Global, trace: &Trace, set: ProcSet) -> Result<Vec<u64>, AllocError>
     requires { IsWithin set trace.now.config.n }
-    ensures each { IfOk result (λ counts. (p : ℕ) → p ≤ trace.now.config.n → count_at counts.items p ≡ lost_for set trace.now p (length trace.now.steps)) }
-    ensures limit { IfOk result (λ counts. (p : ℕ) → p ≤ trace.now.config.n → count_at counts.items p ≤ MAX_STEPS) }
+    ensures each { IfOk result (λ counts. (p : ℕ) → p ≤ trace.now.config.n
+        → count_at counts.items p ≡ lost_for set trace.now p (length trace.now.steps)) }
+    ensures limit { IfOk result (λ counts. (p : ℕ) → p ≤ trace.now.config.n
+        → count_at counts.items p ≤ MAX_STEPS) }
 {
     let taken = taken_messages(alloc, trace)?;
     let lasts = last_receives(alloc, trace)?;
@@ -69,7 +72,9 @@ fn note_lost(counts: &mut Vec<u64>, to: u64, lost: bool)
     requires { (p : ℕ) → p < length counts.old.items → count_at counts.old.items p < MAX_STEPS }
     ensures len { length counts.new.items ≡ length counts.old.items }
     ensures counts { (p : ℕ) → p < length counts.old.items
-        → count_at counts.new.items p ≡ (if lost && to == p then count_at counts.old.items p + 1 else count_at counts.old.items p) }
+        → count_at counts.new.items p
+        ≡ (if lost && to == p then count_at counts.old.items p + 1 else count_at
+        counts.old.items p) }
 {
     let count = count_at(counts, to);
     if lost && to < counts.len() as u64 {

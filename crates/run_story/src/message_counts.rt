@@ -5,7 +5,8 @@ ghost use Rattle.step_trace.specs.Processors.{IsWithin};
 ghost use Rattle.step_trace.specs.PushRefusals.{is_taken};
 ghost use Rattle.step_trace.specs.Ticks.{tick_of};
 ghost use Rattle.run_story.specs.Messages.{flag_at, receiver_of};
-ghost use Rattle.run_story.specs.MessageCounts.{is_lost, is_missed, is_receive_at, is_under_way, is_untaken, last_receive, message_counts, tick_in};
+ghost use Rattle.run_story.specs.MessageCounts.{is_lost, is_missed, is_receive_at, is_under_way, is_untaken};
+ghost use Rattle.run_story.specs.MessageCounts.{last_receive, message_counts, tick_in};
 
 use crate::headlines::is_between;
 use crate::messages::{flag_at, receiver_of, taken_messages, tick_at};
@@ -43,7 +44,8 @@ pub fn count_messages(
 fn counted(trace: &Trace, set: ProcSet, taken: &[bool], lasts: &[u64]) -> MessageCounts
     requires within { IsWithin set trace.now.config.n }
     requires taken { (s : ℕ) → flag_at taken.now s ≡ is_taken trace.now.steps s }
-    requires lasts { (p : ℕ) → p ≤ trace.now.config.n → tick_in lasts.now p ≡ last_receive p trace.now (length trace.now.steps) }
+    requires lasts { (p : ℕ) → p ≤ trace.now.config.n
+        → tick_in lasts.now p ≡ last_receive p trace.now (length trace.now.steps) }
     ensures { result ≡ message_counts set trace.now }
 {
     let mut counts = MessageCounts {
@@ -84,7 +86,8 @@ fn latest(before: Option<u64>, no: u64, counts: bool) -> Option<u64>
 pub(crate) fn is_lost(trace: &Trace, set: ProcSet, taken: &[bool], lasts: &[u64], no: u64) -> bool
     requires within { IsWithin set trace.now.config.n }
     requires taken { (s : ℕ) → flag_at taken.now s ≡ is_taken trace.now.steps s }
-    requires lasts { (p : ℕ) → p ≤ trace.now.config.n → tick_in lasts.now p ≡ last_receive p trace.now (length trace.now.steps) }
+    requires lasts { (p : ℕ) → p ≤ trace.now.config.n
+        → tick_in lasts.now p ≡ last_receive p trace.now (length trace.now.steps) }
     ensures { result ≡ is_lost set trace.now no }
 {
     if !is_untaken(trace, set, taken, no) {
@@ -97,7 +100,8 @@ pub(crate) fn is_lost(trace: &Trace, set: ProcSet, taken: &[bool], lasts: &[u64]
 fn is_under_way(trace: &Trace, set: ProcSet, taken: &[bool], lasts: &[u64], no: u64) -> bool
     requires within { IsWithin set trace.now.config.n }
     requires taken { (s : ℕ) → flag_at taken.now s ≡ is_taken trace.now.steps s }
-    requires lasts { (p : ℕ) → p ≤ trace.now.config.n → tick_in lasts.now p ≡ last_receive p trace.now (length trace.now.steps) }
+    requires lasts { (p : ℕ) → p ≤ trace.now.config.n
+        → tick_in lasts.now p ≡ last_receive p trace.now (length trace.now.steps) }
     ensures { result ≡ is_under_way set trace.now no }
 {
     if !is_untaken(trace, set, taken, no) {
@@ -121,7 +125,8 @@ fn is_untaken(trace: &Trace, set: ProcSet, taken: &[bool], no: u64) -> bool
 
 /// Whether its receiver receives in a later tick than its Send's.
 fn is_missed(trace: &Trace, lasts: &[u64], no: u64) -> bool
-    requires { tick_in lasts.now (receiver_of trace.now.steps no) ≡ last_receive (receiver_of trace.now.steps no) trace.now (length trace.now.steps) }
+    requires { tick_in lasts.now (receiver_of trace.now.steps no) ≡ last_receive
+        (receiver_of trace.now.steps no) trace.now (length trace.now.steps) }
     ensures { result ≡ is_missed trace.now no }
 {
     tick_at(trace, no) < tick_in(lasts, receiver_of(trace, no))
@@ -139,7 +144,8 @@ fn tick_in(ticks: &[u64], proc: u64) -> u64
 
 /// For each processor the tick of its last Receive: 0 if there is none.
 pub(crate) fn last_receives(alloc: Global, trace: &Trace) -> Result<Vec<u64>, AllocError>
-    ensures { IfOk result (λ lasts. (p : ℕ) → p ≤ trace.now.config.n → tick_in lasts.items p ≡ last_receive p trace.now (length trace.now.steps)) }
+    ensures { IfOk result (λ lasts. (p : ℕ) → p ≤ trace.now.config.n
+        → tick_in lasts.items p ≡ last_receive p trace.now (length trace.now.steps)) }
 {
     let mut lasts = vec![in alloc; 0; trace.config().n() as usize + 1]?;
     for i in 0..trace.len() {
@@ -152,7 +158,9 @@ pub(crate) fn last_receives(alloc: Global, trace: &Trace) -> Result<Vec<u64>, Al
 fn note_receive(lasts: &mut Vec<u64>, trace: &Trace, no: u64)
     ensures len { length lasts.new.items ≡ length lasts.old.items }
     ensures ticks { (p : ℕ) → p < length lasts.old.items
-        → tick_in lasts.new.items p ≡ (if is_receive_at p trace.now.steps no then tick_of trace.now no else tick_in lasts.old.items p) }
+        → tick_in lasts.new.items p
+        ≡ (if is_receive_at p trace.now.steps no then tick_of trace.now no else tick_in
+        lasts.old.items p) }
 {
     let Some(step) = trace.step(no) else {
         return;

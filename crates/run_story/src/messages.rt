@@ -35,7 +35,8 @@ fn ids_at(trace: &Trace, no: u64) -> &[u64]
 fn mark(taken: &mut Vec<bool>, ids: &[u64])
     requires { All (λ s. s < length taken.old.items) ids.now }
     ensures len { length taken.new.items ≡ length taken.old.items }
-    ensures flags { (s : ℕ) → flag_at taken.new.items s ≡ (flag_at taken.old.items s || list_any (λ i. i == s) ids.now) }
+    ensures flags { (s : ℕ) → flag_at taken.new.items s
+        ≡ (flag_at taken.old.items s || list_any (λ i. i == s) ids.now) }
 {
     for s in ids {
         taken[*s as usize] = true;

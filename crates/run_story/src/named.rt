@@ -1,7 +1,8 @@
 //! Which evidence each row names.
 
 ghost use Rattle.std.specs.Prelude.{◌≡◌, ◌+◌, ◌<◌, ℕ, IfOk, OnErr, Some, length, if◌then◌else◌};
-ghost use Rattle.run_story.specs.Named.{AreNamed, AreNamedBelow, begins, brief_to, is_from_to, named_at, same_place, with_gap, with_miss};
+ghost use Rattle.run_story.specs.Named.{AreNamed, AreNamedBelow, begins, brief_to, is_from_to};
+ghost use Rattle.run_story.specs.Named.{named_at, same_place, with_gap, with_miss};
 
 use crate::delays::Delay;
 use crate::evidence::Evidence;
@@ -50,7 +51,8 @@ fn mark(named: &mut Vec<Named>, list: &[Evidence], place: usize)
 /// Notes evidence for the gap of each row of its stall, if it has one.
 fn mark_gap(named: &mut Vec<Named>, stall: Option<Stall>, place: usize)
     ensures len { length named.new.items ≡ length named.old.items }
-    ensures each { (k : ℕ) → k < length named.old.items → named_at named.new.items k ≡ with_gap (named_at named.old.items k) stall k place }
+    ensures each { (k : ℕ) → k < length named.old.items
+        → named_at named.new.items k ≡ with_gap (named_at named.old.items k) stall k place }
 {
     if let Some(stall) = stall {
         mark_gaps(named, stall, place);
@@ -60,7 +62,8 @@ fn mark_gap(named: &mut Vec<Named>, stall: Option<Stall>, place: usize)
 /// Notes evidence for the miss of each row of its delay, if it has one.
 fn mark_miss(named: &mut Vec<Named>, delay: Option<Delay>, place: usize)
     ensures len { length named.new.items ≡ length named.old.items }
-    ensures each { (k : ℕ) → k < length named.old.items → named_at named.new.items k ≡ with_miss (named_at named.old.items k) delay k place }
+    ensures each { (k : ℕ) → k < length named.old.items
+        → named_at named.new.items k ≡ with_miss (named_at named.old.items k) delay k place }
 {
     if let Some(delay) = delay {
         mark_misses(named, delay, place);
@@ -71,7 +74,9 @@ fn mark_miss(named: &mut Vec<Named>, delay: Option<Delay>, place: usize)
 fn mark_gaps(named: &mut Vec<Named>, stall: Stall, place: usize)
     ensures len { length named.new.items ≡ length named.old.items }
     ensures each { (k : ℕ) → k < length named.old.items → named_at named.new.items k
-        ≡ (if is_from_to stall.first stall.last k then record { miss = (named_at named.old.items k).miss; gap = Some place } else named_at named.old.items k) }
+        ≡ (if is_from_to stall.first stall.last k
+        then record { miss = (named_at named.old.items k).miss; gap = Some place } else named_at
+        named.old.items k) }
 {
     for k in stall.first..named.len() {
         if k > stall.last {
@@ -85,7 +90,9 @@ fn mark_gaps(named: &mut Vec<Named>, stall: Stall, place: usize)
 fn mark_misses(named: &mut Vec<Named>, delay: Delay, place: usize)
     ensures len { length named.new.items ≡ length named.old.items }
     ensures each { (k : ℕ) → k < length named.old.items → named_at named.new.items k
-        ≡ (if is_from_to delay.first delay.last k then record { miss = Some place; gap = (named_at named.old.items k).gap } else named_at named.old.items k) }
+        ≡ (if is_from_to delay.first delay.last k
+        then record { miss = Some place; gap = (named_at named.old.items k).gap } else named_at
+        named.old.items k) }
 {
     for k in delay.first..named.len() {
         if k > delay.last {

@@ -1,6 +1,7 @@
 //! Silences as runs of rows that name them.
 
-ghost use Rattle.std.specs.Prelude.{◌≡◌, ◌↔◌, ◌+◌, ◌<◌, ◌≤◌, ℕ, Contains, IfOk, IsTrue, MatchOption, None, OnErr, length};
+ghost use Rattle.std.specs.Prelude.{◌≡◌, ◌↔◌, ◌+◌, ◌<◌, ◌≤◌, ℕ, Contains, IfOk};
+ghost use Rattle.std.specs.Prelude.{IsTrue, MatchOption, None, OnErr, length};
 ghost use Rattle.step_trace.specs.Fronts.{IsReport};
 ghost use Rattle.step_trace.specs.Ticks.{IsTimed};
 ghost use Rattle.step_trace.specs.Traces.{Recorded};
@@ -23,8 +24,9 @@ pub struct Stall {
 /// Time grows with the rows. Fails only if out of memory, and only if there is a row.
 pub fn stalls_of(alloc: Global, rows: &[Row]) -> Result<Vec<Stall>, AllocError>
     ensures stalls { IfOk result (λ stalls. AreStalls rows.now stalls.items) }
-    ensures whole { IfOk result (λ stalls. (set : ℕ) (trace : Recorded) → IsTimed trace → IsReport set trace rows.now
-        → (s : Stall) → Contains stalls.items s → IsWholeSilence trace s.gap) }
+    ensures whole { IfOk result (λ stalls. (set : ℕ) (trace : Recorded) → IsTimed trace
+        → IsReport set trace rows.now → (s : Stall) → Contains stalls.items s
+        → IsWholeSilence trace s.gap) }
     ensures more { OnErr result (0 < length rows.now) }
 {
     let mut stalls = Vec::new(alloc);

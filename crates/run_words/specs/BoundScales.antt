@@ -1,5 +1,6 @@
 -- How high bounds are drawn (own).
-use Rattle.std.specs.Prelude.{ℕ, ◌+◌, ◌-◌, ◌*◌, ◌/◌, ◌^◌, Bool, Option, Some, None, nat_le, nat_lt, min, max, if◌then◌else◌, suc, zero}
+use Rattle.std.specs.Prelude.{ℕ, ◌+◌, ◌-◌, ◌*◌, ◌/◌, ◌^◌, Bool, Option, Some, None}
+use Rattle.std.specs.Prelude.{nat_le, nat_lt, min, max, if◌then◌else◌, suc, zero}
 use Rattle.step_trace.specs.declared.traces.TheConstants.{MAX_TICKS}
 use Rattle.run_words.specs.declared.bound_scales.BoundScale.{BoundScale}
 use Rattle.run_words.specs.RoundNumbers.{round_step}
@@ -39,7 +40,8 @@ abbrev pub at_most : ℕ → Option ℕ → Option ℕ
 at_most most None = None
 at_most most (Some bound) = if nat_le bound most then Some bound else None
 
--- the bound at the line of this number, if the scale reaches it: a power of ten, or else a multiple of the first round number
+-- the bound at the line of this number, if the scale reaches it: a power of ten, or else a multiple of the first round
+-- number
 -- that goes at most so often into the greatest bound
 abbrev pub line : BoundScale → ℕ → ℕ → Option ℕ
 line s number lines = at_most s.most (if is_log s then power_of_ten number else Some (round_step s.most lines * number))

@@ -1,5 +1,6 @@
 -- Ticks as time: amounts, and points of time (own).
-use Rattle.std.specs.Prelude.{ℕ, ◌==◌, ◌+◌, ◌-◌, ◌*◌, ◌/◌, ◌%◌, ◌++◌, ◌&&◌, List, [], ◌∷◌, Option, Some, None, codes, decimal, drop, if◌then◌else◌, nat_le, nat_lt, min, max}
+use Rattle.std.specs.Prelude.{ℕ, ◌==◌, ◌+◌, ◌-◌, ◌*◌, ◌/◌, ◌%◌, ◌++◌, ◌&&◌, List, [], ◌∷◌, Option, Some}
+use Rattle.std.specs.Prelude.{None, codes, decimal, drop, if◌then◌else◌, nat_le, nat_lt, min, max}
 use Rattle.run_words.specs.Digits.{count_text, digits_text}
 use Rattle.run_words.specs.declared.clocks.TheConstants.{LONGEST}
 use Rattle.run_words.specs.declared.clocks.Clock.{Clock}
@@ -25,11 +26,13 @@ unit_text u = (226 ∷ 128 ∷ 175 ∷ []) ++ unit_name u
 
 -- the greatest unit of which a time of so many nanoseconds has at least one, to three digits
 abbrev pub unit_of : ℕ → Unit
-unit_of n = if nat_lt n 1000 then unit.Nanosecond else if nat_lt n 999500 then unit.Microsecond else if nat_lt n 999500000 then unit.Millisecond else unit.Second
+unit_of n = if nat_lt n 1000 then unit.Nanosecond else if nat_lt n 999500 then unit.Microsecond else if nat_lt n
+    999500000 then unit.Millisecond else unit.Second
 
 -- the powers of ten up to 10 ^ 18, the greatest first
 abbrev pub powers_of_ten : List ℕ
-powers_of_ten = 1000000000000000000 ∷ 100000000000000000 ∷ 10000000000000000 ∷ 1000000000000000 ∷ 100000000000000 ∷ 10000000000000 ∷ 1000000000000 ∷ 100000000000
+powers_of_ten = 1000000000000000000 ∷ 100000000000000000 ∷ 10000000000000000 ∷ 1000000000000000 ∷ 100000000000000
+    ∷ 10000000000000 ∷ 1000000000000 ∷ 100000000000
     ∷ 10000000000 ∷ 1000000000 ∷ 100000000 ∷ 10000000 ∷ 1000000 ∷ 100000 ∷ 10000 ∷ 1000 ∷ 100 ∷ 10 ∷ 1 ∷ []
 
 -- the first of these that isn't above a number; 1 if all are
@@ -41,7 +44,8 @@ first_within (power ∷ rest) n = if nat_le power n then power else first_within
 unfoldable pub power_within : ℕ → ℕ
 power_within n = first_within powers_of_ten n
 
--- To how many nanoseconds points of time are rounded in a run of so many with ticks of so many: to a tenth of a tick, but
+-- To how many nanoseconds points of time are rounded in a run of so many with ticks of so many: to a tenth of a tick,
+-- but
 -- no finer than a ten thousandth of the run, and no coarser than a unit.
 abbrev pub fine_of : ℕ → ℕ → Unit → ℕ
 fine_of width length u = max 1 (min (max (power_within width / 10) (power_within length / 10000)) (nanoseconds_in u))
@@ -53,20 +57,28 @@ coarse_of width length u = max (fine_of width length u) (min (power_within (leng
 -- the clock of a run of so many nanoseconds with ticks of so many
 abbrev pub clock_for : ℕ → ℕ → Clock
 clock_for width length =
-    record { width = width; unit = unit_of length; fine = fine_of width length (unit_of length); coarse = coarse_of width length (unit_of length) }
+    record {
+      width = width;
+      unit = unit_of length;
+      fine = fine_of width length (unit_of length);
+      coarse = coarse_of width length (unit_of length);
+    }
 
 -- the clock of a run of so many ticks of so many nanoseconds, unless that is nothing, or longer than is told
 abbrev pub clock_of : ℕ → ℕ → Option Clock
-clock_of width ticks = if nat_lt 0 (width * ticks) && nat_le (width * ticks) LONGEST then Some (clock_for width (width * ticks)) else None
+clock_of width ticks = if nat_lt 0 (width * ticks) && nat_le (width * ticks) LONGEST then Some
+    (clock_for width (width * ticks)) else None
 
 -- so many tenths, and so many hundredths, without zeros at the end
 abbrev pub tenths_text : ℕ → List ℕ
 tenths_text n = decimal (n / 10) ++ (if n % 10 == 0 then [] else codes "." ++ decimal (n % 10))
 
 abbrev pub hundredths_text : ℕ → List ℕ
-hundredths_text n = if n % 10 == 0 then tenths_text (n / 10) else decimal (n / 100) ++ (codes "." ++ digits_text (n % 100))
+hundredths_text n = if n % 10 == 0 then tenths_text (n / 10) else decimal (n / 100)
+    ++ (codes "." ++ digits_text (n % 100))
 
--- how often a time has a unit, in three digits, or all if there are more before the point; half of the last one is rounded
+-- how often a time has a unit, in three digits, or all if there are more before the point; half of the last one is
+-- rounded
 -- up
 abbrev pub three_text : ℕ → ℕ → List ℕ
 three_text n u =
@@ -92,7 +104,8 @@ fraction_text parts n = codes "." ++ drop 1 (decimal (parts + n))
 
 -- so many parts of a unit, of this many nanoseconds each
 abbrev pub parts_text : Unit → ℕ → ℕ → List ℕ
-parts_text u parts n = decimal (n / parts) ++ ((if nat_lt 1 parts && nat_lt 0 n then fraction_text parts (n % parts) else []) ++ unit_text u)
+parts_text u parts n = decimal (n / parts)
+    ++ ((if nat_lt 1 parts && nat_lt 0 n then fraction_text parts (n % parts) else []) ++ unit_text u)
 
 abbrev pub point_text : Unit → ℕ → ℕ → List ℕ
 point_text u part n = parts_text u (max (nanoseconds_in u / part) 1) n
@@ -114,4 +127,5 @@ time_point c time part = point_text c.unit (part_within c part) (time / part_wit
 
 -- when a tick begins rounded up, as for a look at the whole run
 abbrev pub from_text : Clock → ℕ → List ℕ
-from_text c tick = point_text c.unit (limited c.coarse) ((time_of c (tick - 1) + (limited c.coarse - 1)) / limited c.coarse)
+from_text c tick = point_text c.unit (limited c.coarse)
+    ((time_of c (tick - 1) + (limited c.coarse - 1)) / limited c.coarse)

@@ -1,5 +1,6 @@
 -- Text inside XML and HTML (own).
-use Rattle.std.specs.Prelude.{ℕ, ◌-◌, ◌==◌, ◌++◌, ◌&&◌, Bool, List, [], ◌∷◌, codes, length, if◌then◌else◌, nat_le, suc, zero}
+use Rattle.std.specs.Prelude.{ℕ, ◌-◌, ◌==◌, ◌++◌, ◌&&◌, Bool, List, [], ◌∷◌, codes}
+use Rattle.std.specs.Prelude.{length, if◌then◌else◌, nat_le, suc, zero}
 use Rattle.run_words.specs.Names.{byte_at}
 
 -- a byte as XML and HTML have it, in text and between quotes
@@ -14,7 +15,8 @@ escape_of b =
 
 -- whether U+FFFE or U+FFFF ends at this place, whose UTF-8 is EF BF BE and EF BF BF
 unfoldable pub ends_unheld : List ℕ → ℕ → Bool
-ends_unheld text i = nat_le 2 i && (byte_at text (i - 2) == 239 && (byte_at text (i - 1) == 191 && nat_le 190 (byte_at text i)))
+ends_unheld text i = nat_le 2 i &&
+    (byte_at text (i - 2) == 239 && (byte_at text (i - 1) == 191 && nat_le 190 (byte_at text i)))
 
 -- the byte at this place, as XML holds it: in place of both it has U+FFFD, EF BF BD
 abbrev pub held_byte : List ℕ → ℕ → ℕ

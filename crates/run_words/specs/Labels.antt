@@ -1,5 +1,6 @@
 -- What the lanes of processors are called, and how wide that is taken to be (own).
-use Rattle.std.specs.Prelude.{ℕ, ◌-◌, ◌==◌, ◌&&◌, ◌||◌, Bool, nat_le, nat_lt, min, List, [], length, take, sum_by, if◌then◌else◌}
+use Rattle.std.specs.Prelude.{ℕ, ◌-◌, ◌==◌, ◌&&◌, ◌||◌, Bool, nat_le, nat_lt, min}
+use Rattle.std.specs.Prelude.{List, [], length, take, sum_by, if◌then◌else◌}
 use Rattle.run_words.specs.declared.names.TheConstants.{MAX_NAME_BYTES}
 use Rattle.run_words.specs.Names.{name_at}
 

@@ -32,4 +32,5 @@ pub record IsClockOf (trace : Recorded) (said : List Said) (unit : Option ℕ) (
 
 -- the table doesn't say when ticks begin, or these times have no clock
 abbrev pub IsUnclocked : Recorded → List Said → Option ℕ → Type 0
-IsUnclocked trace said unit = AreUntimed trace said ⊎ ((t : TickTimes) × AreTickTimes trace said t × (clock_by unit trace.last t ≡ None))
+IsUnclocked trace said unit = AreUntimed trace said
+    ⊎ ((t : TickTimes) × AreTickTimes trace said t × (clock_by unit trace.last t ≡ None))

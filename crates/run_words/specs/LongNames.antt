@@ -7,4 +7,5 @@ use Rattle.run_words.specs.ShortNames.{characters, start_of}
 abbrev pub long_text : ℕ → List ℕ → List ℕ
 long_text most name =
     if nat_le (characters name) most then escaped name
-    else escaped (take (start_of 30 name) name) ++ ((226 ∷ 128 ∷ 166 ∷ []) ++ escaped (drop (start_of (characters name - 15) name) name))
+    else escaped (take (start_of 30 name) name)
+    ++ ((226 ∷ 128 ∷ 166 ∷ []) ++ escaped (drop (start_of (characters name - 15) name) name))

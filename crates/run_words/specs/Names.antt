@@ -1,5 +1,6 @@
 -- Names of processors as a text lists them (own).
-use Rattle.std.specs.Prelude.{ℕ, ◌≡◌, ◌≢◌, ◌<◌, ◌≤◌, ◌==◌, ◌+◌, ◌-◌, ◌&&◌, ◌||◌, Bool, false, nat_lt, nat_le, List, [], length, slice_index_or, ⊤}
+use Rattle.std.specs.Prelude.{ℕ, ◌≡◌, ◌≢◌, ◌<◌, ◌≤◌, ◌==◌, ◌+◌, ◌-◌, ◌&&◌, ◌||◌, Bool, false}
+use Rattle.std.specs.Prelude.{nat_lt, nat_le, List, [], length, slice_index_or, ⊤}
 use Rattle.std.specs.List.{slice_split}
 use Rattle.run_words.specs.declared.names.NamesError.{NamesError}
 use Rattle.run_words.specs.declared.names.NamesError.TheVariants.{WrongCount, BadName, SameName, Memory}
@@ -52,5 +53,6 @@ pub record AreNamesBefore (count : ℕ) (names : List (List ℕ)) (place : ℕ) 
 abbrev pub IsNamesRefusal : ℕ → List (List ℕ) → NamesError → Type 0
 IsNamesRefusal count names (WrongCount given) = (given ≡ length names) × (given ≢ count)
 IsNamesRefusal count names (BadName place) = AreNamesBefore count names place × (¬ IsName (name_at names (place - 1)))
-IsNamesRefusal count names (SameName place) = AreNamesBefore count names place × IsName (name_at names (place - 1)) × (¬ IsNew names (place - 1))
+IsNamesRefusal count names (SameName place) = AreNamesBefore count names place × IsName (name_at names (place - 1))
+    × (¬ IsNew names (place - 1))
 IsNamesRefusal count names Memory = ⊤

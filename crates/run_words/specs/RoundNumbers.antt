@@ -3,7 +3,8 @@ use Rattle.std.specs.Prelude.{ℕ, List, [], ◌∷◌, ◌/◌, nat_le, if◌th
 
 -- 1, 2 and 5 times the powers of ten, up to 1,000,000
 abbrev pub round_numbers : List ℕ
-round_numbers = 1 ∷ 2 ∷ 5 ∷ 10 ∷ 20 ∷ 50 ∷ 100 ∷ 200 ∷ 500 ∷ 1000 ∷ 2000 ∷ 5000 ∷ 10000 ∷ 20000 ∷ 50000 ∷ 100000 ∷ 200000 ∷ 500000 ∷ 1000000 ∷ []
+round_numbers = 1 ∷ 2 ∷ 5 ∷ 10 ∷ 20 ∷ 50 ∷ 100 ∷ 200 ∷ 500 ∷ 1000 ∷ 2000 ∷ 5000 ∷ 10000 ∷ 20000 ∷ 50000 ∷ 100000
+    ∷ 200000 ∷ 500000 ∷ 1000000 ∷ []
 
 -- the first of these numbers that goes at most so often into the limit; 1,000,000 if none does
 abbrev pub first_step : List ℕ → ℕ → ℕ → ℕ

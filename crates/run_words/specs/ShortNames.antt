@@ -19,7 +19,8 @@ start_of k (b ∷ bs) =
 abbrev pub short_text : List ℕ → List ℕ
 short_text name =
     if nat_le (characters name) 15 then escaped name
-    else escaped (take (start_of 7 name) name) ++ ((226 ∷ 128 ∷ 166 ∷ []) ++ escaped (drop (start_of (characters name - 7) name) name))
+    else escaped (take (start_of 7 name) name)
+    ++ ((226 ∷ 128 ∷ 166 ∷ []) ++ escaped (drop (start_of (characters name - 7) name) name))
 
 -- how wide it is taken to be then
 abbrev pub short_width : List ℕ → ℕ

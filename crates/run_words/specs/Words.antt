@@ -9,7 +9,8 @@ use Rattle.run_words.specs.ShortNames.{short_text}
 
 -- what processor p is called: its name, which XML and HTML can't mistake for their own, or its number
 abbrev pub node_text : List (List ℕ) → ℕ → List ℕ
-node_text names p = if nat_lt 0 (length (name_of names p)) then long_text 64 (name_of names p) else codes "processor " ++ decimal p
+node_text names p = if nat_lt 0 (length (name_of names p)) then long_text 64
+    (name_of names p) else codes "processor " ++ decimal p
 
 -- what processor p is called where there is little room
 abbrev pub label_text : List (List ℕ) → ℕ → List ℕ

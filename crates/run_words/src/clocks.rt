@@ -1,7 +1,9 @@
 //! Ticks as time: amounts, and points of time.
 
 ghost use Rattle.std.specs.Prelude.{◌≡◌, ◌≤◌, ◌<◌, ◌++◌, OnOk};
-ghost use Rattle.run_words.specs.Clocks.{amount_text, begin_text, clock_for, clock_of, fine_of, fraction_text, from_text, hundredths_text, limited, nanoseconds_in, point_text, power_within, tenths_text, three_text, time_of, time_point, time_text, unit_of, unit_text};
+ghost use Rattle.run_words.specs.Clocks.{amount_text, begin_text, clock_for, clock_of, fine_of, fraction_text};
+ghost use Rattle.run_words.specs.Clocks.{from_text, hundredths_text, limited, nanoseconds_in, point_text, power_within};
+ghost use Rattle.run_words.specs.Clocks.{tenths_text, three_text, time_of, time_point, time_text, unit_of, unit_text};
 ghost use Rattle.run_words.specs.declared.clocks.TheConstants.{LONGEST};
 
 use crate::digits::{push_count, push_digits, push_number};

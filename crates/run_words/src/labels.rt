@@ -29,7 +29,8 @@ fn name_of<'a>(names: &[&'a str], processor: u64) -> &'a [u8]
 
 /// Appends what a processor is called: its name, shortened if it is very long, or `processor` and its number.
 pub fn push_node(out: &mut Vec<u8>, names: &[&str], processor: u64) -> Result<(), AllocError>
-    ensures { OnOk result (out.new.items ≡ out.old.items ++ node_text (map (λ x. x.now) names.now) processor) }
+    ensures { OnOk result (out.new.items ≡ out.old.items
+        ++ node_text (map (λ x. x.now) names.now) processor) }
 {
     let name = name_of(names, processor);
     if name.len() > 0 {
@@ -41,7 +42,8 @@ pub fn push_node(out: &mut Vec<u8>, names: &[&str], processor: u64) -> Result<()
 
 /// Appends what a processor is called beside its lane: its name, shortened if it is long, or its number.
 pub fn push_label(out: &mut Vec<u8>, names: &[&str], processor: u64) -> Result<(), AllocError>
-    ensures { OnOk result (out.new.items ≡ out.old.items ++ label_text (map (λ x. x.now) names.now) processor) }
+    ensures { OnOk result (out.new.items ≡ out.old.items
+        ++ label_text (map (λ x. x.now) names.now) processor) }
 {
     let name = name_of(names, processor);
     if name.len() > 0 {

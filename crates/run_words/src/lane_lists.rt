@@ -31,7 +31,8 @@ pub fn lanes_of(
 ) -> Result<ProcSet, LanesError>
     requires { count ≤ MAX_MEMBER }
     ensures listed { IfOk result (AreLanes (map (λ x. x.now) names.now) (parts_of list.now) count) }
-    ensures refused { IfErr result (IsLanesRefusal (map (λ x. x.now) names.now) (parts_of list.now) count) }
+    ensures refused { IfErr result
+        (IsLanesRefusal (map (λ x. x.now) names.now) (parts_of list.now) count) }
 {
     let Ok(parts) = parts_of(alloc, list) else {
         return Err(LanesError::Memory);
@@ -42,8 +43,10 @@ pub fn lanes_of(
 /// The processors that these parts denote.
 fn set_of(parts: &[&str], names: &[&str], count: u64) -> Result<ProcSet, LanesError>
     requires { count ≤ MAX_MEMBER }
-    ensures listed { IfOk result (AreLanes (map (λ x. x.now) names.now) (map (λ x. x.now) parts.now) count) }
-    ensures refused { IfErr result (IsLanesRefusal (map (λ x. x.now) names.now) (map (λ x. x.now) parts.now) count) }
+    ensures listed { IfOk result
+        (AreLanes (map (λ x. x.now) names.now) (map (λ x. x.now) parts.now) count) }
+    ensures refused { IfErr result
+        (IsLanesRefusal (map (λ x. x.now) names.now) (map (λ x. x.now) parts.now) count) }
 {
     let mut set = ProcSet::empty();
     for i in 0..parts.len() {
@@ -58,7 +61,8 @@ fn lane_in(part: &str, names: &[&str], count: u64, place: u64) -> Result<u64, La
     ensures lane { IfOk result (IsLane (map (λ x. x.now) names.now) part.now) }
     ensures low { IfOk result (λ p. 1 ≤ p) }
     ensures high { IfOk result (λ p. p ≤ count) }
-    ensures refused { IfErr result (IsLaneRefusal (map (λ x. x.now) names.now) part.now count place) }
+    ensures refused { IfErr result
+        (IsLaneRefusal (map (λ x. x.now) names.now) part.now count place) }
 {
     let Some(p) = lane_of(part, names) else {
         return Err(LanesError::NoLane(place));

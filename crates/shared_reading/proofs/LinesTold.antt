@@ -1,5 +1,7 @@
 -- The steps that records encode lead a trace where the records lead it.
-use Rattle.std.proofs.Common.{◌≡◌, ◌<◌, ◌≤◌, ◌+◌, ◌∙◌, ℕ, List, [], ◌∷◌, ◌++◌, length, Option, Some, None, Result, Ok, Err, Bool, true, false, cond, refl, sym, ap, subst, arith, codes, decimal, append_assoc, length-append, ◌==◌}
+use Rattle.std.proofs.Common.{◌≡◌, ◌<◌, ◌≤◌, ◌+◌, ◌∙◌, ℕ, List, [], ◌∷◌, ◌++◌, length, Option, Some, None, Result, Ok}
+use Rattle.std.proofs.Common.{Err, Bool, true, false, cond, refl, sym, ap, subst, arith, codes, decimal, append_assoc}
+use Rattle.std.proofs.Common.{length-append, ◌==◌}
 use Rattle.std.specs.Prelude.{nat_lt, ◌^◌}
 use Rattle.std.specs.Str.{bytes_eq}
 use Rattle.std.proofs.lemmas.List.{append-nil}
@@ -107,7 +109,8 @@ told-all v (r ∷ rs) (l ∷ ls) t h short =
       go more true None e = let less = room t l.tick l.step e in let sum = length-append t.steps (l.step ∷ []) in more (omega (arith, less, sum))
 
 -- what was read of records are the steps that they encode
-read-from : (r s : Read) (rs : List (List (List ℕ))) → after_records next_read r rs ≡ Ok s → (new : List Line) × (s ≡ record { version = r.version; lines = r.lines ++ new }) × TellLines r.version rs new
+read-from : (r s : Read) (rs : List (List (List ℕ))) → after_records next_read r rs ≡ Ok s
+    → (new : List Line) × (s ≡ record { version = r.version; lines = r.lines ++ new }) × TellLines r.version rs new
 unfolding TellLines
 read-from r s [] h = ([], (let same : r ≡ s = cc h in rw (← same, append-nil r.lines) refl), tt)
 read-from r s (x ∷ rs) h =

@@ -105,7 +105,8 @@ numbered-taken v t u n xs ts at h taken = numbered-led v t n xs ts at h ∙ ap (
 pub numbered-refused : (v : Version) (t : Recorded) (n : ℕ) (xs : List Step) (ts : List ℕ) (e : StepRefused) → n ≡ length t.steps + 1 → length ts ≡ length xs → IsStepRefusal (appended t xs ts) e
     → MatchBool (is_memory (refused_for e.why e.no)) ⊤ (after_lines v t (numbered n xs ts) ≡ Err (refused_for e.why e.no))
 numbered-refused v t n xs ts e at h refused = go e.why (λ other. numbered-led v t n xs ts at h ∙ ap (led v) (refused other)) where
-  go : (why : PushError) → ((why ≡ Memory → ⊥) → after_lines v t (numbered n xs ts) ≡ Err (BadStep e.no why)) → MatchBool (is_memory (refused_for why e.no)) ⊤ (after_lines v t (numbered n xs ts) ≡ Err (refused_for why e.no))
+  go : (why : PushError) → ((why ≡ Memory → ⊥) → after_lines v t (numbered n xs ts) ≡ Err (BadStep e.no why))
+      → MatchBool (is_memory (refused_for why e.no)) ⊤ (after_lines v t (numbered n xs ts) ≡ Err (refused_for why e.no))
   go Memory k = tt
   go why k = k (λ same. cc same)
 

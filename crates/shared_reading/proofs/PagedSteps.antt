@@ -30,7 +30,8 @@ pub appended-ok : (t u : Recorded) (xs ys : List Step) (ts us : List ℕ) → le
 appended-ok t u xs ys ts us h taken = appended-append t xs ys ts us h ∙ ap (λ (r : Result Recorded StepRefused). r >>= λ w. appended w ys us) taken
 
 -- if it refuses one of the first, the others make no difference
-pub appended-err : (t : Recorded) (xs ys : List Step) (ts us : List ℕ) (e : StepRefused) → length ts ≡ length xs → IsStepRefusal (appended t xs ts) e → IsStepRefusal (appended t (xs ++ ys) (ts ++ us)) e
+pub appended-err : (t : Recorded) (xs ys : List Step) (ts us : List ℕ) (e : StepRefused) → length ts ≡ length xs
+    → IsStepRefusal (appended t xs ts) e → IsStepRefusal (appended t (xs ++ ys) (ts ++ us)) e
 appended-err t xs ys ts us e h refused other = appended-append t xs ys ts us h ∙ ap (λ (r : Result Recorded StepRefused). r >>= λ w. appended w ys us) (refused other)
 
 -- each step of the pages has a tick

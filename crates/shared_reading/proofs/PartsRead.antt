@@ -1,5 +1,7 @@
 -- A text that is read part by part leads where it leads when it is read whole.
-use Rattle.std.proofs.Common.{◌≡◌, ◌≢◌, ◌≤◌, ◌<◌, ◌+◌, ◌∙◌, ℕ, List, [], ◌++◌, length, take, drop, Option, Some, None, IfSome, Result, Ok, Err, Bool, true, false, refl, sym, ap, subst, arith, append_assoc, append-nil, length-append, take-append-drop}
+use Rattle.std.proofs.Common.{◌≡◌, ◌≢◌, ◌≤◌, ◌<◌, ◌+◌, ◌∙◌, ℕ, List, [], ◌++◌, length, take, drop, Option, Some, None}
+use Rattle.std.proofs.Common.{IfSome, Result, Ok, Err, Bool, true, false, refl, sym, ap, subst, arith, append_assoc}
+use Rattle.std.proofs.Common.{append-nil, length-append, take-append-drop}
 use Rattle.std.specs.Prelude.{IfErr, IfOk, OnOk, MatchBool, ⊤, nat_le}
 use Rattle.std.proofs.lemmas.Bool.Decides.{nat_tests}
 use Rattle.std.proofs.KnownBytes.{Consumes-nil, Consumes-trans, Consumes-whole}
@@ -50,7 +52,8 @@ begins known p opening none empty = record {
 }
 
 -- more bytes were read
-pub more-read : (known left after : Option (List ℕ)) (before bytes : List ℕ) (p q : Progress) → q.stage ≡ p.stage → q.total ≡ p.total + length bytes → q.rest.items ≡ p.rest.items ++ bytes → Consumes left after bytes
+pub more-read : (known left after : Option (List ℕ)) (before bytes : List ℕ) (p q : Progress) → q.stage ≡ p.stage
+    → q.total ≡ p.total + length bytes → q.rest.items ≡ p.rest.items ++ bytes → Consumes left after bytes
     → IsReadTo known left before p → IsReadTo known after before q
 more-read known left after before bytes p q stage total rest read h =
     let whole : h.gone ++ (before ++ q.rest.items) ≡ (h.gone ++ (before ++ p.rest.items)) ++ bytes =
@@ -79,7 +82,8 @@ part-taken known left p q cut total rest front h =
     }
 
 -- the reader brought too much
-too-large : (known left after : Option (List ℕ)) (taken bytes : List ℕ) (total : ℕ) → Consumes known left taken → Consumes left after bytes → total ≡ length taken → MAX_TEXT_BYTES < total + length bytes
+too-large : (known left after : Option (List ℕ)) (taken bytes : List ℕ) (total : ℕ) → Consumes known left taken
+    → Consumes left after bytes → total ≡ length taken → MAX_TEXT_BYTES < total + length bytes
     → IfSome known (λ xs. MAX_TEXT_BYTES < length xs)
 too-large None left after taken bytes total h k t more = tt
 too-large (Some xs) None after taken bytes total h k t more = absurd h
@@ -132,7 +136,8 @@ ended known left p r end limit gives h =
 -- ---- refusals, and what is given
 
 -- what was read before a refusal for the reader counts
-pub unread-after : (before total : ℕ) (old mid new : Option (List ℕ)) (bytes : List ℕ) (e : TextError) → total ≡ before + length bytes → Consumes old mid bytes → IsUnread total mid new e → IsUnread before old new e
+pub unread-after : (before total : ℕ) (old mid new : Option (List ℕ)) (bytes : List ℕ) (e : TextError)
+    → total ≡ before + length bytes → Consumes old mid bytes → IsUnread total mid new e → IsUnread before old new e
 unread-after before total old mid new bytes why.Read t h k = tt
 unread-after before total old mid new bytes why.TooLarge t h k = record {
   bytes = bytes ++ k.bytes;

@@ -1,5 +1,7 @@
 -- A trace that takes the steps of a piece goes on where the piece ends.
-use Rattle.std.proofs.Common.{◌≡◌, ◌==◌, ◌≤◌, ◌+◌, ◌-◌, ◌∙◌, ℕ, suc, List, [], ◌∷◌, ◌++◌, length, drop, Option, Some, None, is_some, Result, Ok, Err, Bool, true, false, refl, sym, ap, subst, arith, nat_eq, not, slice_index_or}
+use Rattle.std.proofs.Common.{◌≡◌, ◌==◌, ◌≤◌, ◌+◌, ◌-◌, ◌∙◌, ℕ, suc, List, [], ◌∷◌, ◌++◌, length, drop, Option, Some}
+use Rattle.std.proofs.Common.{None, is_some, Result, Ok, Err, Bool, true, false, refl, sym, ap, subst, arith, nat_eq}
+use Rattle.std.proofs.Common.{not, slice_index_or}
 use Rattle.std.specs.Prelude.{MatchBool, ⊤}
 use Rattle.std.proofs.lemmas.List.{drop-drop, take-append-drop}
 use Rattle.csv.specs.Reading.{strip_bom}
@@ -64,7 +66,8 @@ unmarked-before (x ∷ xs) some h more = unmarked (x ∷ (xs ++ more)) (not-true
 append-stops : {S E : Type 0} (next : S → List (List ℕ) → Result S E) (a : S) (e : E) (xs ys : List (List (List ℕ))) → after_records next a xs ≡ Err e → after_records next a (xs ++ ys) ≡ Err e
 append-stops {S = S} next a e [] ys h = cc h
 append-stops {S = S} {E = E} next a e (x ∷ xs) ys h = go (λ s k. append-stops next s e xs ys k) (next a x) h where
-  go : ((s : S) → after_records next s xs ≡ Err e → after_records next s (xs ++ ys) ≡ Err e) → (r : Result S E) → r >>= (λ s. after_records next s xs) ≡ Err e → r >>= (λ s. after_records next s (xs ++ ys)) ≡ Err e
+  go : ((s : S) → after_records next s xs ≡ Err e → after_records next s (xs ++ ys) ≡ Err e) → (r : Result S E)
+      → r >>= (λ s. after_records next s xs) ≡ Err e → r >>= (λ s. after_records next s (xs ++ ys)) ≡ Err e
   go more (Ok s) k = more s k
   go more (Err f) k = k
 
@@ -94,8 +97,10 @@ part-read s t text from end order quoteless line mark h =
     ∙ read_on-ok s t (part text from end) (drop end text) (seam (part text from end) (drop end text) quoteless line mark) h
 
 -- such a part is refused
-pub part-refused : (s : Stage) (e : TextError) (text : List ℕ) (from end : ℕ) → from ≤ end → has_quote (part text from end) ≡ false → ends_line (part text from end) ≡ true → strip_bom (drop end text) ≡ drop end text
-    → MatchBool (is_memory e) ⊤ (read_on s (part text from end) ≡ Err e) → MatchBool (is_memory e) ⊤ (read_on s (drop from text) ≡ Err e)
+pub part-refused : (s : Stage) (e : TextError) (text : List ℕ) (from end : ℕ) → from ≤ end
+    → has_quote (part text from end) ≡ false → ends_line (part text from end) ≡ true
+    → strip_bom (drop end text) ≡ drop end text → MatchBool (is_memory e) ⊤ (read_on s (part text from end) ≡ Err e)
+    → MatchBool (is_memory e) ⊤ (read_on s (drop from text) ≡ Err e)
 part-refused s e text from end order quoteless line mark = unless (is_memory e) _ _ (λ h.
     ap (λ (xs : List ℕ). read_on s xs) (part-rest text from end order)
     ∙ read_on-err s e (part text from end) (drop end text) (seam (part text from end) (drop end text) quoteless line mark) h)
@@ -108,8 +113,10 @@ piece-taken v found s t text from end order mark is takes =
     part-read s t text from end order alone.quoteless alone.line mark alone.leads
 
 -- or one of them is refused
-pub piece-refused : (v : Version) (found : Found) (s : Stage) (e : TextError) (text : List ℕ) (from end : ℕ) → from ≤ end → strip_bom (drop end text) ≡ drop end text → IsFound v (part text from end) found
-    → MatchBool (is_memory e) ⊤ ((bytes : List ℕ) → IsFound v bytes found → LeadsAlone s bytes (Err e)) → MatchBool (is_memory e) ⊤ (read_on s (drop from text) ≡ Err e)
+pub piece-refused : (v : Version) (found : Found) (s : Stage) (e : TextError) (text : List ℕ) (from end : ℕ)
+    → from ≤ end → strip_bom (drop end text) ≡ drop end text → IsFound v (part text from end) found
+    → MatchBool (is_memory e) ⊤ ((bytes : List ℕ) → IsFound v bytes found → LeadsAlone s bytes (Err e))
+    → MatchBool (is_memory e) ⊤ (read_on s (drop from text) ≡ Err e)
 piece-refused v found s e text from end order mark is = unless (is_memory e) _ _ (λ takes.
     let alone = takes (part text from end) is in
     ap (λ (xs : List ℕ). read_on s xs) (part-rest text from end order)

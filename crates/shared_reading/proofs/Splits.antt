@@ -91,8 +91,10 @@ busy-none : (s : State) (f : List (List ℕ)) (p a : List ℕ) → idle s ≡ fa
 unfolding state_after next_record
 busy-none s f p [] i e n = let bad : true ≡ false = rw e at i in cc bad
 busy-none s f p (c ∷ rest) i e n = go (λ t m. busy-none (step default_config s c).0 _ _ rest (stays-step s c i t) e m) (is_end (step default_config s c).1) refl n where
-  go : (is_end (step default_config s c).1 ≡ false → next_record default_config (step default_config s c).0 (fields_after (step default_config s c).1 f p) (field_after (step default_config s c).1 c p) rest ≡ None → ⊥)
-      → (b : Bool) → is_end (step default_config s c).1 ≡ b
+  go : (is_end (step default_config s c).1 ≡ false
+      → next_record default_config (step default_config s c).0 (fields_after (step default_config s c).1 f p)
+      (field_after (step default_config s c).1 c p) rest ≡ None → ⊥) → (b : Bool)
+      → is_end (step default_config s c).1 ≡ b
       → cond b (Some (fields_after (step default_config s c).1 f p, (step default_config s c).0, rest))
       (next_record default_config (step default_config s c).0 (fields_after (step default_config s c).1 f p) (field_after (step default_config s c).1 c p) rest) ≡ None → ⊥
   go more true t m = cc m
@@ -104,13 +106,17 @@ whole-some : (s : State) (f : List (List ℕ)) (p a b : List ℕ) (r : Read) →
 unfolding state_after next_record
 whole-some s f p [] b r e n = let bad : ◌≡◌ {A = Option Read} None (Some r) = rw e at n in cc bad
 whole-some s f p (c ∷ rest) b r e n = go (λ m. whole-some (step default_config s c).0 _ _ rest b r e m) (is_end (step default_config s c).1) n where
-  go : (next_record default_config (step default_config s c).0 (fields_after (step default_config s c).1 f p) (field_after (step default_config s c).1 c p) rest ≡ Some r
-      → (next_record default_config (step default_config s c).0 (fields_after (step default_config s c).1 f p) (field_after (step default_config s c).1 c p) (rest ++ b) ≡ Some (r.0, r.1, r.2 ++ b)) × (state_after r.1 r.2 ≡ st.StartRecord))
-      → (t : Bool)
+  go : (next_record default_config (step default_config s c).0 (fields_after (step default_config s c).1 f p)
+      (field_after (step default_config s c).1 c p) rest ≡ Some r
+      → (next_record default_config (step default_config s c).0 (fields_after (step default_config s c).1 f p)
+      (field_after (step default_config s c).1 c p) (rest ++ b) ≡ Some (r.0, r.1, r.2 ++ b))
+      × (state_after r.1 r.2 ≡ st.StartRecord)) → (t : Bool)
       → cond t (Some (fields_after (step default_config s c).1 f p, (step default_config s c).0, rest))
       (next_record default_config (step default_config s c).0 (fields_after (step default_config s c).1 f p) (field_after (step default_config s c).1 c p) rest) ≡ Some r
       → (cond t (Some (fields_after (step default_config s c).1 f p, (step default_config s c).0, rest ++ b))
-      (next_record default_config (step default_config s c).0 (fields_after (step default_config s c).1 f p) (field_after (step default_config s c).1 c p) (rest ++ b)) ≡ Some (r.0, r.1, r.2 ++ b)) × (state_after r.1 r.2 ≡ st.StartRecord)
+      (next_record default_config (step default_config s c).0 (fields_after (step default_config s c).1 f p)
+      (field_after (step default_config s c).1 c p) (rest ++ b)) ≡ Some (r.0, r.1, r.2 ++ b))
+      × (state_after r.1 r.2 ≡ st.StartRecord)
   go more true m =
       let same : (fields_after (step default_config s c).1 f p, (step default_config s c).0, rest) ≡ r = cc m in
       rw (← same) (refl, e)
@@ -122,11 +128,15 @@ whole-none : (s : State) (f : List (List ℕ)) (p a b : List ℕ) → idle s ≡
 unfolding state_after next_record
 whole-none s f p [] b i e n = rw e refl
 whole-none s f p (c ∷ rest) b i e n = go (λ j m. whole-none (step default_config s c).0 f p rest b j e m) (is_end (step default_config s c).1) refl n where
-  next : (idle (step default_config s c).0 ≡ true → next_record default_config (step default_config s c).0 f p rest ≡ None
-      → next_record default_config (step default_config s c).0 f p (rest ++ b) ≡ next_record default_config st.StartRecord f p b)
-      → (t : Bool) → idle (step default_config s c).0 ≡ t → is_end (step default_config s c).1 ≡ false
-      → next_record default_config (step default_config s c).0 (fields_after (step default_config s c).1 f p) (field_after (step default_config s c).1 c p) rest ≡ None
-      → next_record default_config (step default_config s c).0 (fields_after (step default_config s c).1 f p) (field_after (step default_config s c).1 c p) (rest ++ b) ≡ next_record default_config st.StartRecord f p b
+  next : (idle (step default_config s c).0 ≡ true
+      → next_record default_config (step default_config s c).0 f p rest ≡ None
+      → next_record default_config (step default_config s c).0 f p (rest ++ b)
+      ≡ next_record default_config st.StartRecord f p b) → (t : Bool) → idle (step default_config s c).0 ≡ t
+      → is_end (step default_config s c).1 ≡ false
+      → next_record default_config (step default_config s c).0 (fields_after (step default_config s c).1 f p)
+      (field_after (step default_config s c).1 c p) rest ≡ None
+      → next_record default_config (step default_config s c).0 (fields_after (step default_config s c).1 f p)
+      (field_after (step default_config s c).1 c p) (rest ++ b) ≡ next_record default_config st.StartRecord f p b
   next more true j t m =
       let skips = waits-step s c i t j in
       let n2 : next_record default_config (step default_config s c).0 f p rest ≡ None = rw skips at m in
@@ -175,9 +185,11 @@ split-from (suc n) (suc k) (suc m) s a b start e l h g = go (λ p i w j q. split
       ap (λ (rs : List (List (List ℕ))). p.0 ∷ rs) (same-fuel n m p.1 p.2 (begins-some st.StartRecord b p q) (omega (arith, less, l, sum)) (omega (arith, less, g)))
 
   go : ((p : Read) → IsStart p.1 → state_after p.1 p.2 ≡ st.StartRecord → length (p.2 ++ b) < n → length p.2 < k
-      → records_from default_config n p.1 (p.2 ++ b) ≡ records_from default_config k p.1 p.2 ++ records_from default_config (suc m) st.StartRecord b)
-      → (o : Option Read) → next_record default_config s [] [] a ≡ o
-      → records_next (records_from default_config n) (next_record default_config s [] [] (a ++ b)) ≡ records_next (records_from default_config k) o ++ records_from default_config (suc m) st.StartRecord b
+      → records_from default_config n p.1 (p.2 ++ b) ≡ records_from default_config k p.1 p.2
+      ++ records_from default_config (suc m) st.StartRecord b) → (o : Option Read)
+      → next_record default_config s [] [] a ≡ o
+      → records_next (records_from default_config n) (next_record default_config s [] [] (a ++ b)) ≡ records_next
+      (records_from default_config k) o ++ records_from default_config (suc m) st.StartRecord b
   go more None q = rw (whole-none s [] [] a b (idle-start s start) e q) (later (next_record default_config st.StartRecord [] [] b) refl)
   go more (Some p) q =
       let less = next-less default_config s [] [] a p start q in

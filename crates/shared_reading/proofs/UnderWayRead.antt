@@ -39,7 +39,8 @@ moved known left p q was is m h =
     }
 
 -- all pieces were put back before the rest
-pub put-back : (pieces after left : List UnderWay) (oldest : UnderWay) (bytes rest new : List ℕ) → pieces ≡ oldest ∷ after → bytes ≡ bytes_in oldest → left ≡ [] → new ≡ (bytes ++ bytes_of after) ++ rest
+pub put-back : (pieces after left : List UnderWay) (oldest : UnderWay) (bytes rest new : List ℕ)
+    → pieces ≡ oldest ∷ after → bytes ≡ bytes_in oldest → left ≡ [] → new ≡ (bytes ++ bytes_of after) ++ rest
     → bytes_of left ++ new ≡ bytes_of pieces ++ rest
 put-back pieces after left oldest bytes rest new all same none h = rw (none, all, h, same) refl
 
@@ -68,8 +69,10 @@ oldest-taken known left p q pieces after oldest all total rest alone mark h =
     first-taken known left p q (bytes_in oldest) (bytes_of after) total rest alone (unmarked-behind after p.rest.items mark) (subst (λ xs. IsReadTo known left (bytes_of xs) p) all h)
 
 -- or one of its steps is refused
-pub oldest-refused : (v : Version) (found : Found) (s t : Stage) (pieces after : List UnderWay) (oldest : UnderWay) (rest : List ℕ) (e : TextError) → pieces ≡ oldest ∷ after → IsFound v (bytes_in oldest) found
-    → MatchBool (is_memory e) ⊤ ((bytes : List ℕ) → IsFound v bytes found → LeadsAlone s bytes (Err e)) → IsUnmarked rest → IsTaken s t (bytes_of pieces ++ rest) (Err e)
+pub oldest-refused : (v : Version) (found : Found) (s t : Stage) (pieces after : List UnderWay) (oldest : UnderWay)
+    (rest : List ℕ) (e : TextError) → pieces ≡ oldest ∷ after → IsFound v (bytes_in oldest) found
+    → MatchBool (is_memory e) ⊤ ((bytes : List ℕ) → IsFound v bytes found → LeadsAlone s bytes (Err e))
+    → IsUnmarked rest → IsTaken s t (bytes_of pieces ++ rest) (Err e)
 oldest-refused v found s t pieces after oldest rest e all is alone mark = unless (is_memory e) _ _ (λ takes more.
     let a : List ℕ = bytes_in oldest in
     let b : List ℕ = (bytes_of after ++ rest) ++ more in

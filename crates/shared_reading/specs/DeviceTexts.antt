@@ -1,5 +1,6 @@
 -- A trace text that is read from a device part by part.
-use Rattle.std.specs.Prelude.{ℕ, ◌≡◌, ◌≤◌, ◌<◌, ◌+◌, ◌++◌, List, length, drop, Result, Ok, Err, Option, IfSome, MatchBool, ⊤}
+use Rattle.std.specs.Prelude.{ℕ, ◌≡◌, ◌≤◌, ◌<◌, ◌+◌, ◌++◌, List, length, drop}
+use Rattle.std.specs.Prelude.{Result, Ok, Err, Option, IfSome, MatchBool, ⊤}
 use Rattle.std.specs.Io.KnownBytes.{Consumes, IsAtEnd}
 use Rattle.step_trace.specs.Traces.{Recorded}
 use Rattle.trace_text.specs.declared.byte_loops.TheConstants.{MAX_TEXT_BYTES}
@@ -48,11 +49,13 @@ pub record IsReadTo (known left : Option (List ℕ)) (before : List ℕ) (p : Pr
   pub gone : List ℕ
   pub count : p.total ≡ length (gone ++ (before ++ p.rest.items))
   pub read : Consumes known left (gone ++ (before ++ p.rest.items))
-  pub leads : (more : List ℕ) → read_on Opening (gone ++ (before ++ (p.rest.items ++ more))) ≡ read_on p.stage (before ++ (p.rest.items ++ more))
+  pub leads : (more : List ℕ) → read_on Opening (gone ++ (before ++ (p.rest.items ++ more))) ≡ read_on p.stage
+      (before ++ (p.rest.items ++ more))
 
 -- the front of the rest was taken: for any bytes behind, the records lead where those behind the front lead
 abbrev pub IsTaken : Stage → Stage → List ℕ → Result ℕ TextError → Type 0
-IsTaken old new rest (Ok cut) = (cut ≤ length rest) × ((more : List ℕ) → read_on old (rest ++ more) ≡ read_on new (drop cut rest ++ more))
+IsTaken old new rest (Ok cut) = (cut ≤ length rest)
+    × ((more : List ℕ) → read_on old (rest ++ more) ≡ read_on new (drop cut rest ++ more))
 IsTaken old new rest (Err e) = MatchBool (is_memory e) ⊤ ((more : List ℕ) → read_on old (rest ++ more) ≡ Err e)
 
 -- reading goes on, or is refused

@@ -1,5 +1,6 @@
 -- Steps that were read without their trace, and a trace that takes them.
-use Rattle.std.specs.Prelude.{ℕ, ◌≡◌, ◌≤◌, ◌+◌, ◌^◌, List, [], ◌∷◌, ◌++◌, length, drop, MatchBool, Option, Some, None, Result, Ok, Err, Bool, true, ◌==◌, nat_lt, if◌then◌else◌, codes, ⊤}
+use Rattle.std.specs.Prelude.{ℕ, ◌≡◌, ◌≤◌, ◌+◌, ◌^◌, List, [], ◌∷◌, ◌++◌, length, drop, MatchBool, Option, Some}
+use Rattle.std.specs.Prelude.{None, Result, Ok, Err, Bool, true, ◌==◌, nat_lt, if◌then◌else◌, codes, ⊤}
 use Rattle.std.specs.Str.{bytes_eq}
 use Rattle.std.specs.Option.{ok_or}
 use Rattle.step_trace.specs.declared.steps.Step.{Step}
@@ -73,7 +74,8 @@ line_stage v t l =
 unfoldable pub after_lines : Version → Recorded → List Line → Result Stage TextError
 after_lines v t [] = Ok (Recording v t)
 after_lines v t (l ∷ ls) =
-    if l.no == length t.steps + 1 then accepted (refusal_in t l.tick l.step) (length t.steps + 1) (after_lines v (with_step t l.tick l.step) ls)
+    if l.no == length t.steps + 1 then accepted (refusal_in t l.tick l.step) (length t.steps + 1)
+    (after_lines v (with_step t l.tick l.step) ls)
     else Err (WrongNumber (length t.steps + 1))
 
 -- these records encode these steps
@@ -91,5 +93,8 @@ refused_for why at = BadStep at why
 -- the records at the front of a text were read, and the others lead where all lead; or one of them is refused
 abbrev pub FrontIsRead : Read → Read → List ℕ → Result ℕ TextError → Type 0
 FrontIsRead old new text (Ok at) =
-    (at ≤ length text) × (after_records next_read old (records_of_text text) ≡ after_records next_read new (records_of_text (drop at text)))
-FrontIsRead old new text (Err e) = MatchBool (is_memory e) ⊤ (after_records next_read old (records_of_text text) ≡ Err e)
+    (at ≤ length text)
+    × (after_records next_read old (records_of_text text) ≡ after_records next_read new
+    (records_of_text (drop at text)))
+FrontIsRead old new text (Err e) =
+    MatchBool (is_memory e) ⊤ (after_records next_read old (records_of_text text) ≡ Err e)

@@ -13,13 +13,15 @@ use Rattle.trace_text.specs.LongRefusals.{apart, few_fields, longer}
 use Rattle.shared_reading.specs.declared.lines.Line.{Line}
 use Rattle.shared_reading.specs.Lines.{line_of, next_read}
 
-either : (b : Bool) (x : Result Line TextError) → x ≡ Err (BadFields 0) → cond b (Err (BadFields 0)) x ≡ Err (BadFields 0)
+either : (b : Bool) (x : Result Line TextError) → x ≡ Err (BadFields 0)
+    → cond b (Err (BadFields 0)) x ≡ Err (BadFields 0)
 either true x h = refl
 either false x h = h
 
 no_line : (v : Version) (fields : List (List ℕ)) → MAX_FIELDS < length fields → line_of v fields ≡ Err (BadFields 0)
 no_line v fields long =
-    let other : (length fields == step_fields v) ≡ false = apart (step_fields v) (length fields) (omega (arith, long, few_fields v)) in
+    let other : (length fields == step_fields v) ≡ false =
+    apart (step_fields v) (length fields) (omega (arith, long, few_fields v)) in
     rw other (either (bytes_eq (field_of fields 0) (codes "end")) (Err (BadFields 0)) refl)
 
 pub tells_none : RefusesLong next_read

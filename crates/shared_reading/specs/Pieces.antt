@@ -1,5 +1,6 @@
 -- A trace text of which some pieces are read without what comes before them.
-use Rattle.std.specs.Prelude.{ℕ, ◌≡◌, ◌≤◌, ◌-◌, ◌++◌, List, length, take, drop, Result, Ok, Err, Bool, false, true, MatchBool, ⊤}
+use Rattle.std.specs.Prelude.{ℕ, ◌≡◌, ◌≤◌, ◌-◌, ◌++◌, List, length, take, drop}
+use Rattle.std.specs.Prelude.{Result, Ok, Err, Bool, false, true, MatchBool, ⊤}
 use Rattle.csv.specs.Reading.{strip_bom}
 use Rattle.step_trace.specs.declared.traces.TheConstants.{MAX_STEPS}
 use Rattle.step_trace.specs.Traces.{Recorded}
@@ -48,8 +49,10 @@ pub record LeadsAlone (s : Stage) (bytes : List ℕ) (r : Result Stage TextError
 -- a stage that takes what was found in a piece leads where the bytes lead, or is unchanged, or one of its steps is
 -- refused
 abbrev pub TakesFound : Version → Found → Stage → Stage → Result Bool TextError → Type 0
-TakesFound v found old new (Ok took) = MatchBool took ((bytes : List ℕ) → IsFound v bytes found → LeadsAlone old bytes (Ok new)) (new ≡ old)
-TakesFound v found old new (Err e) = MatchBool (is_memory e) ⊤ ((bytes : List ℕ) → IsFound v bytes found → LeadsAlone old bytes (Err e))
+TakesFound v found old new (Ok took) =
+    MatchBool took ((bytes : List ℕ) → IsFound v bytes found → LeadsAlone old bytes (Ok new)) (new ≡ old)
+TakesFound v found old new (Err e) =
+    MatchBool (is_memory e) ⊤ ((bytes : List ℕ) → IsFound v bytes found → LeadsAlone old bytes (Err e))
 
 -- a text was read from one place to another, or is refused
 abbrev pub GoesOn : Stage → Stage → List ℕ → ℕ → Result ℕ TextError → Type 0

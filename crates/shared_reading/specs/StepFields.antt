@@ -38,7 +38,8 @@ pub record IsArgumentAt (text : List ℕ) (at : ℕ) (f : Argument) : Type 0 whe
 -- the record of these fields
 abbrev pub record_of : Version → StepFields → List (List ℕ)
 record_of One f = f.no.field.bytes.now ∷ f.proc.field.bytes.now ∷ f.operation.bytes.now ∷ f.arg.field.bytes.now ∷ []
-record_of Two f = f.no.field.bytes.now ∷ f.tick.field.bytes.now ∷ f.proc.field.bytes.now ∷ f.operation.bytes.now ∷ f.arg.field.bytes.now ∷ []
+record_of Two f = f.no.field.bytes.now ∷ f.tick.field.bytes.now ∷ f.proc.field.bytes.now ∷ f.operation.bytes.now
+    ∷ f.arg.field.bytes.now ∷ []
 
 -- the tick of the step of this number
 abbrev pub told_tick : Version → ℕ → List ℕ → Option ℕ

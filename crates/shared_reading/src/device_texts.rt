@@ -1,7 +1,8 @@
 //! A trace text that is read from a device part by part. What the trace has taken is dropped, so that memory never
 //! holds a long text and its trace.
 
-ghost use Rattle.std.specs.Prelude.{◌≡◌, ◌≤◌, ◌<◌, ◌+◌, ℕ, List, [], Option, drop, length, vec_len, IfOk, OnOk, IfErr, IfSome};
+ghost use Rattle.std.specs.Prelude.{◌≡◌, ◌≤◌, ◌<◌, ◌+◌, ℕ, List, [], Option, drop};
+ghost use Rattle.std.specs.Prelude.{length, vec_len, IfOk, OnOk, IfErr, IfSome};
 ghost use Rattle.std.specs.Io.KnownBytes.{IsAtEnd};
 ghost use Rattle.trace_text.specs.Faults.{inner_of, faults_of};
 ghost use Rattle.trace_text.specs.ByteLoops.{faults_after_reading};
@@ -39,7 +40,8 @@ pub fn read_trace_from<T: Threads + Sync, R: Read>(
 ) -> Result<Trace, TextError>
     ensures read { IfOk result (IsTraceRead (R.remaining (inner_of reader.old))) }
     ensures end { OnOk result (IsAtEnd (R.remaining (inner_of reader.new))) }
-    ensures refused { IfErr result (λ e. IfSome (R.remaining (inner_of reader.old)) (IsRefusalOf e)) }
+    ensures refused { IfErr result
+        (λ e. IfSome (R.remaining (inner_of reader.old)) (IsRefusalOf e)) }
     ensures faults { faults_of reader.new ≡ faults_after_reading result (faults_of reader.old) }
 {
     let Ok(mut piece) = vec![in alloc; 0u8; READ_BYTES] else {
@@ -55,7 +57,8 @@ pub fn read_trace_by_parts<R: Read>(
 ) -> Result<Trace, TextError>
     ensures read { IfOk result (IsTraceRead (R.remaining (inner_of reader.old))) }
     ensures end { OnOk result (IsAtEnd (R.remaining (inner_of reader.new))) }
-    ensures refused { IfErr result (λ e. IfSome (R.remaining (inner_of reader.old)) (IsRefusalOf e)) }
+    ensures refused { IfErr result
+        (λ e. IfSome (R.remaining (inner_of reader.old)) (IsRefusalOf e)) }
     ensures faults { faults_of reader.new ≡ faults_after_reading result (faults_of reader.old) }
 {
     let Ok(mut piece) = vec![in alloc; 0u8; READ_BYTES] else {
@@ -73,7 +76,8 @@ fn read_parts_from<R: Read>(
     requires room { 0 < length piece.old }
     ensures read { IfOk result (IsTraceRead (R.remaining (inner_of reader.old))) }
     ensures end { OnOk result (IsAtEnd (R.remaining (inner_of reader.new))) }
-    ensures refused { IfErr result (λ e. IfSome (R.remaining (inner_of reader.old)) (IsRefusalOf e)) }
+    ensures refused { IfErr result
+        (λ e. IfSome (R.remaining (inner_of reader.old)) (IsRefusalOf e)) }
     ensures faults { faults_of reader.new ≡ faults_after_reading result (faults_of reader.old) }
 {
     let mut progress = Progress {
@@ -96,7 +100,8 @@ fn read_whole_from<T: Threads + Sync, R: Read>(
     requires room { 0 < length piece.old }
     ensures read { IfOk result (IsTraceRead (R.remaining (inner_of reader.old))) }
     ensures end { OnOk result (IsAtEnd (R.remaining (inner_of reader.new))) }
-    ensures refused { IfErr result (λ e. IfSome (R.remaining (inner_of reader.old)) (IsRefusalOf e)) }
+    ensures refused { IfErr result
+        (λ e. IfSome (R.remaining (inner_of reader.old)) (IsRefusalOf e)) }
     ensures faults { faults_of reader.new ≡ faults_after_reading result (faults_of reader.old) }
 {
     let mut progress = Progress {
@@ -121,7 +126,8 @@ fn read_to_end<T: Threads + Sync, R: Read>(
     requires limit { progress.old.total ≤ MAX_TEXT_BYTES }
     ensures limit { OnOk result (progress.new.total ≤ MAX_TEXT_BYTES) }
     ensures end { OnOk result (IsAtEnd (R.remaining (inner_of reader.new))) }
-    ensures goes_on { (known : Option (List ℕ)) → IsReadTo known (R.remaining (inner_of reader.old)) [] progress.old
+    ensures goes_on { (known : Option (List ℕ))
+        → IsReadTo known (R.remaining (inner_of reader.old)) [] progress.old
         → GoesOnTo known (R.remaining (inner_of reader.new)) [] progress.new result }
     ensures faults { faults_of reader.new ≡ faults_after_reading result (faults_of reader.old) }
 {
@@ -142,7 +148,8 @@ fn read_parts<R: Read>(
     requires limit { progress.old.total ≤ MAX_TEXT_BYTES }
     ensures limit { OnOk result (progress.new.total ≤ MAX_TEXT_BYTES) }
     ensures end { OnOk result (IsAtEnd (R.remaining (inner_of reader.new))) }
-    ensures goes_on { (known : Option (List ℕ)) → IsReadTo known (R.remaining (inner_of reader.old)) [] progress.old
+    ensures goes_on { (known : Option (List ℕ))
+        → IsReadTo known (R.remaining (inner_of reader.old)) [] progress.old
         → GoesOnTo known (R.remaining (inner_of reader.new)) [] progress.new result }
     ensures faults { faults_of reader.new ≡ faults_after_reading result (faults_of reader.old) }
 {
@@ -168,7 +175,8 @@ pub(crate) fn take_part<R: Read>(
     requires limit { progress.old.total ≤ MAX_TEXT_BYTES }
     ensures room { length piece.new ≡ length piece.old }
     ensures total { OnOk result (progress.new.total ≡ progress.old.total) }
-    ensures goes_on { (known : Option (List ℕ)) → IsReadTo known (R.remaining (inner_of reader.old)) [] progress.old
+    ensures goes_on { (known : Option (List ℕ))
+        → IsReadTo known (R.remaining (inner_of reader.old)) [] progress.old
         → GoesOnTo known (R.remaining (inner_of reader.new)) [] progress.new result }
     ensures faults { faults_of reader.new ≡ faults_after_reading result (faults_of reader.old) }
 {
@@ -218,7 +226,8 @@ fn remove_front(bytes: &mut Vec<u8>, count: usize)
 /// The trace of a text that was read to its end.
 fn read_rest(alloc: Global, progress: Progress) -> Result<Trace, TextError>
     requires limit { progress.total ≤ MAX_TEXT_BYTES }
-    ensures { (known left : Option (List ℕ)) → IsReadTo known left [] progress → IsAtEnd left → IsGiven known result }
+    ensures { (known left : Option (List ℕ)) → IsReadTo known left [] progress → IsAtEnd left
+        → IsGiven known result }
 {
     let Progress {
         mut stage,

@@ -6,7 +6,8 @@ ghost use Rattle.trace_text.specs.Records.{GivesUnless, ReachesUnless};
 ghost use Rattle.trace_text.specs.TextRefusals.{Gives, is_memory};
 ghost use Rattle.trace_text.specs.declared.reading.Stage.TheVariants.{Recording};
 ghost use Rattle.shared_reading.specs.LongLines.{tells_none};
-ghost use Rattle.shared_reading.specs.Lines.{FrontIsRead, Read, line_of, narrow_line, is_next, with_next, next_read, after_lines, refused_for};
+ghost use Rattle.shared_reading.specs.Lines.{FrontIsRead, Read, line_of, narrow_line, is_next};
+ghost use Rattle.shared_reading.specs.Lines.{with_next, next_read, after_lines, refused_for};
 
 use crate::paged_steps::PagedSteps;
 use crate::step_lines::step_line;
@@ -44,7 +45,8 @@ impl Model for Lines {
 
     ghost Value = { Read };
 
-    ghost view = { λ r. record { version = r.version; lines = numbered r.first r.steps.steps r.steps.ticks } };
+    ghost view = { λ r.
+        record { version = r.version; lines = numbered r.first r.steps.steps r.steps.ticks } };
 
     ghost invariant = { λ r. IsPaired r.steps × (r.count ≡ length r.steps.steps) };
 }

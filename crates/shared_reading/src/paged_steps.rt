@@ -48,7 +48,11 @@ impl PagedSteps {
         tick: u32,
         step: Step,
     ) -> Result<(), AllocError>
-        ensures ok { OnOk result (self.new ≡ record { steps = self.old.steps ++ step ∷ []; ticks = self.old.ticks ++ tick ∷ [] }) }
+        ensures ok { OnOk result
+            (self.new ≡ record {
+              steps = self.old.steps ++ step ∷ [];
+              ticks = self.old.ticks ++ tick ∷ [];
+            }) }
         ensures err { OnErr result (self.new ≡ self.old) }
     {
         self.cut_before(alloc, no)?;
@@ -70,7 +74,8 @@ impl PagedSteps {
 
     /// The trace with these steps behind its own, as `Trace::with_steps` appends them.
     pub(crate) fn append_to(self, trace: Trace) -> Result<Trace, StepRefused>
-        ensures appended { IfOk result (λ longer. appended trace self.steps self.ticks ≡ Ok longer) }
+        ensures appended { IfOk result
+            (λ longer. appended trace self.steps self.ticks ≡ Ok longer) }
         ensures refused { IfErr result (IsStepRefusal (appended trace self.steps self.ticks)) }
     {
         let PagedSteps { full, last } = self;
@@ -81,8 +86,10 @@ impl PagedSteps {
 /// The trace with the steps of these pages behind its own.
 fn append_pages(trace: Trace, pages: Vec<LooseSteps>) -> Result<Trace, StepRefused>
     requires { All IsPaired pages.items }
-    ensures appended { IfOk result (λ longer. appended trace (steps_of pages.items) (ticks_of pages.items) ≡ Ok longer) }
-    ensures refused { IfErr result (IsStepRefusal (appended trace (steps_of pages.items) (ticks_of pages.items))) }
+    ensures appended { IfOk result
+        (λ longer. appended trace (steps_of pages.items) (ticks_of pages.items) ≡ Ok longer) }
+    ensures refused { IfErr result
+        (IsStepRefusal (appended trace (steps_of pages.items) (ticks_of pages.items))) }
 {
     let mut trace = trace;
     for page in pages {

@@ -48,7 +48,8 @@ pub(crate) fn found_in(alloc: Global, version: Version, bytes: &[u8]) -> Found
 /// Adds the steps of all records of a text: those of plain lines, and from the first other line on those that csv's
 /// reader finds.
 fn read_lines(alloc: Global, bytes: &[u8], lines: &mut Lines) -> Result<(), TextError>
-    ensures { ReachesUnless is_memory result lines.new (after_records next_read lines.old (records_of_text bytes.now)) }
+    ensures { ReachesUnless is_memory result lines.new
+        (after_records next_read lines.old (records_of_text bytes.now)) }
 {
     let at = lines.read_front(alloc, bytes)?;
     read_records(alloc, tail(bytes, at), lines)

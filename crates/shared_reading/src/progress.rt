@@ -33,9 +33,11 @@ pub(crate) fn fill<R: Read>(
     requires limit { progress.old.total ≤ MAX_TEXT_BYTES }
     ensures room { length piece.new ≡ length piece.old }
     ensures limit { OnOk result (progress.new.total ≤ MAX_TEXT_BYTES) }
-    ensures end { IfOk result (λ ended. ended ≡ true → IsAtEnd (R.remaining (inner_of reader.new))) }
+    ensures end { IfOk result (λ ended. ended ≡ true
+        → IsAtEnd (R.remaining (inner_of reader.new))) }
     ensures more { IfOk result (λ ended. ended ≡ false → progress.old.total < progress.new.total) }
-    ensures goes_on { (known : Option (List ℕ)) (before : List ℕ) → IsReadTo known (R.remaining (inner_of reader.old)) before progress.old
+    ensures goes_on { (known : Option (List ℕ)) (before : List ℕ)
+        → IsReadTo known (R.remaining (inner_of reader.old)) before progress.old
         → GoesOnTo known (R.remaining (inner_of reader.new)) before progress.new result }
     ensures faults { faults_of reader.new ≡ faults_after_reading result (faults_of reader.old) }
 {
@@ -64,9 +66,12 @@ fn read_once<R: Read>(
     ensures room { length piece.new ≡ length piece.old }
     ensures bound { IfOk result (λ count. count ≤ length piece.new) }
     ensures limit { IfOk result (λ count. total + count ≤ MAX_TEXT_BYTES) }
-    ensures bytes { IfOk result (λ count. Consumes (R.remaining (inner_of reader.old)) (R.remaining (inner_of reader.new)) (take count piece.new)) }
+    ensures bytes { IfOk result
+        (λ count. Consumes (R.remaining (inner_of reader.old)) (R.remaining (inner_of reader.new))
+        (take count piece.new)) }
     ensures end { IfOk result (λ count. count ≡ 0 → IsAtEnd (R.remaining (inner_of reader.new))) }
-    ensures refused { IfErr result (IsUnread total (R.remaining (inner_of reader.old)) (R.remaining (inner_of reader.new))) }
+    ensures refused { IfErr result
+        (IsUnread total (R.remaining (inner_of reader.old)) (R.remaining (inner_of reader.new))) }
     ensures faults { faults_of reader.new ≡ faults_after_reading result (faults_of reader.old) }
 {
     let Ok(count) = reader.read(piece) else {
@@ -87,8 +92,10 @@ pub(crate) fn skip_rest<R: Read>(
     requires room { 0 < length piece.old }
     requires limit { total ≤ MAX_TEXT_BYTES }
     ensures room { length piece.new ≡ length piece.old }
-    ensures whole { OnOk result (IsReadOut total (R.remaining (inner_of reader.old)) (R.remaining (inner_of reader.new))) }
-    ensures refused { IfErr result (IsUnread total (R.remaining (inner_of reader.old)) (R.remaining (inner_of reader.new))) }
+    ensures whole { OnOk result
+        (IsReadOut total (R.remaining (inner_of reader.old)) (R.remaining (inner_of reader.new))) }
+    ensures refused { IfErr result
+        (IsUnread total (R.remaining (inner_of reader.old)) (R.remaining (inner_of reader.new))) }
     ensures faults { faults_of reader.new ≡ faults_after_reading result (faults_of reader.old) }
 {
     let mut total = total;

@@ -4,7 +4,8 @@
 //! takes the steps of the oldest piece once they are read; besides that one, as many pieces are under way as there are
 //! workers.
 
-ghost use Rattle.std.specs.Prelude.{◌≡◌, ◌≤◌, ◌<◌, ◌++◌, ℕ, List, [], Option, take, drop, length, vec_len, true, IfOk, OnOk, IfErr};
+ghost use Rattle.std.specs.Prelude.{◌≡◌, ◌≤◌, ◌<◌, ◌++◌, ℕ, List, [], Option, take};
+ghost use Rattle.std.specs.Prelude.{drop, length, vec_len, true, IfOk, OnOk, IfErr};
 ghost use Rattle.std.specs.VecDeque.{deque_len};
 ghost use Rattle.std.specs.Io.KnownBytes.{IsAtEnd};
 ghost use Rattle.trace_text.specs.Faults.{inner_of, faults_of};
@@ -52,8 +53,10 @@ pub(crate) fn read_shared<T: Threads, R: Read>(
     requires limit { progress.old.total ≤ MAX_TEXT_BYTES }
     ensures room { length piece.new ≡ length piece.old }
     ensures limit { OnOk result (progress.new.total ≤ MAX_TEXT_BYTES) }
-    ensures end { IfOk result (λ ended. ended ≡ true → IsAtEnd (R.remaining (inner_of reader.new))) }
-    ensures goes_on { (known : Option (List ℕ)) → IsReadTo known (R.remaining (inner_of reader.old)) [] progress.old
+    ensures end { IfOk result (λ ended. ended ≡ true
+        → IsAtEnd (R.remaining (inner_of reader.new))) }
+    ensures goes_on { (known : Option (List ℕ))
+        → IsReadTo known (R.remaining (inner_of reader.old)) [] progress.old
         → GoesOnTo known (R.remaining (inner_of reader.new)) [] progress.new result }
     ensures faults { faults_of reader.new ≡ faults_after_reading result (faults_of reader.old) }
 {
@@ -84,8 +87,10 @@ fn read_pieces<T: Threads, R: Read>(
     requires limit { progress.old.total ≤ MAX_TEXT_BYTES }
     ensures room { length piece.new ≡ length piece.old }
     ensures limit { OnOk result (progress.new.total ≤ MAX_TEXT_BYTES) }
-    ensures end { IfOk result (λ ended. ended ≡ true → IsAtEnd (R.remaining (inner_of reader.new))) }
-    ensures goes_on { (known : Option (List ℕ)) → IsReadTo known (R.remaining (inner_of reader.old)) [] progress.old
+    ensures end { IfOk result (λ ended. ended ≡ true
+        → IsAtEnd (R.remaining (inner_of reader.new))) }
+    ensures goes_on { (known : Option (List ℕ))
+        → IsReadTo known (R.remaining (inner_of reader.old)) [] progress.old
         → GoesOnTo known (R.remaining (inner_of reader.new)) [] progress.new result }
     ensures faults { faults_of reader.new ≡ faults_after_reading result (faults_of reader.old) }
 {
@@ -126,9 +131,11 @@ fn start_and_take<T: Threads, R: Read>(
     requires limit { progress.old.total ≤ MAX_TEXT_BYTES }
     ensures room { length piece.new ≡ length piece.old }
     ensures limit { OnOk result (progress.new.total ≤ MAX_TEXT_BYTES) }
-    ensures end { IfOk result (λ ended. ended ≡ true → IsAtEnd (R.remaining (inner_of reader.new))) }
-    ensures goes_on { (known : Option (List ℕ)) → IsReadTo known (R.remaining (inner_of reader.old)) (bytes_of under_way.old.items) progress.old
-        → GoesOnTo known (R.remaining (inner_of reader.new)) [] progress.new result }
+    ensures end { IfOk result (λ ended. ended ≡ true
+        → IsAtEnd (R.remaining (inner_of reader.new))) }
+    ensures goes_on { (known : Option (List ℕ))
+        → IsReadTo known (R.remaining (inner_of reader.old)) (bytes_of under_way.old.items)
+        progress.old → GoesOnTo known (R.remaining (inner_of reader.new)) [] progress.new result }
     ensures faults { faults_of reader.new ≡ faults_after_reading result (faults_of reader.old) }
 {
     let ended = start_all(
@@ -154,9 +161,12 @@ fn start_all<T: Threads, R: Read>(
     requires limit { progress.old.total ≤ MAX_TEXT_BYTES }
     ensures room { length piece.new ≡ length piece.old }
     ensures limit { OnOk result (progress.new.total ≤ MAX_TEXT_BYTES) }
-    ensures end { IfOk result (λ ended. ended ≡ true → IsAtEnd (R.remaining (inner_of reader.new))) }
-    ensures goes_on { (known : Option (List ℕ)) → IsReadTo known (R.remaining (inner_of reader.old)) (bytes_of under_way.old.items) progress.old
-        → GoesOnTo known (R.remaining (inner_of reader.new)) (bytes_of under_way.new.items) progress.new result }
+    ensures end { IfOk result (λ ended. ended ≡ true
+        → IsAtEnd (R.remaining (inner_of reader.new))) }
+    ensures goes_on { (known : Option (List ℕ))
+        → IsReadTo known (R.remaining (inner_of reader.old))
+        (bytes_of under_way.old.items) progress.old → GoesOnTo known
+        (R.remaining (inner_of reader.new)) (bytes_of under_way.new.items) progress.new result }
     ensures faults { faults_of reader.new ≡ faults_after_reading result (faults_of reader.old) }
 {
     loop {
@@ -195,7 +205,9 @@ fn start_piece<T: Threads>(
     progress: &mut Progress,
     under_way: &mut VecDeque<UnderWay>,
 ) -> Result<bool, TextError>
-    ensures moved { OnOk result (IsMoved progress.old (bytes_of under_way.old.items) progress.new (bytes_of under_way.new.items)) }
+    ensures moved { OnOk result
+        (IsMoved progress.old (bytes_of under_way.old.items) progress.new
+        (bytes_of under_way.new.items)) }
     ensures memory { IfErr result (λ e. e ≡ TextError.Memory) }
 {
     let cut = cut_leaving(&progress.rest, TAIL_BYTES);
@@ -269,9 +281,11 @@ fn take_all<T: Threads, R: Read>(
     requires limit { progress.old.total ≤ MAX_TEXT_BYTES }
     ensures room { length piece.new ≡ length piece.old }
     ensures total { OnOk result (progress.new.total ≡ progress.old.total) }
-    ensures same { OnOk result (R.remaining (inner_of reader.new) ≡ R.remaining (inner_of reader.old)) }
-    ensures goes_on { (known : Option (List ℕ)) → IsReadTo known (R.remaining (inner_of reader.old)) (bytes_of under_way.old.items) progress.old
-        → GoesOnTo known (R.remaining (inner_of reader.new)) [] progress.new result }
+    ensures same { OnOk result
+        (R.remaining (inner_of reader.new) ≡ R.remaining (inner_of reader.old)) }
+    ensures goes_on { (known : Option (List ℕ))
+        → IsReadTo known (R.remaining (inner_of reader.old)) (bytes_of under_way.old.items)
+        progress.old → GoesOnTo known (R.remaining (inner_of reader.new)) [] progress.new result }
     ensures faults { faults_of reader.new ≡ faults_after_reading result (faults_of reader.old) }
 {
     while under_way.len() > 0 {
@@ -295,10 +309,13 @@ fn take_oldest<T: Threads, R: Read>(
     requires some { 0 < deque_len under_way.old }
     ensures room { length piece.new ≡ length piece.old }
     ensures total { OnOk result (progress.new.total ≡ progress.old.total) }
-    ensures same { OnOk result (R.remaining (inner_of reader.new) ≡ R.remaining (inner_of reader.old)) }
+    ensures same { OnOk result
+        (R.remaining (inner_of reader.new) ≡ R.remaining (inner_of reader.old)) }
     ensures fewer { OnOk result (deque_len under_way.new < deque_len under_way.old) }
-    ensures goes_on { (known : Option (List ℕ)) → IsReadTo known (R.remaining (inner_of reader.old)) (bytes_of under_way.old.items) progress.old
-        → GoesOnTo known (R.remaining (inner_of reader.new)) (bytes_of under_way.new.items) progress.new result }
+    ensures goes_on { (known : Option (List ℕ))
+        → IsReadTo known (R.remaining (inner_of reader.old))
+        (bytes_of under_way.old.items) progress.old → GoesOnTo known
+        (R.remaining (inner_of reader.new)) (bytes_of under_way.new.items) progress.new result }
     ensures faults { faults_of reader.new ≡ faults_after_reading result (faults_of reader.old) }
 {
     let Some(oldest) = under_way.pop_front() else {
@@ -334,7 +351,8 @@ fn put_back<T: Threads>(
     rest: &mut Vec<u8>,
 ) -> Result<(), TextError>
     ensures none { OnOk result (under_way.new.items ≡ []) }
-    ensures rest { OnOk result (rest.new.items ≡ (bytes.items ++ bytes_of under_way.old.items) ++ rest.old.items) }
+    ensures rest { OnOk result
+        (rest.new.items ≡ (bytes.items ++ bytes_of under_way.old.items) ++ rest.old.items) }
     ensures memory { IfErr result (λ e. e ≡ TextError.Memory) }
 {
     let mut all = bytes;

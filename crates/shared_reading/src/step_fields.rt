@@ -3,7 +3,8 @@
 
 ghost use Rattle.std.specs.Prelude.{◌≡◌, ◌<◌, ◌≤◌, ◌++◌, length, drop, take, IfSome};
 ghost use Rattle.trace_text.specs.Records.{record_line};
-ghost use Rattle.shared_reading.specs.StepFields.{AreNumbersOf, IsArgumentAt, IsFieldAt, IsFirstNumber, IsNumberAt, IsTickAt, record_of};
+ghost use Rattle.shared_reading.specs.StepFields.{AreNumbersOf, IsArgumentAt, IsFieldAt, IsFirstNumber};
+ghost use Rattle.shared_reading.specs.StepFields.{IsNumberAt, IsTickAt, record_of};
 
 use crate::pieces::tail;
 use memchr::memchr;
@@ -52,7 +53,9 @@ pub(crate) fn step_fields(version: Version, text: &[u8], at: usize) -> Option<St
     requires { at ≤ length text.now }
     ensures end { IfSome result (λ fields. fields.arg.field.end ≤ length text.now) }
     ensures some { IfSome result (λ fields. at < fields.arg.field.end) }
-    ensures line { IfSome result (λ fields. drop at text.now ≡ record_line (record_of version fields) ++ drop fields.arg.field.end text.now) }
+    ensures line { IfSome result
+        (λ fields. drop at text.now ≡ record_line (record_of version fields)
+        ++ drop fields.arg.field.end text.now) }
     ensures numbers { IfSome result (AreNumbersOf version) }
 {
     let no = number_at(text, at, b',')?;

@@ -65,7 +65,10 @@ fn told_line(alloc: Global, version: Version, fields: StepFields<'_>) -> Result<
 fn told_step(alloc: Global, fields: StepFields<'_>) -> Result<(u64, Step), TextError>
     requires proc { number_of fields.proc.field.bytes.now ≡ Some fields.proc.number }
     requires arg { IfSome fields.arg.number (λ n. number_of fields.arg.field.bytes.now ≡ Some n) }
-    ensures { IfOk result (λ step. judged_of fields.entry.no.number (Some fields.entry.tick.number) fields.entry.operation.bytes.now fields.entry.proc.field.bytes.now fields.entry.arg.field.bytes.now ≡ Ok step) }
+    ensures { IfOk result
+        (λ step. judged_of fields.entry.no.number (Some fields.entry.tick.number)
+        fields.entry.operation.bytes.now fields.entry.proc.field.bytes.now
+        fields.entry.arg.field.bytes.now ≡ Ok step) }
 {
     let operation = fields.operation.bytes;
     let tick = fields.tick.number;

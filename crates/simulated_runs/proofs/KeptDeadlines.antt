@@ -1,7 +1,9 @@
 -- The processor bound is kept by one step more.
 use Rattle.std.proofs.Common.{ℕ, suc, ◌≡◌, ◌+◌, ◌<◌, ◌≤◌, ◌⊎◌, inl, inr, List, [], ◌∷◌, ◌++◌, Some, length, max, slice_get, refl, sym, ap, subst, ◌∙◌, arith, length-append}
 use Rattle.std.proofs.lemmas.Bool.{cases_lt}
-use Rattle.simulated_runs.proofs.Common.{Step, Setup, step_at, IsStepOf, step_at-push_old, step_at_last, step_at_within, Crash, Turn, ArePassed, IsTurnIn, MayStep, next_turn, IsLive, IsSinceStep, KeepsPhi, StepsFrom}
+use Rattle.simulated_runs.proofs.Common.{Step, Setup, step_at, IsStepOf, step_at-push_old, step_at_last, step_at_within}
+use Rattle.simulated_runs.proofs.Common.{Crash, Turn, ArePassed, IsTurnIn, MayStep, next_turn, IsLive, IsSinceStep}
+use Rattle.simulated_runs.proofs.Common.{KeepsPhi, StepsFrom}
 
 -- steps stay
 step-old : (steps : List Step) (x : Step) (k p : ℕ) → IsStepOf steps k p → IsStepOf (steps ++ x ∷ []) k p

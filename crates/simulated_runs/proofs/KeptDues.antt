@@ -1,9 +1,17 @@
 -- The communication bound is kept by one step more.
-use Rattle.std.proofs.Common.{ℕ, suc, ◌≡◌, ◌≢◌, ◌+◌, ◌<◌, ◌≤◌, ◌⊎◌, inl, inr, List, [], ◌∷◌, ◌++◌, Bool, true, false, not, ◌==◌, Option, Some, None, length, max, Contains, filter, eq-eqb, refl, sym, ap, subst, arith}
+use Rattle.std.proofs.Common.{ℕ, suc, ◌≡◌, ◌≢◌, ◌+◌, ◌<◌, ◌≤◌, ◌⊎◌, inl, inr, List, [], ◌∷◌, ◌++◌, Bool, true, false}
+use Rattle.std.proofs.Common.{not, ◌==◌, Option, Some, None, length, max, Contains, filter, eq-eqb, refl, sym, ap}
+use Rattle.std.proofs.Common.{subst, arith}
 use Rattle.std.specs.List.{list_any}
 use Rattle.std.proofs.lemmas.Bool.{cases_eq, and_from, le-leb}
 use Rattle.std.proofs.lemmas.List.Elements.{Contains-append_left, Contains-append_right, Contains-append_cases}
-use Rattle.simulated_runs.proofs.Common.{Receive, Step, Setup, IsReceiveOf, IsSentTo, IsWellFormed, step_at, Contains-head, Contains-cons_cases, Contains-nil, Contains-map, Contains-filter, Contains-from_filter, list_any-at, step_at-push_cases, step_at-push_old, step_at_last, step_at_within, taken_at-from_is_taken, buffer, waits_for, sending, receiving, buffer-sent_to, buffer-sent_elsewhere, buffer-received, Posted, due_ids, is_due, not_due, StatedBounds, IsPosted, tray_of, with_tray, DeltaGoesOn, IsTakenBy, KeepsDelta}
+use Rattle.simulated_runs.proofs.Common.{Receive, Step, Setup, IsReceiveOf, IsSentTo, IsWellFormed, step_at}
+use Rattle.simulated_runs.proofs.Common.{Contains-head, Contains-cons_cases, Contains-nil, Contains-map}
+use Rattle.simulated_runs.proofs.Common.{Contains-filter, Contains-from_filter, list_any-at, step_at-push_cases}
+use Rattle.simulated_runs.proofs.Common.{step_at-push_old, step_at_last, step_at_within, taken_at-from_is_taken, buffer}
+use Rattle.simulated_runs.proofs.Common.{waits_for, sending, receiving, buffer-sent_to, buffer-sent_elsewhere}
+use Rattle.simulated_runs.proofs.Common.{buffer-received, Posted, due_ids, is_due, not_due, StatedBounds, IsPosted}
+use Rattle.simulated_runs.proofs.Common.{tray_of, with_tray, DeltaGoesOn, IsTakenBy, KeepsDelta}
 use Rattle.step_trace.specs.PushRefusals.{is_sent_to, is_taken}
 use Rattle.step_buffers.specs.HeardTables.{numbers}
 use Rattle.step_buffers.proofs.HeardSenders.{Contains-numbers}

@@ -1,9 +1,14 @@
 -- Until when processors may step.
-use Rattle.std.proofs.Common.{ℕ, ◌≡◌, ◌+◌, ◌-◌, ◌≤◌, inl, inr, ◌^◌, List, [], ◌∷◌, ◌++◌, Bool, true, false, not, ◌||◌, if◌then◌else◌, fold, min, length, Contains, slice_index, get_or, ◌==◌, refl, sym, ap, subst, ◌∙◌, arith, eq-eqb}
+use Rattle.std.proofs.Common.{ℕ, ◌≡◌, ◌+◌, ◌-◌, ◌≤◌, inl, inr, ◌^◌, List, [], ◌∷◌, ◌++◌, Bool, true, false, not, ◌||◌}
+use Rattle.std.proofs.Common.{if◌then◌else◌, fold, min, length, Contains, slice_index, get_or, ◌==◌, refl, sym, ap}
+use Rattle.std.proofs.Common.{subst, ◌∙◌, arith, eq-eqb}
 use Rattle.std.specs.List.{list_any, range_with_len}
 use Rattle.std.proofs.lemmas.List.Elements.{All-contains_itself}
 use Rattle.std.proofs.lemmas.List.FromFn.{length-map-range_with_len, get_or-map-range_with_len}
-use Rattle.simulated_runs.proofs.Common.{Step, Setup, IsSetup, step_at-push_cases, Contains-head, Contains-nil, Contains-cons_cases, Contains-from_filter, IsProc-from_processors, Crash, IsUp, is_crash_of, is_live, live, IsUpIn, StepBeforeCrashes, last_tick, lasts_of, IsLive}
+use Rattle.simulated_runs.proofs.Common.{Step, Setup, IsSetup, step_at-push_cases, Contains-head, Contains-nil}
+use Rattle.simulated_runs.proofs.Common.{Contains-cons_cases, Contains-from_filter, IsProc-from_processors, Crash, IsUp}
+use Rattle.simulated_runs.proofs.Common.{is_crash_of, is_live, live, IsUpIn, StepBeforeCrashes, last_tick, lasts_of}
+use Rattle.simulated_runs.proofs.Common.{IsLive}
 
 abbrev lasting : ℕ → ℕ → Crash → ℕ
 lasting p last crash = if crash.proc == p then min last crash.tick else last

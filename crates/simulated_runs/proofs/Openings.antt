@@ -1,9 +1,15 @@
 -- A run before its first step.
-use Rattle.std.proofs.Common.{ℕ, suc, zero, ◌≡◌, ◌+◌, ◌*◌, ◌-◌, ◌<◌, ◌≤◌, List, [], ◌∷◌, Option, Some, None, IfSome, IfOk, Result, Ok, Err, All, Contains, length, map, replicate, slice_get, refl, sym, ap, subst, ◌∙◌, arith, inl}
+use Rattle.std.proofs.Common.{ℕ, suc, zero, ◌≡◌, ◌+◌, ◌*◌, ◌-◌, ◌<◌, ◌≤◌, List, [], ◌∷◌, Option, Some, None, IfSome}
+use Rattle.std.proofs.Common.{IfOk, Result, Ok, Err, All, Contains, length, map, replicate, slice_get, refl, sym, ap}
+use Rattle.std.proofs.Common.{subst, ◌∙◌, arith, inl}
 use Rattle.std.specs.List.{range_with_len}
 use Rattle.std.proofs.lemmas.Option.{same_Some, none-some, slice_get_within, slice_get-get_or}
 use Rattle.std.proofs.lemmas.List.{length-replicate, get_or-replicate, length-map}
-use Rattle.simulated_runs.proofs.Common.{Step, Setup, IsSetup, step_at, Contains-nil, Contains-slice_get, Contains-filter, Contains-from_filter, IsProc-from_processors, Crash, StatedBounds, is_live, live, Posted, Turn, Simulation, last_tick, lasts_of, IsLive, KeepsDelta, KeepsPhi, tray_of, IsTurnIn, AreUnderWay, IsUnderWay, AreOpeningTurns, HasRun}
+use Rattle.simulated_runs.proofs.Common.{Step, Setup, IsSetup, step_at, Contains-nil, Contains-slice_get}
+use Rattle.simulated_runs.proofs.Common.{Contains-filter, Contains-from_filter, IsProc-from_processors, Crash}
+use Rattle.simulated_runs.proofs.Common.{StatedBounds, is_live, live, Posted, Turn, Simulation, last_tick, lasts_of}
+use Rattle.simulated_runs.proofs.Common.{IsLive, KeepsDelta, KeepsPhi, tray_of, IsTurnIn, AreUnderWay, IsUnderWay}
+use Rattle.simulated_runs.proofs.Common.{AreOpeningTurns, HasRun}
 use Rattle.std.proofs.lemmas.List.FromFn.{length-map-range_with_len}
 use Rattle.round_model.proofs.HeardLists.{Contains-processors}
 use Rattle.deciding_runs.specs.Paces.{Paced, opening_pace}

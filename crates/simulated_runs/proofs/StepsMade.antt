@@ -1,6 +1,8 @@
 -- What is kept of a run, after one step more.
 use Rattle.std.proofs.Common.{ℕ, ◌≡◌, ◌+◌, ◌<◌, inl, inr, List, [], ◌∷◌, Option, Some, None, IfSome, length, sym, ap, subst, ◌∙◌, arith, length-append}
-use Rattle.simulated_runs.proofs.Common.{Step, Setup, Crash, StatedBounds, Turn, Simulation, ArePassed, IsTurnIn, IsSomeUp, IsUpIn, StepBeforeCrashes, lasts_of, DeltaGoesOn, IsLive, KeepsDelta, KeepsPhi, HasRun, IsReady, IsStepped}
+use Rattle.simulated_runs.proofs.Common.{Step, Setup, Crash, StatedBounds, Turn, Simulation, ArePassed, IsTurnIn}
+use Rattle.simulated_runs.proofs.Common.{IsSomeUp, IsUpIn, StepBeforeCrashes, lasts_of, DeltaGoesOn, IsLive, KeepsDelta}
+use Rattle.simulated_runs.proofs.Common.{KeepsPhi, HasRun, IsReady, IsStepped}
 use Rattle.simulated_runs.proofs.LastTicks.{IsUpIn-live, StepBeforeCrashes-stepped}
 use Rattle.simulated_runs.proofs.KeptDeadlines.{KeepsPhi-stepped}
 

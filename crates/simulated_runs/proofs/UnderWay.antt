@@ -1,10 +1,17 @@
 -- What is under way, after a Send and after a Receive.
-use Rattle.std.proofs.Common.{ℕ, suc, ◌≡◌, ◌≢◌, ◌+◌, ◌-◌, ◌<◌, ◌≤◌, ◌⊎◌, inl, inr, List, [], ◌∷◌, ◌++◌, length, Contains, filter, Bool, true, not, ◌==◌, sym, ap, ◌∙◌, subst, arith, get_or-set_same, get_or-set_other, Option}
+use Rattle.std.proofs.Common.{ℕ, suc, ◌≡◌, ◌≢◌, ◌+◌, ◌-◌, ◌<◌, ◌≤◌, ◌⊎◌, inl, inr, List, [], ◌∷◌, ◌++◌, length}
+use Rattle.std.proofs.Common.{Contains, filter, Bool, true, not, ◌==◌, sym, ap, ◌∙◌, subst, arith, get_or-set_same}
+use Rattle.std.proofs.Common.{get_or-set_other, Option}
 use Rattle.std.specs.List.{list_any}
 use Rattle.std.proofs.lemmas.Bool.{cases_eq, false_from_ne_true}
 use Rattle.std.proofs.lemmas.Option.{same_Some}
 use Rattle.std.proofs.lemmas.List.Elements.{Contains-append_left, Contains-append_right, Contains-append_cases}
-use Rattle.simulated_runs.proofs.Common.{Send, Step, Setup, IsWellFormed, Contains-head, Contains-cons_cases, Contains-nil, Contains-from_map, Contains-filter, Contains-from_filter, step_at_within, buffer, sending, receiving, buffer-sent_to, buffer-sent_elsewhere, buffer-received, IsWaiting-from_buffer, StatedBounds, Posted, due_ids, is_due, not_due, IsPosted, tray_of, with_tray, AreUnderWay, IsUnderWay}
+use Rattle.simulated_runs.proofs.Common.{Send, Step, Setup, IsWellFormed, Contains-head, Contains-cons_cases}
+use Rattle.simulated_runs.proofs.Common.{Contains-nil, Contains-from_map, Contains-filter, Contains-from_filter}
+use Rattle.simulated_runs.proofs.Common.{step_at_within, buffer, sending, receiving, buffer-sent_to}
+use Rattle.simulated_runs.proofs.Common.{buffer-sent_elsewhere, buffer-received, IsWaiting-from_buffer, StatedBounds}
+use Rattle.simulated_runs.proofs.Common.{Posted, due_ids, is_due, not_due, IsPosted, tray_of, with_tray, AreUnderWay}
+use Rattle.simulated_runs.proofs.Common.{IsUnderWay}
 use Rattle.step_trace.specs.Steps.{act_dest}
 use Rattle.step_buffers.proofs.RemovedIds.{Contains-from_is_in}
 

@@ -1,5 +1,6 @@
 -- Who may step in a tick, as some processors crash.
-use Rattle.std.specs.Prelude.{ℕ, ◌≡◌, ◌-◌, ◌≤◌, ◌^◌, ◌==◌, if◌then◌else◌, List, Some, fold, length, map, min, slice_index}
+use Rattle.std.specs.Prelude.{ℕ, ◌≡◌, ◌-◌, ◌≤◌, ◌^◌, ◌==◌, if◌then◌else◌, List}
+use Rattle.std.specs.Prelude.{Some, fold, length, map, min, slice_index}
 use Rattle.std.specs.List.{range_with_len}
 use Rattle.step_trace.specs.declared.steps.Step.{Step}
 use Rattle.step_trace.specs.Traces.{step_at}

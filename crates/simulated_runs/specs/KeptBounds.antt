@@ -31,10 +31,12 @@ pub record StepsFrom (steps : List Step) (p x f : ℕ) : Type 0 where
 
 -- the turn is due by its processor's last step, or by the stabilization time
 abbrev pub IsSinceStep : ℕ → ℕ → List Step → Turn → Type 0
-IsSinceStep gst phi steps t = (t.deadline ≤ gst + phi) ⊎ ((last : ℕ) × (t.deadline ≡ last + phi) × IsStepOf steps last t.proc)
+IsSinceStep gst phi steps t = (t.deadline ≤ gst + phi)
+    ⊎ ((last : ℕ) × (t.deadline ≡ last + phi) × IsStepOf steps last t.proc)
 
 -- The turns keep the bound for the live processors, and the steps so far kept it from a number on.
-pub record KeepsPhi (c : Setup) (crashes : List Crash) (gst phi : ℕ) (queue : List Turn) (steps : List Step) : Type 0 where
+pub record KeepsPhi (c : Setup) (crashes : List Crash) (gst phi : ℕ) (queue : List Turn)
+    (steps : List Step) : Type 0 where
   pub few : length queue ≤ phi
   pub in_time : AreInTime queue (length steps)
   pub since : (t : Turn) → IsTurnIn queue t → IsSinceStep gst phi steps t
@@ -61,4 +63,5 @@ pub record KeepsDelta (gst delta : ℕ) (steps : List Step) (trays : List (List 
 
 -- If bounds are stated, the communication bound goes on to be kept by these steps and trays if it was by those.
 abbrev pub DeltaGoesOn : Option StatedBounds → List Step → List (List Posted) → List Step → List (List Posted) → Type 0
-DeltaGoesOn bounds steps trays more others = IfSome bounds (λ b. KeepsDelta b.gst b.delta steps trays → KeepsDelta b.gst b.delta more others)
+DeltaGoesOn bounds steps trays more others =
+    IfSome bounds (λ b. KeepsDelta b.gst b.delta steps trays → KeepsDelta b.gst b.delta more others)

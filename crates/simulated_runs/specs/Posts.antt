@@ -1,5 +1,6 @@
 -- The messages of a simulated run: when they are due, and which are lost.
-use Rattle.std.specs.Prelude.{ℕ, ◌≡◌, ◌+◌, ◌-◌, ◌<◌, ◌≤◌, ◌⊎◌, List, [], ◌∷◌, ◌++◌, max, Option, IfSome, slice_index_or, slice_set}
+use Rattle.std.specs.Prelude.{ℕ, ◌≡◌, ◌+◌, ◌-◌, ◌<◌, ◌≤◌, ◌⊎◌, List, [], ◌∷◌, ◌++◌}
+use Rattle.std.specs.Prelude.{max, Option, IfSome, slice_index_or, slice_set}
 use Rattle.command_options.specs.declared.simulations.StatedBounds.{StatedBounds}
 use Rattle.simulated_runs.specs.declared.trays.Posted.{Posted}
 
@@ -23,4 +24,5 @@ pub record IsDueTick (bounds : Option StatedBounds) (x due : ℕ) : Type 0 where
 -- the message to p that is sent in tick x is lost, or under way until it is due
 abbrev pub IsPosted : Option StatedBounds → List (List Posted) → List (List Posted) → ℕ → ℕ → Type 0
 IsPosted bounds old new p x = (MayBeLost bounds x × (new ≡ old))
-    ⊎ ((due : ℕ) × IsDueTick bounds x due × (new ≡ with_tray old p (tray_of old p ++ record { id = x; due = due } ∷ [])))
+    ⊎ ((due : ℕ) × IsDueTick bounds x due
+    × (new ≡ with_tray old p (tray_of old p ++ record { id = x; due = due } ∷ [])))

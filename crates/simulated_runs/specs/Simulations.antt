@@ -15,7 +15,8 @@ use Rattle.simulated_runs.specs.Nominations.{IsNominating}
 use Rattle.simulated_runs.specs.UnderWay.{AreUnderWay}
 use Rattle.simulated_runs.specs.Moves.{IsMade}
 
--- What is kept of a run: of each processor its pace and until when it may step; whose turn it is; and what is under way.
+-- What is kept of a run: of each processor its pace and until when it may step; whose turn it is; and what is under
+-- way.
 pub record IsReady (s : Simulation) : Type 0 where
   pub setup : IsSetup s.world.trace.config
   pub paces : length s.paces.items ≡ s.world.trace.config.n
@@ -33,16 +34,19 @@ pub record IsStepped (old new : Simulation) : Type 0 where
   pub made : IsMade old.world.trace new.world.trace proc
   pub up : IsUpIn old.lasts.items proc (length old.world.trace.steps + 1)
   pub may : MayStep old.turns.queue.items (length old.world.trace.steps + 1) proc
-  pub passed : ArePassed old.turns.gst old.turns.phi old.turns.queue.items new.turns.queue.items (length old.world.trace.steps + 1) proc
+  pub passed : ArePassed old.turns.gst old.turns.phi old.turns.queue.items new.turns.queue.items
+      (length old.world.trace.steps + 1) proc
 
 -- the turns before the first tick: those of the live ones of n processors, if bounds are stated
 abbrev pub AreOpeningTurns : ℕ → List Crash → Option StatedBounds → Turns → Type 0
 AreOpeningTurns n crashes None turns = (turns.queue.items ≡ []) × (turns.gst ≡ 0) × (turns.phi ≡ 0)
 AreOpeningTurns n crashes (Some b) turns =
-    (turns.queue.items ≡ map (λ p. record { proc = p; deadline = b.gst + b.phi }) (live n crashes)) × (turns.gst ≡ b.gst) × (turns.phi ≡ b.phi)
+    (turns.queue.items ≡ map (λ p. record { proc = p; deadline = b.gst + b.phi }) (live n crashes))
+    × (turns.gst ≡ b.gst) × (turns.phi ≡ b.phi)
 
 -- A run with these options, after so many ticks.
-pub record HasRun (c : Setup) (crashes : List Crash) (bounds : Option StatedBounds) (s : Simulation) (ticks : ℕ) : Type 0 where
+pub record HasRun (c : Setup) (crashes : List Crash) (bounds : Option StatedBounds) (s : Simulation)
+    (ticks : ℕ) : Type 0 where
   pub ready : IsReady s
   pub config : s.world.trace.config ≡ c
   pub count : length s.world.trace.steps ≡ ticks

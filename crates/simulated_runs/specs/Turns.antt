@@ -42,4 +42,5 @@ pub record ArePassed (gst phi : ℕ) (old new : List Turn) (x p : ℕ) : Type 0 
   pub count : length new ≡ length old
   pub each : (t : Turn) → IsTurnIn new t → IsTurnIn old t ⊎ (HasTurn old p × (t ≡ next_turn gst phi x p))
   pub kept : (q : ℕ) → HasTurn old q → HasTurn new q
-  pub in_time : (before : ℕ) → before + 1 ≡ x → length old ≤ phi → MayStep old x p → AreInTime old before → AreInTime new x
+  pub in_time : (before : ℕ) → before + 1 ≡ x → length old ≤ phi → MayStep old x p → AreInTime old before
+      → AreInTime new x

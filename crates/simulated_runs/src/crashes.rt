@@ -1,6 +1,7 @@
 //! Until when each processor may step.
 
-ghost use Rattle.std.specs.Prelude.{ℕ, ◌≡◌, ◌+◌, ◌-◌, ◌<◌, ◌≤◌, ◌^◌, All, IfOk, IfSome, IfNone, length, map, slice_index, filter};
+ghost use Rattle.std.specs.Prelude.{ℕ, ◌≡◌, ◌+◌, ◌-◌, ◌<◌, ◌≤◌, ◌^◌, All, IfOk, IfSome};
+ghost use Rattle.std.specs.Prelude.{IfNone, length, map, slice_index, filter};
 ghost use Rattle.std.specs.List.{list_any};
 ghost use Rattle.command_options.specs.Simulations.{is_crash_of, is_live, live};
 ghost use Rattle.simulated_runs.specs.Crashes.{IsSomeUp, IsUpIn, last_tick, lasts_of};

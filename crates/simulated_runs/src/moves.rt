@@ -37,7 +37,9 @@ pub(crate) fn move_on(
     requires under_way { AreUnderWay world.old.trace.steps post.old.trays.items }
     ensures made { OnOk result (IsMade world.old.trace world.new.trace p) }
     ensures under_way { OnOk result (AreUnderWay world.new.trace.steps post.new.trays.items) }
-    ensures delta { OnOk result (DeltaGoesOn post.old.bounds world.old.trace.steps post.old.trays.items world.new.trace.steps post.new.trays.items) }
+    ensures delta { OnOk result
+        (DeltaGoesOn post.old.bounds world.old.trace.steps post.old.trays.items
+        world.new.trace.steps post.new.trays.items) }
     ensures limit { world.new.limit ≡ world.old.limit }
     ensures trays { length post.new.trays.items ≡ length post.old.trays.items }
     ensures bounds { post.new.bounds ≡ post.old.bounds }
@@ -69,7 +71,9 @@ fn send(
     requires under_way { AreUnderWay world.old.trace.steps post.old.trays.items }
     ensures made { OnOk result (IsMade world.old.trace world.new.trace p) }
     ensures under_way { OnOk result (AreUnderWay world.new.trace.steps post.new.trays.items) }
-    ensures delta { OnOk result (DeltaGoesOn post.old.bounds world.old.trace.steps post.old.trays.items world.new.trace.steps post.new.trays.items) }
+    ensures delta { OnOk result
+        (DeltaGoesOn post.old.bounds world.old.trace.steps post.old.trays.items
+        world.new.trace.steps post.new.trays.items) }
     ensures limit { world.new.limit ≡ world.old.limit }
     ensures trays { length post.new.trays.items ≡ length post.old.trays.items }
     ensures bounds { post.new.bounds ≡ post.old.bounds }
@@ -98,7 +102,9 @@ fn receive(
     requires under_way { AreUnderWay world.old.trace.steps post.old.trays.items }
     ensures made { OnOk result (IsMade world.old.trace world.new.trace p) }
     ensures under_way { OnOk result (AreUnderWay world.new.trace.steps post.new.trays.items) }
-    ensures delta { OnOk result (DeltaGoesOn post.old.bounds world.old.trace.steps post.old.trays.items world.new.trace.steps post.new.trays.items) }
+    ensures delta { OnOk result
+        (DeltaGoesOn post.old.bounds world.old.trace.steps post.old.trays.items
+        world.new.trace.steps post.new.trays.items) }
     ensures limit { world.new.limit ≡ world.old.limit }
     ensures trays { length post.new.trays.items ≡ length post.old.trays.items }
     ensures bounds { post.new.bounds ≡ post.old.bounds }
@@ -115,7 +121,8 @@ fn receive(
 /// Makes the Send of processor `p` that is due.
 fn make_send(alloc: Global, world: &mut World, p: u64, to: u64) -> Result<(), StepError>
     requires due { next_send world.old.trace.config world.old.trace.steps p ≡ Some to }
-    ensures made { OnOk result (world.new.trace.steps ≡ world.old.trace.steps ++ sending p to ∷ []) }
+    ensures made { OnOk result
+        (world.new.trace.steps ≡ world.old.trace.steps ++ sending p to ∷ []) }
     ensures config { world.new.trace.config ≡ world.old.trace.config }
     ensures limit { world.new.limit ≡ world.old.limit }
 {
@@ -130,7 +137,8 @@ fn make_receive(
     ids: &[u64],
     ends: bool,
 ) -> Result<(), StepError>
-    ensures made { OnOk result (world.new.trace.steps ≡ world.old.trace.steps ++ receiving p ends ids.now ∷ []) }
+    ensures made { OnOk result
+        (world.new.trace.steps ≡ world.old.trace.steps ++ receiving p ends ids.now ∷ []) }
     ensures config { world.new.trace.config ≡ world.old.trace.config }
     ensures limit { world.new.limit ≡ world.old.limit }
 {

@@ -1,6 +1,7 @@
 //! The messages of a simulated run: when they are due, and which are lost.
 
-ghost use Rattle.std.specs.Prelude.{◌≡◌, ◌+◌, ◌-◌, ◌*◌, ◌<◌, ◌≤◌, ◌^◌, ◌++◌, ◌∷◌, [], true, IfOk, OnOk, length, replicate};
+ghost use Rattle.std.specs.Prelude.{◌≡◌, ◌+◌, ◌-◌, ◌*◌, ◌<◌, ◌≤◌, ◌^◌, ◌++◌, ◌∷◌};
+ghost use Rattle.std.specs.Prelude.{[], true, IfOk, OnOk, length, replicate};
 ghost use Rattle.step_trace.specs.declared.configurations.TheConstants.{MAX_PROCESSORS};
 ghost use Rattle.step_trace.specs.declared.traces.TheConstants.{MAX_STEPS};
 ghost use Rattle.simulated_runs.specs.Posts.{IsDueTick, IsPosted, MayBeLost, tray_of, with_tray};
@@ -57,7 +58,8 @@ impl Post {
         requires low { 1 ≤ to }
         requires high { to ≤ length self.old.trays.items }
         requires early { tick ≤ MAX_STEPS }
-        ensures posted { OnOk result (IsPosted self.old.bounds self.old.trays.items self.new.trays.items to tick) }
+        ensures posted { OnOk result
+            (IsPosted self.old.bounds self.old.trays.items self.new.trays.items to tick) }
         ensures count { length self.new.trays.items ≡ length self.old.trays.items }
         ensures bounds { self.new.bounds ≡ self.old.bounds }
     {
@@ -81,8 +83,11 @@ impl Post {
     ) -> Result<Vec<u64>, AllocError>
         requires low { 1 ≤ p }
         requires high { p ≤ length self.old.trays.items }
-        ensures due { IfOk result (λ ids. ids.items ≡ due_ids tick (tray_of self.old.trays.items p)) }
-        ensures left { OnOk result (self.new.trays.items ≡ with_tray self.old.trays.items p (not_due tick (tray_of self.old.trays.items p))) }
+        ensures due { IfOk result
+            (λ ids. ids.items ≡ due_ids tick (tray_of self.old.trays.items p)) }
+        ensures left { OnOk result
+            (self.new.trays.items ≡ with_tray self.old.trays.items p
+            (not_due tick (tray_of self.old.trays.items p))) }
         ensures count { length self.new.trays.items ≡ length self.old.trays.items }
         ensures bounds { self.new.bounds ≡ self.old.bounds }
     {
@@ -148,7 +153,8 @@ fn empty_trays(alloc: Global, n: u64) -> Result<Vec<Tray>, AllocError>
 fn add_to(trays: &mut [Tray], p: u64, message: Posted) -> Result<(), AllocError>
     requires low { 1 ≤ p }
     requires high { p ≤ length trays.old }
-    ensures { OnOk result (trays.new ≡ with_tray trays.old p (tray_of trays.old p ++ message ∷ [])) }
+    ensures { OnOk result
+        (trays.new ≡ with_tray trays.old p (tray_of trays.old p ++ message ∷ [])) }
 {
     trays[(p - 1) as usize].add(message)
 }
@@ -158,7 +164,8 @@ fn take_from(alloc: Global, trays: &mut [Tray], p: u64, tick: u64) -> Result<Vec
     requires low { 1 ≤ p }
     requires high { p ≤ length trays.old }
     ensures due { IfOk result (λ ids. ids.items ≡ due_ids tick (tray_of trays.old p)) }
-    ensures left { OnOk result (trays.new ≡ with_tray trays.old p (not_due tick (tray_of trays.old p))) }
+    ensures left { OnOk result
+        (trays.new ≡ with_tray trays.old p (not_due tick (tray_of trays.old p))) }
 {
     trays[(p - 1) as usize].take_due(alloc, tick)
 }

@@ -33,10 +33,15 @@ pub fn simulate(alloc: Global, options: SimulationOptions) -> Result<World, Step
     ensures config { IfOk result (λ world. world.trace.config ≡ options.config) }
     ensures steps { IfOk result (λ world. length world.trace.steps ≡ options.steps) }
     ensures run { IfOk result (λ world. IsRun world.trace.config world.trace.steps) }
-    ensures crashed { IfOk result (λ world. StepBeforeCrashes options.crashes.items world.trace.steps) }
-    ensures phi { IfOk result (λ world. IfSome options.bounds (λ b. (set : ℕ)
-        → AreLive set options.config options.crashes.items → PhiHolds set world.trace (b.gst + 1) b.phi)) }
-    ensures delta { IfOk result (λ world. IfSome options.bounds (λ b. (set : ℕ) → DeltaHolds set world.trace (b.gst + 1) b.delta)) }
+    ensures crashed { IfOk result
+        (λ world. StepBeforeCrashes options.crashes.items world.trace.steps) }
+    ensures phi { IfOk result
+        (λ world. IfSome options.bounds (λ b. (set : ℕ)
+        → AreLive set options.config options.crashes.items
+        → PhiHolds set world.trace (b.gst + 1) b.phi)) }
+    ensures delta { IfOk result
+        (λ world. IfSome options.bounds (λ b. (set : ℕ)
+        → DeltaHolds set world.trace (b.gst + 1) b.delta)) }
 {
     let steps = options.steps;
     let Ok(mut simulation) = opening(alloc, options) else {
@@ -92,7 +97,8 @@ fn opening(alloc: Global, options: SimulationOptions) -> Result<Simulation, Allo
 
 /// The paces of all processors before the first step.
 fn opening_paces(alloc: Global, config: &Config, patience: u64) -> Result<Vec<Pace>, AllocError>
-    ensures { IfOk result (λ paces. paces.items ≡ replicate config.now.n (opening_pace config.now patience)) }
+    ensures { IfOk result
+        (λ paces. paces.items ≡ replicate config.now.n (opening_pace config.now patience)) }
 {
     let mut paces = Vec::new(alloc);
     for _ in 0..config.n() {

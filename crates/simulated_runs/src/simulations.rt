@@ -41,10 +41,13 @@ impl Simulation {
         requires ready { IsReady self.old }
         requires some { IsSomeUp self.old.lasts.items (length self.old.world.trace.steps + 1) }
         requires room { length self.old.world.trace.steps < MAX_STEPS }
-        requires turns { (t : LiveTurn) → IsTurnIn self.old.turns.queue.items t → IsUpIn self.old.lasts.items t.proc (length self.old.world.trace.steps + 1) }
+        requires turns { (t : LiveTurn) → IsTurnIn self.old.turns.queue.items t
+            → IsUpIn self.old.lasts.items t.proc (length self.old.world.trace.steps + 1) }
         ensures stepped { OnOk result (IsStepped self.old self.new) }
         ensures ready { OnOk result (IsReady self.new) }
-        ensures delta { OnOk result (DeltaGoesOn self.old.post.bounds self.old.world.trace.steps self.old.post.trays.items self.new.world.trace.steps self.new.post.trays.items) }
+        ensures delta { OnOk result
+            (DeltaGoesOn self.old.post.bounds self.old.world.trace.steps self.old.post.trays.items
+            self.new.world.trace.steps self.new.post.trays.items) }
         ensures lasts { self.new.lasts ≡ self.old.lasts }
         ensures gst { self.new.turns.gst ≡ self.old.turns.gst }
         ensures phi { self.new.turns.phi ≡ self.old.turns.phi }
@@ -86,7 +89,8 @@ fn chosen(
     requires few { length lasts.now ≤ MAX_PROCESSORS }
     requires early { tick ≤ MAX_STEPS }
     requires nominating { IsNominating (length lasts.now) nominator.old }
-    requires turns { (t : LiveTurn) → IsTurnIn turns.now.queue.items t → IsUpIn lasts.now t.proc tick }
+    requires turns { (t : LiveTurn) → IsTurnIn turns.now.queue.items t
+        → IsUpIn lasts.now t.proc tick }
     requires queue { length turns.now.queue.items ≤ MAX_BOUND }
     ensures nominating { IsNominating (length lasts.now) nominator.new }
     ensures up { IsUpIn lasts.now result tick }

@@ -1,6 +1,7 @@
 //! Who may step next, so that each live processor can step in time.
 
-ghost use Rattle.std.specs.Prelude.{ℕ, ◌≡◌, ◌+◌, ◌<◌, ◌^◌, ◌++◌, ◌∷◌, [], length, true, map, remove, IfOk, IfSome, IfNone, OnOk};
+ghost use Rattle.std.specs.Prelude.{ℕ, ◌≡◌, ◌+◌, ◌<◌, ◌^◌, ◌++◌, ◌∷◌, [], length, true};
+ghost use Rattle.std.specs.Prelude.{map, remove, IfOk, IfSome, IfNone, OnOk};
 ghost use Rattle.simulated_runs.specs.Turns.{ArePassed, HasNoTurn, HasTurn, IsFirstTurn, MayStep};
 
 use std::alloc::{AllocError, Global};
@@ -25,7 +26,9 @@ impl Turns {
     /// stabilization time.
     pub(crate) fn new(alloc: Global, live: &[u64], gst: u64, phi: u64) -> Result<Self, AllocError>
         requires { gst + phi < 2 ^ 64 }
-        ensures queue { IfOk result (λ turns. turns.queue.items ≡ map (λ p. record { proc = p; deadline = gst + phi }) live.now) }
+        ensures queue { IfOk result
+            (λ turns. turns.queue.items ≡ map
+            (λ p. record { proc = p; deadline = gst + phi }) live.now) }
         ensures gst { IfOk result (λ turns. turns.gst ≡ gst) }
         ensures phi { IfOk result (λ turns. turns.phi ≡ phi) }
     {
@@ -59,7 +62,8 @@ impl Turns {
     /// Processor `p` steps in this tick: its next turn comes after those of the others.
     pub(crate) fn pass(&mut self, p: u64, tick: u64) -> Result<(), AllocError>
         requires { tick + self.old.gst + self.old.phi < 2 ^ 64 }
-        ensures passed { OnOk result (ArePassed self.old.gst self.old.phi self.old.queue.items self.new.queue.items tick p) }
+        ensures passed { OnOk result
+            (ArePassed self.old.gst self.old.phi self.old.queue.items self.new.queue.items tick p) }
         ensures gst { self.new.gst ≡ self.old.gst }
         ensures phi { self.new.phi ≡ self.old.phi }
     {
@@ -76,7 +80,8 @@ impl Turns {
 
 /// The turns of these processors, with this deadline.
 fn opening_queue(alloc: Global, live: &[u64], deadline: u64) -> Result<Vec<Turn>, AllocError>
-    ensures { IfOk result (λ queue. queue.items ≡ map (λ p. record { proc = p; deadline = deadline }) live.now) }
+    ensures { IfOk result
+        (λ queue. queue.items ≡ map (λ p. record { proc = p; deadline = deadline }) live.now) }
 {
     live.iter()
         .map(|p| Turn { proc: *p, deadline })

@@ -1,7 +1,9 @@
 -- The names that most proofs here cite, passed on from one place. Declares nothing.
 pub use Rattle.step_trace.proofs.FittingSteps.{Fits-from_well_formed, find-none, is_proc-true, is_rising-from_increasing, none_from_Fits}
 pub use Rattle.step_trace.proofs.Growth.{IsWellFormed-push}
-pub use Rattle.step_trace.proofs.ListMembers.{Contains-filter, Contains-from_filter, Contains-from_map, Contains-head, Contains-map, Contains-nil, Contains-rest, list_any-at, list_any-found, rising-first, rising-tail}
+pub use Rattle.step_trace.proofs.ListMembers.{Contains-filter, Contains-from_filter, Contains-from_map, Contains-head}
+pub use Rattle.step_trace.proofs.ListMembers.{Contains-map, Contains-nil, Contains-rest, list_any-at, list_any-found}
+pub use Rattle.step_trace.proofs.ListMembers.{rising-first, rising-tail}
 pub use Rattle.step_trace.proofs.NamedReasons.{failing, found}
 pub use Rattle.step_trace.proofs.Refusals.{Fits-from_none, find_all, is_rising-true, sent_from}
 pub use Rattle.step_trace.proofs.StepPositions.{act_takes-from_Contains, slice_get-push_cases, step_at-push_cases, step_at_last, step_at_within, taken_at-from_is_taken, taken_from_at}
@@ -26,7 +28,9 @@ pub use Rattle.step_buffers.specs.Letters.{body_from, heard_from, heard_in, lett
 pub use Rattle.step_buffers.specs.Moves.{IsStepRefusal, is_in, move_refusal, named_ids, next_send, step_refusal, take_refusal, taken_ids}
 pub use Rattle.step_buffers.specs.NextSteps.{IsGrown, receiving, sending}
 pub use Rattle.step_buffers.specs.Runs.{IsDue, IsRun, IsSend, body_of, destination_after, destinations, node_at, sent_before}
-pub use Rattle.step_buffers.specs.Worlds.{AreEach, AreLetters, AreProcessors, IsDecidedSince, IsEntry, IsInbox, IsKept, IsKeptOrPast, IsLetter, IsPacedRun, IsPlaceOf, IsProcessor, IsSaid, IsStanding, IsWorld, Serves}
+pub use Rattle.step_buffers.specs.Worlds.{AreEach, AreLetters, AreProcessors, IsDecidedSince, IsEntry, IsInbox, IsKept}
+pub use Rattle.step_buffers.specs.Worlds.{IsKeptOrPast, IsLetter, IsPacedRun, IsPlaceOf, IsProcessor, IsSaid}
+pub use Rattle.step_buffers.specs.Worlds.{IsStanding, IsWorld, Serves}
 pub use Rattle.step_buffers.specs.declared.letters.Letter.{Letter}
 pub use Rattle.step_buffers.specs.declared.moves.StepError.{StepError}
 pub use Rattle.step_buffers.specs.declared.moves.StepError.TheVariants.{BadProc, Full, IdsNotRising, NotInBuffer, NothingToSend, StillSending}

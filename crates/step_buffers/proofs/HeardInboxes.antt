@@ -1,13 +1,21 @@
 -- What a processor hears at the end of its round: the messages of the round, each with its body, among those that it
 -- kept and those that it takes with the end. Its node computes from these.
-use Rattle.std.proofs.Common.{ℕ, ◌≡◌, ◌+◌, ◌-◌, ◌≤◌, ◌⊎◌, inl, inr, List, [], ◌∷◌, ◌++◌, filter, map, Option, Some, None, Bool, true, false, cond, ◌==◌, refl, sym, ap, ◌∙◌, arith, eq-eqb, suc, ◌<◌, length, subst, subst₂}
+use Rattle.std.proofs.Common.{ℕ, ◌≡◌, ◌+◌, ◌-◌, ◌≤◌, ◌⊎◌, inl, inr, List, [], ◌∷◌, ◌++◌, filter, map, Option, Some}
+use Rattle.std.proofs.Common.{None, Bool, true, false, cond, ◌==◌, refl, sym, ap, ◌∙◌, arith, eq-eqb, suc, ◌<◌, length}
+use Rattle.std.proofs.Common.{subst, subst₂}
 use Rattle.std.specs.Prelude.{Contains, option_map, is_some, All}
 use Rattle.std.specs.Option.{option_or, option_to_list}
 use Rattle.std.specs.List.{filter_map, cons_option, range_with_len}
 use Rattle.std.proofs.lemmas.Bool.{eqb-true}
 use Rattle.std.proofs.lemmas.Option.{same_Some, none-some}
 use Rattle.std.proofs.lemmas.List.Kept.{IsStrictlyIncreasing-filter}
-use Rattle.step_buffers.proofs.Common.{Contains-nil, Contains-head, Contains-rest, Contains-filter, Contains-from_filter, Contains-from_map, Body, IsStrictlyIncreasing-range_with_len, filter_map-range_with_len-more, Letter, letter_at, said_by, body_from, heard_from, round_of, of_round, heard_in, Send, Step, Setup, IsProc, IsWellFormed, is_taken, step_at_within, taken_from_at, Fits-from_well_formed, State, node_at, body_of, IsSend, Entry, ids_of, receiving, IsInbox, IsLetter, AreLetters}
+use Rattle.step_buffers.proofs.Common.{Contains-nil, Contains-head, Contains-rest, Contains-filter}
+use Rattle.step_buffers.proofs.Common.{Contains-from_filter, Contains-from_map, Body}
+use Rattle.step_buffers.proofs.Common.{IsStrictlyIncreasing-range_with_len, filter_map-range_with_len-more, Letter}
+use Rattle.step_buffers.proofs.Common.{letter_at, said_by, body_from, heard_from, round_of, of_round, heard_in, Send}
+use Rattle.step_buffers.proofs.Common.{Step, Setup, IsProc, IsWellFormed, is_taken, step_at_within, taken_from_at}
+use Rattle.step_buffers.proofs.Common.{Fits-from_well_formed, State, node_at, body_of, IsSend, Entry, ids_of, receiving}
+use Rattle.step_buffers.proofs.Common.{IsInbox, IsLetter, AreLetters}
 use Rattle.lock_phases.specs.Messages.{Message, sender_of}
 use Rattle.lock_phases.proofs.Membership.{Contains-cons_cases, Contains-from_filter_map, Contains-filter_map}
 use Rattle.round_model.proofs.HeardLists.{AreRising, IsBodyHeard, Contains-processors, messages_heard-by_elements}
@@ -233,7 +241,9 @@ module _ (c : Setup) (steps : List Step) (p r : ℕ) (ids near : List ℕ) (late
 
   -- the senders of what is heard are processors
   pub heard_in-senders : All (λ m. IsProc c (sender_of m)) (heard_in letters near ids r c.n)
-  heard_in-senders = All-weaker (Contains (heard_in letters near ids r c.n)) (λ m. IsProc c (sender_of m)) (λ m d. (heard_in-heard m d).sender) (heard_in letters near ids r c.n) (All-contains_itself (heard_in letters near ids r c.n))
+  heard_in-senders = All-weaker (Contains (heard_in letters near ids r c.n)) (λ m. IsProc c (sender_of m))
+      (λ m d. (heard_in-heard m d).sender) (heard_in letters near ids r c.n)
+      (All-contains_itself (heard_in letters near ids r c.n))
 
   -- the node of p at the end of its round
   pub node_at-computes : node_at c longer p ≡ next c (node_at c steps p) p r (heard_in letters near ids r c.n)

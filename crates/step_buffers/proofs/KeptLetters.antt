@@ -3,7 +3,10 @@ use Rattle.std.proofs.Common.{ℕ, zero, suc, ◌≡◌, ◌+◌, ◌≤◌, ◌
 use Rattle.std.proofs.Math.Seq.{get_or-append_seam}
 use Rattle.std.proofs.lemmas.Option.{same_Some, none-some}
 use Rattle.std.proofs.lemmas.List.{length-append, get_or_append_left}
-use Rattle.step_buffers.proofs.Common.{Send, Step, Setup, act_dest, step_at, IsWellFormed, step_at_within, step_at-push_cases, Letter, passed, round_at, node_at, IsSend, letter_at, round_of, letter_left, sending, receiving, IsLetter, IsKeptOrPast, AreLetters, is_in}
+use Rattle.step_buffers.proofs.Common.{Send, Step, Setup, act_dest, step_at, IsWellFormed, step_at_within}
+use Rattle.step_buffers.proofs.Common.{step_at-push_cases, Letter, passed, round_at, node_at, IsSend, letter_at}
+use Rattle.step_buffers.proofs.Common.{round_of, letter_left, sending, receiving, IsLetter, IsKeptOrPast, AreLetters}
+use Rattle.step_buffers.proofs.Common.{is_in}
 use Rattle.lock_phases.specs.NodeFunctions.{out}
 use Rattle.step_buffers.proofs.StepPrefixes.{round_at-prefix, passed-append}
 use Rattle.step_buffers.proofs.GrownNodes.{body_of-prefix, body_of-now, before-now}

@@ -1,8 +1,13 @@
 -- What is kept of the processors: before the first step, copied, and as the trace grows by a step.
-use Rattle.std.proofs.Common.{None, ℕ, zero, suc, ◌≡◌, ◌⊎◌, inl, inr, List, [], ◌∷◌, ◌++◌, length, Some, refl, sym, ap, ◌∙◌, subst, arith, ◌≢◌, ◌+◌, ◌-◌, ◌≤◌, get_or, Option, Bool, true, false, ◌==◌, ◌&&◌}
+use Rattle.std.proofs.Common.{None, ℕ, zero, suc, ◌≡◌, ◌⊎◌, inl, inr, List, [], ◌∷◌, ◌++◌, length, Some, refl, sym, ap}
+use Rattle.std.proofs.Common.{◌∙◌, subst, arith, ◌≢◌, ◌+◌, ◌-◌, ◌≤◌, get_or, Option, Bool, true, false, ◌==◌, ◌&&◌}
 use Rattle.std.specs.Prelude.{slice_get, slice_set}
 use Rattle.std.proofs.lemmas.Option.{same_Some, none-some, slice_get_read}
-use Rattle.step_buffers.proofs.Common.{Send, Step, Setup, IsProc, step_at, Recorded, IsWellFormed, step_at_within, slice_get-push_cases, opening, State, initial_value, state_after-opening, node_at, IsRun, IsProcessor, AreProcessors, AreLetters, Serves, IsInbox, IsPlaceOf, IsStanding, AreEach, IsPacedRun, IsWorld, IsMoved, act_sends, Letter, buffer, next_send, sending, receiving, IsGrown}
+use Rattle.step_buffers.proofs.Common.{Send, Step, Setup, IsProc, step_at, Recorded, IsWellFormed, step_at_within}
+use Rattle.step_buffers.proofs.Common.{slice_get-push_cases, opening, State, initial_value, state_after-opening}
+use Rattle.step_buffers.proofs.Common.{node_at, IsRun, IsProcessor, AreProcessors, AreLetters, Serves, IsInbox}
+use Rattle.step_buffers.proofs.Common.{IsPlaceOf, IsStanding, AreEach, IsPacedRun, IsWorld, IsMoved, act_sends, Letter}
+use Rattle.step_buffers.proofs.Common.{buffer, next_send, sending, receiving, IsGrown}
 use Rattle.step_buffers.specs.declared.processors.Processor.{Processor}
 use Rattle.step_buffers.specs.HeardTables.{heard_table, act_ends, passed}
 use Rattle.step_buffers.proofs.DecidedRounds.{IsDecidedSince-opening, IsDecidedSince-stays, IsDecidedSince-ended}

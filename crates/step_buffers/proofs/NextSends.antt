@@ -1,12 +1,19 @@
 -- Where a processor sends next: the least destination above the last one to which there is something to send. It is
 -- found by trying one processor: of those above the last one, none before it is sent anything, nor any after it if it
 -- isn't. And the same as the trace grows by a step.
-use Rattle.std.proofs.Common.{ℕ, zero, suc, ◌≡◌, ◌+◌, ◌<◌, ◌≤◌, List, [], ◌∷◌, Some, Bool, true, false, cond, ltb, ◌&&◌, refl, sym, ap, ◌∙◌, subst, arith, ◌⊎◌, inl, inr, Option, None, ◌≢◌, eq-eqb, ◌-◌, ◌++◌, length, ◌==◌}
+use Rattle.std.proofs.Common.{ℕ, zero, suc, ◌≡◌, ◌+◌, ◌<◌, ◌≤◌, List, [], ◌∷◌, Some, Bool, true, false, cond, ltb, ◌&&◌}
+use Rattle.std.proofs.Common.{refl, sym, ap, ◌∙◌, subst, arith, ◌⊎◌, inl, inr, Option, None, ◌≢◌, eq-eqb, ◌-◌, ◌++◌}
+use Rattle.std.proofs.Common.{length, ◌==◌}
 use Rattle.std.specs.Prelude.{slice_get, filter, find, nat_lt, is_some, Contains, IsSome, option_map, count_by}
 use Rattle.std.specs.List.Sorted.{IsStrictlyIncreasing}
 use Rattle.std.proofs.lemmas.Option.{same_Some, none-some, slice_get_within, get_or_from_slice_get}
 use Rattle.std.proofs.lemmas.Bool.{lt-ltb, le-ltb, cases_lt, and_parts, ne_eqb, false_from_ne_true, cases_eq}
-use Rattle.step_buffers.proofs.Common.{Setup, IsProc, Contains-from_filter, Contains-head, Contains-rest, rising-tail, rising-first, Contains-nil, State, processors, IsStrictlyIncreasing-range_with_len, destinations, destination_after, node_at, sent_before, Body, MAX_STEPS, Step, act_sends, IsWellFormed, refusal, step_at_last, step_at_within, none_from_Fits, found, act_ends, passed, round_at, is_sent_in, next_send, sending}
+use Rattle.step_buffers.proofs.Common.{Setup, IsProc, Contains-from_filter, Contains-head, Contains-rest, rising-tail}
+use Rattle.step_buffers.proofs.Common.{rising-first, Contains-nil, State, processors}
+use Rattle.step_buffers.proofs.Common.{IsStrictlyIncreasing-range_with_len, destinations, destination_after, node_at}
+use Rattle.step_buffers.proofs.Common.{sent_before, Body, MAX_STEPS, Step, act_sends, IsWellFormed, refusal}
+use Rattle.step_buffers.proofs.Common.{step_at_last, step_at_within, none_from_Fits, found, act_ends, passed, round_at}
+use Rattle.step_buffers.proofs.Common.{is_sent_in, next_send, sending}
 use Rattle.lock_phases.specs.NodeFunctions.{out}
 use Rattle.std.specs.List.{range_with_len}
 use Rattle.lock_phases.specs.declared.bodies.Kind.TheVariants.{Ack}
@@ -267,7 +274,9 @@ module _ (c : Setup) (steps : List Step) (x : Step) (p : ℕ) (w : IsWellFormed 
 pub next_send-sent : (c : Setup) (steps : List Step) (p to : ℕ) → IsWellFormed c steps → next_send c steps p ≡ Some to
     → next_send c (steps ++ sending p to ∷ []) p ≡ destination_after c (node_at c steps p) p (passed steps p + 1) to
 next_send-sent c steps p to w due =
-    let more : sent_now steps p + cond (p == p && true) 1 0 ≡ suc (sent_now steps p) = ap (λ b. sent_now steps p + cond {A = ℕ} (b && true) 1 0) (eq-eqb p p refl) ∙ (let e : sent_now steps p + 1 ≡ suc (sent_now steps p) = omega arith in e) in
+    let more : sent_now steps p + cond (p == p && true) 1 0 ≡ suc (sent_now steps p) =
+    ap (λ b. sent_now steps p + cond {A = ℕ} (b && true) 1 0) (eq-eqb p p refl)
+    ∙ (let e : sent_now steps p + 1 ≡ suc (sent_now steps p) = omega arith in e) in
     after-sent c steps (sending p to) p w (and-false (p == p))
     ∙ ap (λ n. slice_get (destinations c (node_at c steps p) p (passed steps p + 1)) n) more
     ∙ later-destination c (node_at c steps p) p (passed steps p + 1) to (sent_now steps p) (sym (next_destination-now c steps p) ∙ due)

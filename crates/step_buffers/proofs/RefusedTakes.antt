@@ -1,7 +1,11 @@
 -- What a Receive takes out of a buffer, if nothing is against it: ids that rise, of messages that wait. And the
 -- message that it is refused for.
 use Rattle.std.proofs.Common.{ℕ, zero, suc, ◌≡◌, ◌<◌, List, [], ◌∷◌, length, take, Option, Some, None, Bool, true, false, not, cond, ◌&&◌, inl, inr, refl, subst, arith}
-use Rattle.step_buffers.proofs.Common.{find_all, is_rising-true, MAX_STEPS, Receive, Step, Setup, IsProc, is_proc, is_rising, refusal, IsLeastFailing, none_from_Fits, StepError, Full, BadProc, NothingToSend, StillSending, IdsNotRising, NotInBuffer, Take, All, Nothing, Oldest, These, IsDue, buffer, is_in, taken_ids, take_refusal, IsStepRefusal, named_ids, next_send, move_refusal, step_refusal, found, failing}
+use Rattle.step_buffers.proofs.Common.{find_all, is_rising-true, MAX_STEPS, Receive, Step, Setup, IsProc, is_proc}
+use Rattle.step_buffers.proofs.Common.{is_rising, refusal, IsLeastFailing, none_from_Fits, StepError, Full, BadProc}
+use Rattle.step_buffers.proofs.Common.{NothingToSend, StillSending, IdsNotRising, NotInBuffer, Take, All, Nothing}
+use Rattle.step_buffers.proofs.Common.{Oldest, These, IsDue, buffer, is_in, taken_ids, take_refusal, IsStepRefusal}
+use Rattle.step_buffers.proofs.Common.{named_ids, next_send, move_refusal, step_refusal, found, failing}
 use Rattle.std.specs.Prelude.{Contains, find, nat_lt, is_some, option_map, is_none}
 use Rattle.std.specs.List.Sorted.{IsStrictlyIncreasing}
 use Rattle.std.proofs.lemmas.Bool.{not-false}

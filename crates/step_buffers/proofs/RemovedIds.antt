@@ -1,11 +1,15 @@
 -- Rising ids: their parts, and searches of them. Ids that are taken out of a rising list: from its front, its back, or
 -- between others.
-use Rattle.std.proofs.Common.{ℕ, ◌≡◌, ◌≢◌, ◌+◌, ◌-◌, ◌<◌, ◌≤◌, inl, inr, suc, List, length, get_or, take, drop, Bool, true, ◌==◌, Result, Ok, Err, refl, sym, ◌∙◌, subst, arith, eq-eqb, [], ◌∷◌, ◌++◌, filter, min, not, ◌||◌, ap}
+use Rattle.std.proofs.Common.{ℕ, ◌≡◌, ◌≢◌, ◌+◌, ◌-◌, ◌<◌, ◌≤◌, inl, inr, suc, List, length, get_or, take, drop, Bool}
+use Rattle.std.proofs.Common.{true, ◌==◌, Result, Ok, Err, refl, sym, ◌∙◌, subst, arith, eq-eqb, [], ◌∷◌, ◌++◌, filter}
+use Rattle.std.proofs.Common.{min, not, ◌||◌, ap}
 use Rattle.std.specs.Prelude.{MatchResult, Contains}
 use Rattle.std.specs.Result.{is_ok}
 use Rattle.std.specs.List.Sorted.{IsStrictlyIncreasing}
 use Rattle.std.proofs.lemmas.Bool.{cases_lt, eqb-true, ne_eqb, false_from_ne_true}
-use Rattle.std.proofs.lemmas.List.{length-take, length-drop, get_or-take, get_or-drop, get_or_default, length-append, length-take-le, take-append-drop, append-nil, drop_at, drop_more, take_more, append_assoc, take-append-le, drop-append-le, drop-take, drop-drop}
+use Rattle.std.proofs.lemmas.List.{length-take, length-drop, get_or-take, get_or-drop, get_or_default, length-append}
+use Rattle.std.proofs.lemmas.List.{length-take-le, take-append-drop, append-nil, drop_at, drop_more, take_more}
+use Rattle.std.proofs.lemmas.List.{append_assoc, take-append-le, drop-append-le, drop-take, drop-drop}
 use Rattle.step_buffers.proofs.Common.{list_any-found, list_any-at, Contains-head, Contains-rest, is_in}
 use Rattle.round_model.proofs.RisingLists.{rising-later}
 use lib.Seq.{paste}
@@ -196,8 +200,12 @@ without-gap old part start n m r within long short =
     let front = take a old in
     let size : length front ≡ a = length-take-le a old within in
     let rest = drop m (drop a old) in
-    let one : take (a + r) (front ++ (part ++ rest)) ≡ front ++ take r part = subst (λ k. take (k + r) (front ++ (part ++ rest)) ≡ front ++ take r part) size (take-append-add front (part ++ rest) r ∙ ap (λ ys. front ++ ys) (take-append-le r part rest (omega arith))) in
-    let two : drop (a + m) (front ++ (part ++ rest)) ≡ rest = subst (λ k. drop (k + m) (front ++ (part ++ rest)) ≡ rest) size (drop-append-add front (part ++ rest) m ∙ subst (λ k. drop k (part ++ rest) ≡ rest) long (drop-append_seam part rest)) in
+    let one : take (a + r) (front ++ (part ++ rest)) ≡ front ++ take r part =
+    subst (λ k. take (k + r) (front ++ (part ++ rest)) ≡ front ++ take r part) size
+    (take-append-add front (part ++ rest) r ∙ ap (λ ys. front ++ ys) (take-append-le r part rest (omega arith))) in
+    let two : drop (a + m) (front ++ (part ++ rest)) ≡ rest =
+    subst (λ k. drop (k + m) (front ++ (part ++ rest)) ≡ rest) size (drop-append-add front (part ++ rest) m
+    ∙ subst (λ k. drop k (part ++ rest) ≡ rest) long (drop-append_seam part rest)) in
     ap (λ ys. drop start ys ++ drop (a + m) (front ++ (part ++ rest))) one
     ∙ ap (λ ys. drop start (front ++ take r part) ++ ys) two
     ∙ ap (λ ys. ys ++ rest) (drop-append-le start front (take r part) (omega arith) ∙ ap (λ ys. ys ++ take r part) (drop-take start n old))

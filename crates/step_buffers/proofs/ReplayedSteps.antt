@@ -1,11 +1,17 @@
 -- Steps of a trace that are made again: what a run implies for its last step, and as many as were made are the first
 -- ones.
-use Rattle.std.proofs.Common.{ℕ, suc, Result, Ok, Err, ◌≡◌, ◌+◌, ◌-◌, ◌<◌, List, [], ◌∷◌, ◌++◌, length, Option, Some, None, Bool, true, false, cond, not, ◌&&◌, refl, sym, ap, subst, arith, eq-eqb, inl, inr, take, drop, ◌∙◌}
+use Rattle.std.proofs.Common.{ℕ, suc, Result, Ok, Err, ◌≡◌, ◌+◌, ◌-◌, ◌<◌, List, [], ◌∷◌, ◌++◌, length, Option, Some}
+use Rattle.std.proofs.Common.{None, Bool, true, false, cond, not, ◌&&◌, refl, sym, ap, subst, arith, eq-eqb, inl, inr}
+use Rattle.std.proofs.Common.{take, drop, ◌∙◌}
 use Rattle.step_buffers.proofs.HeardSenders.{Contains-numbers}
 use Rattle.std.specs.Prelude.{Contains, find, is_some, option_map, IfOk, OnOk, slice_get, IfErr}
 use Rattle.std.specs.declared.alloc.AllocError.{AllocError}
 use Rattle.std.proofs.lemmas.Bool.{lt-ltb, not_from_true}
-use Rattle.step_buffers.proofs.Common.{Send, Receive, Step, Setup, is_proc, IsSentTo, step_at, is_rising, is_taken, step_at_last, step_at_within, Fits-from_well_formed, is_proc-true, is_rising-from_increasing, find-none, Contains-filter, Take, StepError, IdsNotRising, NotInBuffer, numbers, waits_for, buffer, next_send, is_in, take_refusal, step_refusal, IsStepRefusal, due_for}
+use Rattle.step_buffers.proofs.Common.{Send, Receive, Step, Setup, is_proc, IsSentTo, step_at, is_rising, is_taken}
+use Rattle.step_buffers.proofs.Common.{step_at_last, step_at_within, Fits-from_well_formed, is_proc-true}
+use Rattle.step_buffers.proofs.Common.{is_rising-from_increasing, find-none, Contains-filter, Take, StepError}
+use Rattle.step_buffers.proofs.Common.{IdsNotRising, NotInBuffer, numbers, waits_for, buffer, next_send, is_in}
+use Rattle.step_buffers.proofs.Common.{take_refusal, step_refusal, IsStepRefusal, due_for}
 use Rattle.step_buffers.specs.declared.moves.Move.TheVariants as move
 use Rattle.step_buffers.specs.Runs.{next_destination, IsDue, IsRun}
 use Rattle.step_buffers.proofs.StepPrefixes.{IsWellFormed-prefix, step_at-prefix_old}

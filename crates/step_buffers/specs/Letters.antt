@@ -1,5 +1,6 @@
 -- Kept messages: a place for each step, which has the message of a Send until nobody can hear it.
-use Rattle.std.specs.Prelude.{ℕ, zero, suc, List, [], ◌∷◌, ◌++◌, Option, Some, None, ◌==◌, ◌&&◌, nat_lt, filter, slice_index_or, option_map, if◌then◌else◌}
+use Rattle.std.specs.Prelude.{ℕ, zero, suc, List, [], ◌∷◌, ◌++◌, Option, Some, None, ◌==◌, ◌&&◌}
+use Rattle.std.specs.Prelude.{nat_lt, filter, slice_index_or, option_map, if◌then◌else◌}
 use Rattle.std.specs.Option.{option_map_or, option_or}
 use Rattle.std.specs.List.{filter_map, range_with_len}
 use Rattle.lock_phases.specs.declared.bodies.Body.{Body}
@@ -33,7 +34,8 @@ body_from letters (s ∷ rest) q = option_or (said_by q (letter_at letters s)) (
 
 -- what each of n processors says in these messages, in the order of the senders
 abbrev pub heard_from : List (Option Letter) → List ℕ → ℕ → List Message
-heard_from letters ids n = filter_map (λ q. option_map (λ body. (q, body)) (body_from letters ids q)) (range_with_len 1 n)
+heard_from letters ids n = filter_map (λ q. option_map (λ body. (q, body)) (body_from letters ids q))
+    (range_with_len 1 n)
 
 -- those of these messages that were sent in a round
 abbrev pub of_round : List (Option Letter) → ℕ → List ℕ → List ℕ
@@ -41,4 +43,5 @@ of_round letters round ids = filter (λ s. round_of letters s == round) ids
 
 -- what each of n processors says in those messages of two lists that were sent in a round
 abbrev pub heard_in : List (Option Letter) → List ℕ → List ℕ → ℕ → ℕ → List Message
-heard_in letters inbox taken round n = heard_from letters (of_round letters round inbox ++ of_round letters round taken) n
+heard_in letters inbox taken round n =
+    heard_from letters (of_round letters round inbox ++ of_round letters round taken) n

@@ -1,5 +1,6 @@
 -- Moves: what a processor does in a step, by what its node has to send and what waits in its buffer (own).
-use Rattle.std.specs.Prelude.{ℕ, ◌≡◌, ◌+◌, List, [], take, length, filter, find, Option, Some, None, Bool, ◌==◌, ◌&&◌, not, nat_lt, is_some, is_none, option_map, if◌then◌else◌}
+use Rattle.std.specs.Prelude.{ℕ, ◌≡◌, ◌+◌, List, [], take, length, filter, find, Option, Some, None, Bool}
+use Rattle.std.specs.Prelude.{◌==◌, ◌&&◌, not, nat_lt, is_some, is_none, option_map, if◌then◌else◌}
 use Rattle.std.specs.List.{list_any}
 use Rattle.step_trace.specs.declared.steps.Act.TheVariants as act
 use Rattle.step_trace.specs.declared.steps.Step.{Step}
@@ -10,7 +11,8 @@ use Rattle.step_buffers.specs.declared.moves.Take.TheVariants.{All, Nothing, Old
 use Rattle.step_buffers.specs.declared.moves.Move.{Move}
 use Rattle.step_buffers.specs.declared.moves.Move.TheVariants.{Send, Receive}
 use Rattle.step_buffers.specs.declared.moves.StepError.{StepError}
-use Rattle.step_buffers.specs.declared.moves.StepError.TheVariants.{Full, BadProc, NothingToSend, StillSending, IdsNotRising, NotInBuffer, Memory}
+use Rattle.step_buffers.specs.declared.moves.StepError.TheVariants.{Full, BadProc, NothingToSend, StillSending}
+use Rattle.step_buffers.specs.declared.moves.StepError.TheVariants.{IdsNotRising, NotInBuffer, Memory}
 use Rattle.step_buffers.specs.Runs.{next_destination}
 use Rattle.step_buffers.specs.Buffers.{buffer}
 
@@ -41,7 +43,8 @@ next_send c steps p = next_destination c steps p (length steps + 1)
 -- the step that a move of p makes
 abbrev pub step_of : Setup → List Step → ℕ → Move → Option Step
 step_of c steps p Send = option_map (λ to. record { proc = p; act = act.Send to }) (next_send c steps p)
-step_of c steps p (Receive taken ends) = Some (record { proc = p; act = act.Receive ends (taken_ids taken (buffer steps p)) })
+step_of c steps p (Receive taken ends) =
+    Some (record { proc = p; act = act.Receive ends (taken_ids taken (buffer steps p)) })
 
 -- the first reason against taking messages out of a buffer
 abbrev pub take_refusal : Take → List ℕ → Option StepError
@@ -49,7 +52,8 @@ take_refusal All waiting = None
 take_refusal Nothing waiting = None
 take_refusal (Oldest n) waiting = None
 take_refusal (These ids) waiting =
-    if is_rising ids.now then option_map (λ s. NotInBuffer s) (find (λ s. not (is_in waiting s)) ids.now) else Some IdsNotRising
+    if is_rising ids.now then option_map (λ s. NotInBuffer s) (find (λ s. not (is_in waiting s)) ids.now)
+    else Some IdsNotRising
 
 -- the first reason against a Receive of a processor
 abbrev pub receive_refusal : Setup → List Step → ℕ → Take → Bool → Option StepError

@@ -1,5 +1,6 @@
 -- Runs of Algorithm 1: traces in which each step is what its processor does next.
-use Rattle.std.specs.Prelude.{ℕ, ◌≡◌, ◌-◌, List, Option, Some, None, true, false, is_some, find, nat_lt, ◌&&◌, filter, count_by, slice_get}
+use Rattle.std.specs.Prelude.{ℕ, ◌≡◌, ◌-◌, List, Option, Some, None, true, false, is_some}
+use Rattle.std.specs.Prelude.{find, nat_lt, ◌&&◌, filter, count_by, slice_get}
 use Rattle.std.specs.List.{range_with_len}
 use Rattle.step_trace.specs.declared.steps.Act.{Act}
 use Rattle.step_trace.specs.declared.steps.Act.TheVariants.{Send, Receive}

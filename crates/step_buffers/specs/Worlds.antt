@@ -1,5 +1,6 @@
 -- What a World keeps besides its trace, and what it must be for the trace.
-use Rattle.std.specs.Prelude.{ℕ, suc, ◌≡◌, ◌+◌, ◌-◌, ◌<◌, ◌≤◌, ◌↔◌, ◌⊎◌, List, length, Option, Some, None, Contains, Bool, true, false, All, slice_get, IfSome}
+use Rattle.std.specs.Prelude.{ℕ, suc, ◌≡◌, ◌+◌, ◌-◌, ◌<◌, ◌≤◌, ◌↔◌, ◌⊎◌, List, length, Option}
+use Rattle.std.specs.Prelude.{Some, None, Contains, Bool, true, false, All, slice_get, IfSome}
 use Rattle.step_trace.specs.declared.steps.Step.{Step}
 use Rattle.step_trace.specs.Configurations.{Setup, IsSetup}
 use Rattle.step_trace.specs.Traces.{Recorded}
@@ -58,7 +59,8 @@ pub record IsDecidedSince (c : Setup) (steps : List Step) (p : ℕ) (decision : 
 
 -- the state of p: its round, its node, since which round it has its decision, its last destination, which gives the
 -- next one, and what it said in its round
-pub record IsStanding (c : Setup) (steps : List Step) (p r : ℕ) (state : State) (since to : ℕ) (letter : Option Letter) : Type 0 where
+pub record IsStanding (c : Setup) (steps : List Step) (p r : ℕ) (state : State) (since to : ℕ)
+    (letter : Option Letter) : Type 0 where
   pub round : r ≡ passed steps p + 1
   pub node : state ≡ node_at c steps p
   pub decided : IsDecidedSince c steps p state.decision since
@@ -77,7 +79,8 @@ pub record IsProcessor (c : Setup) (steps : List Step) (p : ℕ) (x : Processor)
 -- later rounds.
 abbrev pub IsTurnOf : Recorded → ℕ → Processor → Bool → List ℕ → Option State → Type 0
 IsTurnOf trace p x ends ids None = ends ≡ false
-IsTurnOf trace p x ends ids (Some node) = (ends ≡ true) × (node ≡ node_after trace p ids) × All (λ e. x.round < e.0.0) x.inbox.later
+IsTurnOf trace p x ends ids (Some node) = (ends ≡ true) × (node ≡ node_after trace p ids)
+    × All (λ e. x.round < e.0.0) x.inbox.later
 
 -- the message of a Send is kept: who sent it in which round, and what it says
 pub record IsLetter (c : Setup) (steps : List Step) (q to s : ℕ) (x : Letter) : Type 0 where
@@ -88,7 +91,8 @@ pub record IsLetter (c : Setup) (steps : List Step) (q to s : ℕ) (x : Letter) 
 -- the message of a Send is kept in its place; or it is gone, and its receiver has passed the round in which it was sent
 abbrev pub IsKeptOrPast : Setup → List Step → List (Option Letter) → ℕ → ℕ → ℕ → Type 0
 IsKeptOrPast c steps letters q to s =
-    ((x : Letter) × (letter_at letters s ≡ Some x) × IsLetter c steps q to s x) ⊎ ((letter_at letters s ≡ None) × (round_at steps q s ≤ passed steps to))
+    ((x : Letter) × (letter_at letters s ≡ Some x) × IsLetter c steps q to s x)
+    ⊎ ((letter_at letters s ≡ None) × (round_at steps q s ≤ passed steps to))
 
 -- the messages that are kept: a place for each step, and in that of each Send its message, as long as it may be heard
 pub record AreLetters (c : Setup) (steps : List Step) (letters : List (Option Letter)) : Type 0 where

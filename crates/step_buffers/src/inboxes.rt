@@ -1,6 +1,7 @@
 //! Inboxes: what is taken goes in by rounds, and each round's messages are brought to hand at its end.
 
-ghost use Rattle.std.specs.Prelude.{◌≡◌, ◌≢◌, ◌+◌, ◌≤◌, ◌<◌, ◌⊎◌, ◌∷◌, ◌++◌, [], true, false, length, All, Contains, IfOk, IfSome, IfNone, OnOk};
+ghost use Rattle.std.specs.Prelude.{◌≡◌, ◌≢◌, ◌+◌, ◌≤◌, ◌<◌, ◌⊎◌, ◌∷◌, ◌++◌, [], true, false};
+ghost use Rattle.std.specs.Prelude.{length, All, Contains, IfOk, IfSome, IfNone, OnOk};
 ghost use Rattle.std.specs.BinaryHeap.{IsHeap, heap_items, heap_len};
 ghost use Rattle.std.specs.List.Sorted.{IsPermutation};
 ghost use Rattle.step_buffers.specs.Inboxes.{Entry, earlier_first, kept_ids, ahead, IsEntered, IsMoved};

@@ -1,6 +1,7 @@
 //! A Receive, which may end its processor's round.
 
-ghost use Rattle.std.specs.Prelude.{◌≡◌, ◌+◌, ◌≤◌, None, true, false, length, vec_len, vec_capacity, ◌<◌, ◌&&◌, is_some, All, IfOk, OnOk, IfErr, OnErr};
+ghost use Rattle.std.specs.Prelude.{◌≡◌, ◌+◌, ◌≤◌, None, true, false, length, vec_len, vec_capacity};
+ghost use Rattle.std.specs.Prelude.{◌<◌, ◌&&◌, is_some, All, IfOk, OnOk, IfErr, OnErr};
 ghost use Rattle.step_buffers.specs.Buffers.{buffer};
 ghost use Rattle.step_buffers.specs.Moves.{next_send, taken_ids, receive_refusal, IsStepRefusal};
 ghost use Rattle.step_buffers.specs.NextSteps.{receiving, node_after, IsNext, IsGrown};

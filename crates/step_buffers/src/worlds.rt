@@ -1,6 +1,7 @@
 //! The World: all processors of a configuration, moved one step at a time.
 
-ghost use Rattle.std.specs.Prelude.{◌≡◌, ◌+◌, ◌-◌, ◌<◌, ◌≤◌, ◌++◌, ◌∷◌, [], Some, None, Contains, length, option_map, IfOk, OnOk, IfErr, OnErr};
+ghost use Rattle.std.specs.Prelude.{◌≡◌, ◌+◌, ◌-◌, ◌<◌, ◌≤◌, ◌++◌, ◌∷◌, [], Some, None, Contains};
+ghost use Rattle.std.specs.Prelude.{length, option_map, IfOk, OnOk, IfErr, OnErr};
 ghost use Rattle.std.specs.List.Sorted.{IsStrictlyIncreasing};
 ghost use Rattle.step_trace.specs.declared.traces.TheConstants.{MAX_STEPS};
 ghost use Rattle.step_trace.specs.Configurations.{IsProc};

@@ -27,4 +27,5 @@ farthest_of width rows = fold (λ most row. max most (moved_by width row)) 0 row
 
 -- the moves of a table whose ticks have this length
 abbrev pub moves_of : ℕ → List Said → Moves
-moves_of width rows = record { events = count_by is_timed rows; moved = count_by is_moved rows; farthest = farthest_of width rows }
+moves_of width rows =
+    record { events = count_by is_timed rows; moved = count_by is_moved rows; farthest = farthest_of width rows }

@@ -1,5 +1,7 @@
 -- The records of a table of a trace, and the first that doesn't fit.
-use Rattle.std.specs.Prelude.{ℕ, ◌+◌, ◌-◌, ◌==◌, ◌&&◌, ◌||◌, not, Bool, List, [], ◌∷◌, ◌++◌, codes, decimal, length, nat_lt, Option, Some, None, is_some, Result, Ok, Err, if◌then◌else◌, slice_get, slice_index_or, slice_set}
+use Rattle.std.specs.Prelude.{ℕ, ◌+◌, ◌-◌, ◌==◌, ◌&&◌, ◌||◌, not, Bool, List, [], ◌∷◌, ◌++◌, codes, decimal, length}
+use Rattle.std.specs.Prelude.{nat_lt, Option, Some, None, is_some, Result, Ok, Err, if◌then◌else◌, slice_get}
+use Rattle.std.specs.Prelude.{slice_index_or, slice_set}
 use Rattle.std.specs.List.{list_all}
 use Rattle.std.specs.Option.{option_and_then, option_map_or}
 use Rattle.std.specs.Str.{bytes_eq}
@@ -22,13 +24,15 @@ is_source field = (length field == 0) || is_some (number_of field)
 -- whether the record is that of a step of this number, in this tick
 abbrev pub is_at : ℕ → ℕ → List (List ℕ) → Bool
 is_at number tick fields =
-    (length fields == 9) && (bytes_eq (field_of fields 0) (decimal number) && (bytes_eq (field_of fields 1) (decimal tick) && is_source (field_of fields 3)))
+    (length fields == 9) && (bytes_eq (field_of fields 0) (decimal number) &&
+    (bytes_eq (field_of fields 1) (decimal tick) && is_source (field_of fields 3)))
 
 -- The names of the nodes once the one at a place is said to have this name: if it has a name, that has to be this one;
 -- if not, no other node may have it.
 abbrev pub named : ℕ → List (List ℕ) → ℕ → List ℕ → Result (List (List ℕ)) TableError
 named at nodes place name =
-    if nat_lt 0 (length (slice_index_or nodes place [])) then (if bytes_eq (slice_index_or nodes place []) name then Ok nodes else Err (Unfit at))
+    if nat_lt 0 (length (slice_index_or nodes place []))
+    then (if bytes_eq (slice_index_or nodes place []) name then Ok nodes else Err (Unfit at))
     else if is_name name && not (has_name nodes name) then Ok (slice_set nodes place name)
     else Err (Unfit at)
 
@@ -43,10 +47,12 @@ are_names_of rows ids words = (length words == length ids) && list_all (λ id. h
 -- what the nodes are called, once the record says what a step does
 abbrev pub with_act : ℕ → List Said → List (List ℕ) → Act → List (List ℕ) → Result (List (List ℕ)) TableError
 with_act at rows nodes (act.Send to) fields =
-    if bytes_eq (field_of fields 6) (codes "send") && is_message_name (field_of fields 8) then named at nodes (to - 1) (field_of fields 7)
+    if bytes_eq (field_of fields 6) (codes "send") && is_message_name (field_of fields 8) then named at nodes (to - 1)
+    (field_of fields 7)
     else Err (Unfit at)
 with_act at rows nodes (act.Receive ends ids) fields =
-    if bytes_eq (field_of fields 6) (codes "receive") && (length (field_of fields 7) == 0 && are_names_of rows ids (words_of (field_of fields 8))) then Ok nodes
+    if bytes_eq (field_of fields 6) (codes "receive") &&
+    (length (field_of fields 7) == 0 && are_names_of rows ids (words_of (field_of fields 8))) then Ok nodes
     else Err (Unfit at)
 
 -- what the message of a step is called
@@ -65,21 +71,25 @@ said_of a fields = record {
 
 -- what is known once the record says what a step does
 abbrev pub with_deed : ℕ → Told → Act → List (List ℕ) → Result Told TableError
-with_deed at told a fields = texts.◌>>=◌ (with_act at told.rows told.nodes a fields) (λ nodes. Ok (record { nodes = nodes; rows = told.rows ++ said_of a fields ∷ [] }))
+with_deed at told a fields = texts.◌>>=◌ (with_act at told.rows told.nodes a fields)
+    (λ nodes. Ok (record { nodes = nodes; rows = told.rows ++ said_of a fields ∷ [] }))
 
 -- what is known with the record of one more step
 abbrev pub with_step : ℕ → Told → Step → List (List ℕ) → Result Told TableError
 with_step at told step fields =
-    texts.◌>>=◌ (named at told.nodes (step.proc - 1) (field_of fields 5)) (λ nodes. with_deed at (record { nodes = nodes; rows = told.rows }) step.act fields)
+    texts.◌>>=◌ (named at told.nodes (step.proc - 1) (field_of fields 5))
+    (λ nodes. with_deed at (record { nodes = nodes; rows = told.rows }) step.act fields)
 
 -- the same, if the trace has that step, and the record is in its place
 abbrev pub with_record : ℕ → Recorded → Told → Option Step → List (List ℕ) → Result Told TableError
 with_record at trace told None fields = Err (Unfit at)
-with_record at trace told (Some step) fields = if is_at (at - 1) (tick_of trace (at - 1)) fields then with_step at told step fields else Err (Unfit at)
+with_record at trace told (Some step) fields =
+    if is_at (at - 1) (tick_of trace (at - 1)) fields then with_step at told step fields else Err (Unfit at)
 
 -- what is known with one more record
 abbrev pub after_record : Recorded → Told → List (List ℕ) → Result Told TableError
-after_record trace told fields = with_record (length told.rows + 2) trace told (step_at trace.steps (length told.rows + 1)) fields
+after_record trace told fields = with_record (length told.rows + 2) trace told
+    (step_at trace.steps (length told.rows + 1)) fields
 
 -- the number of the record of this step
 abbrev pub source_at : List Said → ℕ → Option ℕ

@@ -1,5 +1,6 @@
 -- When the ticks of a trace begin, by a table of its steps (own).
-use Rattle.std.specs.Prelude.{ℕ, ◌≡◌, ◌≤◌, ◌<◌, ◌+◌, ◌-◌, ◌*◌, ◌==◌, Bool, true, false, List, length, Option, Some, None, slice_get}
+use Rattle.std.specs.Prelude.{ℕ, ◌≡◌, ◌≤◌, ◌<◌, ◌+◌, ◌-◌, ◌*◌, ◌==◌, Bool, true, false}
+use Rattle.std.specs.Prelude.{List, length, Option, Some, None, slice_get}
 use Rattle.std.specs.Option.{option_and_then, option_map_or}
 use Rattle.step_trace.specs.Traces.{Recorded}
 use Rattle.step_trace.specs.Ticks.{tick_of}
@@ -16,7 +17,8 @@ begin_at rows place = option_and_then (λ row. row.begins) (slice_get rows place
 
 -- whether it is said to begin at these times
 abbrev pub is_at_time : Recorded → TickTimes → List Said → ℕ → Bool
-is_at_time trace t rows place = option_map_or (λ begin. begin == t.first + ticks_before trace (place + 1) * t.width) (begin_at rows place) false
+is_at_time trace t rows place = option_map_or (λ begin. begin == t.first + ticks_before trace (place + 1) * t.width)
+    (begin_at rows place) false
 
 -- each step is said to begin at these times
 abbrev pub AreAt : Recorded → TickTimes → List Said → Type 0
@@ -29,4 +31,5 @@ pub record AreTickTimes (trace : Recorded) (rows : List Said) (t : TickTimes) : 
 
 -- there are no such times, unless the tick of the last step is that of the first
 abbrev pub AreUntimed : Recorded → List Said → Type 0
-AreUntimed trace rows = (t : TickTimes) → AreTickTimes trace rows t → ticks_before trace (length rows) ≤ ticks_before trace 1
+AreUntimed trace rows = (t : TickTimes) → AreTickTimes trace rows t
+    → ticks_before trace (length rows) ≤ ticks_before trace 1

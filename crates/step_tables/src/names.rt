@@ -23,7 +23,8 @@ fn text_of(bytes: &[u8]) -> Option<&str>
 /// A name as text, if these bytes are one: they aren't empty, and have no control characters.
 #[tactic(auto, unfolding(crate::specs::Names::is_name, crate::specs::Names::text_of))]
 pub(crate) fn name_text(name: &[u8]) -> Option<&str>
-    ensures { option_map (λ text. text.now) result ≡ (if is_name name.now then Some name.now else None) }
+    ensures { option_map (λ text. text.now) result
+        ≡ (if is_name name.now then Some name.now else None) }
 {
     if name.len() == 0 {
         return None;

@@ -3,7 +3,8 @@
 ghost use Rattle.std.specs.Prelude.{◌≡◌, ◌≤◌, Err, IfOk, IsTrue, MatchResult, Ok, [], length, map, string_bytes};
 ghost use Rattle.std.proofs.Math.ListN.{replicate};
 ghost use Rattle.csv.specs.Records.{fields_of};
-ghost use Rattle.step_tables.specs.Tables.{Gives, at_end, is_header, is_memory, next_told, nothing, record_keeps, refuses_long, told_of_records, told_of_text};
+ghost use Rattle.step_tables.specs.Tables.{Gives, at_end, is_header, is_memory, next_told, nothing, record_keeps};
+ghost use Rattle.step_tables.specs.Tables.{refuses_long, told_of_records, told_of_text};
 ghost use Rattle.trace_text.specs.Records.{ReachesUnless, WantsOnlyWhere, records_of_text};
 
 use crate::records::take_record;
@@ -58,7 +59,8 @@ fn table_in(alloc: Global, trace: &Trace, text: &[u8]) -> Result<StepTable, Tabl
 
 /// The table at the end of the text, if the trace has so many steps.
 fn table_at_end(steps: usize, table: Option<StepTable>) -> Result<StepTable, TableError>
-    ensures { MatchResult result (λ t. at_end steps table ≡ Ok t) (λ e. at_end steps table ≡ Err e) }
+    ensures { MatchResult result (λ t. at_end steps table ≡ Ok t)
+        (λ e. at_end steps table ≡ Err e) }
 {
     let Some(table) = table else {
         return Err(TableError::BadHeader);
@@ -79,8 +81,10 @@ impl<'a> TakeRecords for Reading<'a> {
     ghost keeps = { record_keeps };
 
     fn take(&mut self, alloc: Global, fields: &ByteRecord) -> Result<(), TableError>
-        ensures next { ReachesUnless is_memory result self.new (next_told self.old (fields_of fields.now)) }
-        ensures more { WantsOnlyWhere is_memory result (record_keeps self.old (fields_of fields.now)) }
+        ensures next { ReachesUnless is_memory result self.new
+            (next_told self.old (fields_of fields.now)) }
+        ensures more { WantsOnlyWhere is_memory result
+            (record_keeps self.old (fields_of fields.now)) }
     {
         match &mut self.table {
             Some(table) => take_record(alloc, self.trace, table, fields),

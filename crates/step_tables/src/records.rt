@@ -1,12 +1,14 @@
 //! The records of a table, each tested against the step that it is to be of.
 
-ghost use Rattle.std.specs.Prelude.{◌≡◌, ◌≢◌, ◌-◌, ◌+◌, ◌∷◌, [], ◌++◌, Err, IfErr, IfOk, MatchBool, OnOk, false, length, map, slice_index_or, slice_set, string_bytes, true, ⊤};
+ghost use Rattle.std.specs.Prelude.{◌≡◌, ◌≢◌, ◌-◌, ◌+◌, ◌∷◌, [], ◌++◌, Err, IfErr, IfOk, MatchBool, OnOk};
+ghost use Rattle.std.specs.Prelude.{false, length, map, slice_index_or, slice_set, string_bytes, true, ⊤};
 ghost use Rattle.std.specs.Cmp.Lexicographic.{slice_cmp};
 ghost use Rattle.std.specs.List.{list_all};
 ghost use Rattle.std.specs.List.Sorted.{IsSorted};
 ghost use Rattle.std.specs.Ordering.{nat_cmp};
 ghost use Rattle.csv.specs.Records.{fields_of};
-ghost use Rattle.step_tables.specs.Records.{after_record, are_names_of, is_at, is_source, message_at, message_of, named, said_of, with_act, with_deed, with_step};
+ghost use Rattle.step_tables.specs.Records.{after_record, are_names_of, is_at, is_source, message_at, message_of};
+ghost use Rattle.step_tables.specs.Records.{named, said_of, with_act, with_deed, with_step};
 ghost use Rattle.step_tables.specs.Names.{has_name, words_of};
 ghost use Rattle.step_tables.specs.Tables.{is_memory};
 ghost use Rattle.trace_text.specs.Records.{ReachesUnless};
@@ -26,7 +28,8 @@ pub(crate) fn take_record(
     table: &mut StepTable,
     fields: &ByteRecord,
 ) -> Result<(), TableError>
-    ensures { ReachesUnless is_memory result table.new (after_record trace.now table.old (fields_of fields.now)) }
+    ensures { ReachesUnless is_memory result table.new
+        (after_record trace.now table.old (fields_of fields.now)) }
 {
     let no = table.rows.len() as u64 + 1;
     let at = no + 1;
@@ -48,8 +51,10 @@ fn take_step(
     step: &Step,
     fields: &ByteRecord,
 ) -> Result<(), TableError>
-    ensures { ReachesUnless is_memory result (record { nodes = map string_bytes nodes.new.items; rows = rows.new.items })
-        (with_step at (record { nodes = map string_bytes nodes.old.items; rows = rows.old.items }) step.now (fields_of fields.now)) }
+    ensures { ReachesUnless is_memory result
+        (record { nodes = map string_bytes nodes.new.items; rows = rows.new.items })
+        (with_step at (record { nodes = map string_bytes nodes.old.items; rows = rows.old.items })
+        step.now (fields_of fields.now)) }
 {
     match name_node(alloc, nodes, at, step.proc, field(fields, 5)) {
         Ok(()) => take_deed(alloc, nodes, rows, at, &step.act, fields),
@@ -66,8 +71,10 @@ fn take_deed(
     act: &Act,
     fields: &ByteRecord,
 ) -> Result<(), TableError>
-    ensures { ReachesUnless is_memory result (record { nodes = map string_bytes nodes.new.items; rows = rows.new.items })
-        (with_deed at (record { nodes = map string_bytes nodes.old.items; rows = rows.old.items }) act.now (fields_of fields.now)) }
+    ensures { ReachesUnless is_memory result
+        (record { nodes = map string_bytes nodes.new.items; rows = rows.new.items })
+        (with_deed at (record { nodes = map string_bytes nodes.old.items; rows = rows.old.items })
+        act.now (fields_of fields.now)) }
 {
     match take_act(alloc, rows, nodes, at, act, fields) {
         Ok(()) => push_row(alloc, rows, act, fields),
@@ -101,7 +108,8 @@ fn name_node(
     processor: u64,
     name: &[u8],
 ) -> Result<(), TableError>
-    ensures { ReachesUnless is_memory result (map string_bytes nodes.new.items) (named at (map string_bytes nodes.old.items) (processor - 1) name.now) }
+    ensures { ReachesUnless is_memory result (map string_bytes nodes.new.items)
+        (named at (map string_bytes nodes.old.items) (processor - 1) name.now) }
 {
     let place = processor.saturating_sub(1) as usize;
     let known = name_at(nodes, place);
@@ -133,7 +141,8 @@ fn name_at(nodes: &[String], place: usize) -> &[u8]
 
 /// Puts a name at a place, if there is one.
 fn put_name(nodes: &mut Vec<String>, place: usize, name: String)
-    ensures { map string_bytes nodes.new.items ≡ slice_set (map string_bytes nodes.old.items) place (string_bytes name) }
+    ensures { map string_bytes nodes.new.items ≡ slice_set (map string_bytes nodes.old.items) place
+        (string_bytes name) }
 {
     if place < nodes.len() {
         nodes[place] = name;
@@ -162,7 +171,8 @@ fn take_act(
     act: &Act,
     fields: &ByteRecord,
 ) -> Result<(), TableError>
-    ensures { ReachesUnless is_memory result (map string_bytes nodes.new.items) (with_act at rows.now (map string_bytes nodes.old.items) act.now (fields_of fields.now)) }
+    ensures { ReachesUnless is_memory result (map string_bytes nodes.new.items)
+        (with_act at rows.now (map string_bytes nodes.old.items) act.now (fields_of fields.now)) }
 {
     match act {
         Act::Send { to } => {
@@ -189,7 +199,9 @@ fn test_received(
     names: &[u8],
 ) -> Result<(), TableError>
     ensures fits { OnOk result (are_names_of rows.now ids.now (words_of names.now) ≡ true) }
-    ensures refused { IfErr result (λ why. MatchBool (is_memory why) ⊤ ((why ≡ TableError.Unfit at) × (are_names_of rows.now ids.now (words_of names.now) ≡ false))) }
+    ensures refused { IfErr result
+        (λ why. MatchBool (is_memory why) ⊤ ((why ≡ TableError.Unfit at)
+        × (are_names_of rows.now ids.now (words_of names.now) ≡ false))) }
 {
     let Ok(mut words) = words_of(alloc, names) else {
         return Err(TableError::Memory);
@@ -216,7 +228,8 @@ fn are_names_of(rows: &[StepRow], ids: &[u64], words: &mut [&[u8]]) -> bool
 /// Whether each message's name is among these words, which are in order.
 fn are_among(rows: &[StepRow], ids: &[u64], words: &[&[u8]]) -> bool
     requires { IsSorted (λ x y. slice_cmp nat_cmp x.now y.now) words.now }
-    ensures { result ≡ list_all (λ id. has_name (map (λ word. word.now) words.now) (message_at rows.now id)) ids.now }
+    ensures { result ≡ list_all
+        (λ id. has_name (map (λ word. word.now) words.now) (message_at rows.now id)) ids.now }
 {
     for id in ids {
         if !has_word(words, message_at(rows, *id)) {
@@ -233,7 +246,8 @@ fn push_row(
     act: &Act,
     fields: &ByteRecord,
 ) -> Result<(), TableError>
-    ensures rows { OnOk result (rows.new.items ≡ rows.old.items ++ said_of act.now (fields_of fields.now) ∷ []) }
+    ensures rows { OnOk result
+        (rows.new.items ≡ rows.old.items ++ said_of act.now (fields_of fields.now) ∷ []) }
     ensures memory { IfErr result (λ why. why ≡ TableError.Memory) }
 {
     let Ok(message) = Vec::from_slice(alloc, message_of(act, fields)) else {

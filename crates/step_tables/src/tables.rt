@@ -24,7 +24,13 @@ impl Model for StepRow {
 
     ghost Value = { Said };
 
-    ghost view = { λ row. record { source = row.source; message = row.message.items; begins = row.begins; time = row.time } };
+    ghost view = { λ row.
+        record {
+          source = row.source;
+          message = row.message.items;
+          begins = row.begins;
+          time = row.time;
+        } };
 }
 
 impl StepRow {
@@ -66,7 +72,8 @@ impl Model for StepTable {
 
     ghost Value = { Told };
 
-    ghost view = { λ table. record { nodes = map string_bytes table.nodes.items; rows = table.rows.items } };
+    ghost view = { λ table.
+        record { nodes = map string_bytes table.nodes.items; rows = table.rows.items } };
 }
 
 impl StepTable {

@@ -35,7 +35,8 @@ pub fn tick_times(trace: &Trace, rows: &[StepRow]) -> Option<TickTimes>
 /// The times by which the ticks of the first and the last row begin.
 fn times_of_ends(trace: &Trace, rows: &[StepRow]) -> Option<TickTimes>
     ensures positive { IfSome result (λ t. 1 ≤ t.width) }
-    ensures only { (t : TickTimes) → 1 ≤ t.width → AreAt trace.now t rows.now → ticks_before trace.now 1 < ticks_before trace.now (length rows.now) → result ≡ Some t }
+    ensures only { (t : TickTimes) → 1 ≤ t.width → AreAt trace.now t rows.now
+        → ticks_before trace.now 1 < ticks_before trace.now (length rows.now) → result ≡ Some t }
 {
     let count = rows.len();
     let begin = begin_at(rows, 0)?;
@@ -47,7 +48,8 @@ fn times_of_ends(trace: &Trace, rows: &[StepRow]) -> Option<TickTimes>
 /// The times by which a tick with so many before it begins at one time, and a later one at another time.
 fn times_between(before: u64, begin: u64, later: u64, end: u64) -> Option<TickTimes>
     ensures positive { IfSome result (λ t. 1 ≤ t.width) }
-    ensures only { (t : TickTimes) → 1 ≤ t.width → begin ≡ t.first + before * t.width → end ≡ t.first + later * t.width → before < later → result ≡ Some t }
+    ensures only { (t : TickTimes) → 1 ≤ t.width → begin ≡ t.first + before * t.width
+        → end ≡ t.first + later * t.width → before < later → result ≡ Some t }
 {
     if later <= before {
         return None;

@@ -57,5 +57,7 @@ pub IsIndex-push : (steps : List Step) (x : Step) (taken new : List Bool) → Is
     → ((s : ℕ) → flag_of new s ≡ (flag_of (taken ++ false ∷ []) s || act_takes x.act s)) → IsIndex (steps ++ x ∷ []) new
 IsIndex-push steps x taken new i l m = record {
   long = let e = i.long in grind (arith, common_steps);
-  each = λ s. m s ∙ ap (λ b. b || act_takes x.act s) (flag_of-push taken s ∙ i.each s) ∙ ap (λ b. is_taken steps s || b) (sym (or-false (act_takes x.act s))) ∙ sym (list_any-append (λ x. act_takes x.act s) steps (x ∷ []));
+  each = λ s. m s ∙ ap (λ b. b || act_takes x.act s) (flag_of-push taken s ∙ i.each s)
+      ∙ ap (λ b. is_taken steps s || b) (sym (or-false (act_takes x.act s)))
+      ∙ sym (list_any-append (λ x. act_takes x.act s) steps (x ∷ []));
 }

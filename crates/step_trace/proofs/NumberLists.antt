@@ -1,5 +1,6 @@
 -- Numbers with commas between them, and the sets of what is read of them.
-use Rattle.std.proofs.Common.{◌≡◌, ◌≢◌, ◌∙◌, ◌<◌, ◌≤◌, ◌^◌, ◌+◌, ◌⊎◌, ◌↔◌, ℕ, false, IsTrue, List, [], ◌∷◌, ◌++◌, length, map, get_or, decimal, Contains, All, eqb, refl, sym, ap, subst, inl, inr, arith}
+use Rattle.std.proofs.Common.{◌≡◌, ◌≢◌, ◌∙◌, ◌<◌, ◌≤◌, ◌^◌, ◌+◌, ◌⊎◌, ◌↔◌, ℕ, false, IsTrue, List, [], ◌∷◌, ◌++◌}
+use Rattle.std.proofs.Common.{length, map, get_or, decimal, Contains, All, eqb, refl, sym, ap, subst, inl, inr, arith}
 use Rattle.std.specs.List.{join_with_byte, slice_split}
 use Rattle.std.proofs.lemmas.Bool.{ne_eqb, cases_eq, false≢true}
 use Rattle.std.proofs.lemmas.Fmt.{decimal_by_steps, decimal_injective}

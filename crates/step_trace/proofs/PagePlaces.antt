@@ -1,5 +1,6 @@
 -- Items of a list in pages, by their places.
-use Rattle.std.proofs.Common.{ℕ, ◌≡◌, ◌+◌, ◌-◌, ◌*◌, ◌/◌, ◌%◌, ◌<◌, ◌≤◌, List, [], ◌∷◌, ◌++◌, length, Some, refl, sym, ap, ◌∙◌, suc, zero, arith, append_assoc, length-append, Bool, true, false, nat_lt}
+use Rattle.std.proofs.Common.{ℕ, ◌≡◌, ◌+◌, ◌-◌, ◌*◌, ◌/◌, ◌%◌, ◌<◌, ◌≤◌, List, [], ◌∷◌, ◌++◌, length, Some, refl, sym}
+use Rattle.std.proofs.Common.{ap, ◌∙◌, suc, zero, arith, append_assoc, length-append, Bool, true, false, nat_lt}
 use Rattle.std.specs.Prelude.{slice_get, All, None}
 use Rattle.std.specs.List.{flat_map, AllZip}
 use Rattle.std.proofs.lemmas.Option.{none-some, same_Some, slice_get_within}
@@ -111,7 +112,9 @@ module _ {P X : Type 0} (items : P → List X) where
   flat_map-same R same [] [] z = refl
   flat_map-same R same [] (q ∷ copies) z = absurd z
   flat_map-same R same (p ∷ pages) [] z = absurd z
-  flat_map-same R same (p ∷ pages) (q ∷ copies) z = flat_map-cons items q copies ∙ ap (λ xs. xs ++ flat_map items copies) (same p q z.0) ∙ ap (λ xs. items p ++ xs) (flat_map-same R same pages copies z.1) ∙ sym (flat_map-cons items p pages)
+  flat_map-same R same (p ∷ pages) (q ∷ copies) z = flat_map-cons items q copies
+      ∙ ap (λ xs. xs ++ flat_map items copies) (same p q z.0)
+      ∙ ap (λ xs. items p ++ xs) (flat_map-same R same pages copies z.1) ∙ sym (flat_map-cons items p pages)
 
   -- and are full if those are
   full-same : (R : P → P → Type 0) → ((p q : P) → R p q → items q ≡ items p) → (pages copies : List P) → AllZip R pages copies

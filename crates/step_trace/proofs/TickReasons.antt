@@ -41,11 +41,16 @@ FitsIn-from_none trace tick x t h =
       forward = forward;
       low = let e = low.0 in grind (arith, nat_tests);
       high = let e = high.1 in grind (arith, nat_tests);
-      order = λ y at. order y at (let m = (t.time.inside (length trace.steps) y at).1 in omega (arith, m, forward)) (subst (λ z. option_map_or (λ y. not (tick_at trace.ticks (length trace.steps) == tick && nat_le x.proc y.proc)) z true ≡ true) at o.0);
+      order = λ y at. order y at (let m = (t.time.inside (length trace.steps) y at).1 in omega (arith, m, forward))
+          (subst
+          (λ z. option_map_or (λ y. not (tick_at trace.ticks (length trace.steps) == tick && nat_le x.proc y.proc))
+          z true ≡ true) at o.0);
       later = λ s d. later s d (let m = (t.time.inside s _ (fits.0.sent s d).1).1 in omega (arith, m, forward)) (fits.1 s d);
     } where
-      order : (y : Step) → step_at trace.steps (length trace.steps) ≡ Some y → tick_of trace (length trace.steps) ≤ tick → not (tick_at trace.ticks (length trace.steps) == tick && nat_le x.proc y.proc) ≡ true
-          → (tick_of trace (length trace.steps) < tick) ⊎ ((tick_of trace (length trace.steps) ≡ tick) × (y.proc < x.proc))
+      order : (y : Step) → step_at trace.steps (length trace.steps) ≡ Some y → tick_of trace (length trace.steps) ≤ tick
+          → not (tick_at trace.ticks (length trace.steps) == tick && nat_le x.proc y.proc) ≡ true
+          → (tick_of trace (length trace.steps) < tick)
+          ⊎ ((tick_of trace (length trace.steps) ≡ tick) × (y.proc < x.proc))
       order y at l h = elim (cases_eq (tick_of trace (length trace.steps)) tick) [
         | inl e ↦ inr (e, let same : (tick_at trace.ticks (length trace.steps) == tick) ≡ true = eq-eqb _ _ e in let below : not (nat_le x.proc y.proc) ≡ true = rw same at h in grind (arith, nat_tests))
         | inr n ↦ inl (omega (arith, n, l))

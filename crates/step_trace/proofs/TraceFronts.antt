@@ -108,7 +108,8 @@ module _ (trace : Recorded) (n tick : ℕ) (sound : IsTrace trace) (inside : n �
     further k x l h = let long = length-take-le n trace.steps inside in after k (omega (arith, long, l)) (step_at_within trace.steps k x h).1
 
 -- one step more
-pub first_steps-next : (trace : Recorded) (n : ℕ) (x : Step) → IsTrace trace → step_at trace.steps (suc n) ≡ Some x → first_steps trace (n + 1) ≡ with_step (first_steps trace n) (tick_of trace (n + 1)) x
+pub first_steps-next : (trace : Recorded) (n : ℕ) (x : Step) → IsTrace trace → step_at trace.steps (suc n) ≡ Some x
+    → first_steps trace (n + 1) ≡ with_step (first_steps trace n) (tick_of trace (n + 1)) x
 first_steps-next trace n x sound h =
     let inside = (step_at_within trace.steps (suc n) x h).1 in
     let long = sound.time.each in

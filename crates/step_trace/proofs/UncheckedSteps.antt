@@ -64,7 +64,10 @@ rest-begin t xs ts n e each =
     let long : n ≡ length t.ticks = e ∙ sym each in
     ap (λ k. appended (record { config = t.config; steps = take k (t.steps ++ xs); ticks = take n (t.ticks ++ ts); last = t.last }) (drop k (t.steps ++ xs)) (drop n (t.ticks ++ ts))) e
     ∙ ap (λ k. appended (record { config = t.config; steps = take (length t.steps) (t.steps ++ xs); ticks = take k (t.ticks ++ ts); last = t.last }) (drop (length t.steps) (t.steps ++ xs)) (drop k (t.ticks ++ ts))) long
-    ∙ ap (λ (s : List Step). appended (record { config = t.config; steps = s; ticks = take (length t.ticks) (t.ticks ++ ts); last = t.last }) (drop (length t.steps) (t.steps ++ xs)) (drop (length t.ticks) (t.ticks ++ ts))) (take-append_seam t.steps xs)
+    ∙ ap
+    (λ (s : List Step).
+    appended (record { config = t.config; steps = s; ticks = take (length t.ticks) (t.ticks ++ ts); last = t.last })
+    (drop (length t.steps) (t.steps ++ xs)) (drop (length t.ticks) (t.ticks ++ ts))) (take-append_seam t.steps xs)
     ∙ ap (λ (s : List ℕ). appended (record { config = t.config; steps = t.steps; ticks = s; last = t.last }) (drop (length t.steps) (t.steps ++ xs)) (drop (length t.ticks) (t.ticks ++ ts))) (take-append_seam t.ticks ts)
     ∙ ap (λ (s : List Step). appended t s (drop (length t.ticks) (t.ticks ++ ts))) (drop-append_seam t.steps xs)
     ∙ ap (λ (s : List ℕ). appended t xs s) (drop-append_seam t.ticks ts)

@@ -17,7 +17,8 @@ unless_refused (Some why) at after = Err (record { no = at; why = why })
 unfoldable pub appended : Recorded → List Step → List ℕ → Result Recorded StepRefused
 appended trace [] ticks = Ok trace
 appended trace (x ∷ xs) [] = Ok trace
-appended trace (x ∷ xs) (tick ∷ ticks) = unless_refused (refusal_in trace tick x) (length trace.steps + 1) (appended (with_step trace tick x) xs ticks)
+appended trace (x ∷ xs) (tick ∷ ticks) =
+    unless_refused (refusal_in trace tick x) (length trace.steps + 1) (appended (with_step trace tick x) xs ticks)
 
 -- the answer is this refusal, or out of memory
 abbrev pub IsStepRefusal : Result Recorded StepRefused → StepRefused → Type 0

@@ -26,7 +26,8 @@ pub record IsDelivered (trace : Recorded) (s y : ℕ) : Type 0 where
 -- The communication bound d holds for message s: each Receive of its receiver that comes d or more
 -- ticks after its Send finds it delivered.
 pub record DeltaHoldsFor (set : ℕ) (trace : Recorded) (s d : ℕ) : Type 0 where
-  pub on_time : (r b : ℕ) → IsMessage set trace.steps s b → IsReceiveOf trace.steps r b → tick_of trace s + d ≤ tick_of trace r → IsDelivered trace s (tick_of trace r)
+  pub on_time : (r b : ℕ) → IsMessage set trace.steps s b → IsReceiveOf trace.steps r b
+      → tick_of trace s + d ≤ tick_of trace r → IsDelivered trace s (tick_of trace r)
 
 -- The communication bound d holds from tick g: it holds for each message sent in g or later.
 pub record DeltaHolds (set : ℕ) (trace : Recorded) (g d : ℕ) : Type 0 where

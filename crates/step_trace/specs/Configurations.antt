@@ -1,5 +1,6 @@
 -- Configurations (section 2: N processors of which at most t are faulty, each with an initial value).
-use Rattle.std.specs.Prelude.{ℕ, ◌≡◌, ◌+◌, ◌*◌, ◌≤◌, List, length, Option, Some, None, nat_lt, nat_le, Bool, ◌&&◌, ◌==◌, ◌||◌, if◌then◌else◌}
+use Rattle.std.specs.Prelude.{ℕ, ◌≡◌, ◌+◌, ◌*◌, ◌≤◌, List, length, Option, Some, None}
+use Rattle.std.specs.Prelude.{nat_lt, nat_le, Bool, ◌&&◌, ◌==◌, ◌||◌, if◌then◌else◌}
 use Rattle.step_trace.specs.declared.configurations.TheConstants.{MIN_PROCESSORS, MAX_PROCESSORS}
 use Rattle.step_trace.specs.declared.configurations.ConfigError.{ConfigError}
 use Rattle.step_trace.specs.declared.configurations.ConfigError.TheVariants.{BadSize, BadFaults, BadInit}

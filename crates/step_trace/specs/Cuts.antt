@@ -14,7 +14,8 @@ pub record IsCutAt (trace : Recorded) (tick : ℕ) (cut : Recorded) : Type 0 whe
 
 -- the first n steps of a trace, which end with this tick
 abbrev pub front_to : Recorded → ℕ → ℕ → Recorded
-front_to trace n tick = record { config = trace.config; steps = take n trace.steps; ticks = take n trace.ticks; last = tick }
+front_to trace n tick =
+    record { config = trace.config; steps = take n trace.steps; ticks = take n trace.ticks; last = tick }
 
 -- the first n steps of a trace, which end in the tick of the last of them
 abbrev pub first_steps : Recorded → ℕ → Recorded

@@ -16,4 +16,5 @@ pub record Extends (longer shorter : Recorded) : Type 0 where
   pub steps : BeginsWith longer.steps shorter.steps
   pub ticks : BeginsWith longer.ticks shorter.ticks
   pub last : shorter.last ≤ longer.last
-  pub later : (k : ℕ) (x : Step) → length shorter.steps < k → step_at longer.steps k ≡ Some x → shorter.last ≤ tick_of longer k
+  pub later : (k : ℕ) (x : Step) → length shorter.steps < k → step_at longer.steps k ≡ Some x
+      → shorter.last ≤ tick_of longer k

@@ -18,4 +18,5 @@ HasMembers set numbers = (p : ℕ) → IsTrue (has_proc set p) ↔ Contains numb
 
 -- the set is what the text says: no processor if it is the word `none`, else the numbers that it lists
 abbrev pub IsSetIn : List ℕ → ℕ → Type 0
-IsSetIn text set = ((text ≡ codes "none") × HasMembers set []) ⊎ ((numbers : List ℕ) × IsListOf text numbers × HasMembers set numbers)
+IsSetIn text set = ((text ≡ codes "none") × HasMembers set [])
+    ⊎ ((numbers : List ℕ) × IsListOf text numbers × HasMembers set numbers)

@@ -1,7 +1,9 @@
 -- The reasons against a step, in words (own).
 use Rattle.std.specs.Prelude.{ℕ, List, ◌++◌, codes, decimal}
 use Rattle.step_trace.specs.declared.traces.PushError.{PushError}
-use Rattle.step_trace.specs.declared.traces.PushError.TheVariants.{Full, BadTick, BadProc, ProcOrder, BadDest, IdsNotRising, UnknownMessage, NotAddressed, SameTick, Redelivered, Memory}
+use Rattle.step_trace.specs.declared.traces.PushError.TheVariants.{Full, BadTick, BadProc, ProcOrder, BadDest}
+use Rattle.step_trace.specs.declared.traces.PushError.TheVariants.{IdsNotRising, UnknownMessage, NotAddressed, SameTick}
+use Rattle.step_trace.specs.declared.traces.PushError.TheVariants.{Redelivered, Memory}
 
 -- what each reason prints; a message is named by its id in decimal digits
 abbrev pub push_error_text : PushError → List ℕ

@@ -1,5 +1,6 @@
 -- The reasons against one more step, in their order.
-use Rattle.std.specs.Prelude.{ℕ, ◌≡◌, ◌<◌, List, [], ◌∷◌, length, Option, Some, None, Bool, true, false, ◌&&◌, Contains, nat_lt, not, find, if◌then◌else◌}
+use Rattle.std.specs.Prelude.{ℕ, ◌≡◌, ◌<◌, List, [], ◌∷◌, length, Option, Some, None, Bool, true}
+use Rattle.std.specs.Prelude.{false, ◌&&◌, Contains, nat_lt, not, find, if◌then◌else◌}
 use Rattle.std.specs.List.{list_any}
 use Rattle.std.specs.Option.{option_map_or}
 use Rattle.step_trace.specs.declared.steps.Act.{Act}
@@ -7,7 +8,8 @@ use Rattle.step_trace.specs.declared.steps.Act.TheVariants.{Send, Receive}
 use Rattle.step_trace.specs.declared.steps.Step.{Step}
 use Rattle.step_trace.specs.declared.traces.TheConstants.{MAX_STEPS}
 use Rattle.step_trace.specs.declared.traces.PushError.{PushError}
-use Rattle.step_trace.specs.declared.traces.PushError.TheVariants.{Full, BadProc, BadDest, IdsNotRising, UnknownMessage, NotAddressed, SameTick, Redelivered, Memory}
+use Rattle.step_trace.specs.declared.traces.PushError.TheVariants.{Full, BadProc, BadDest, IdsNotRising, UnknownMessage}
+use Rattle.step_trace.specs.declared.traces.PushError.TheVariants.{NotAddressed, SameTick, Redelivered, Memory}
 use Rattle.step_trace.specs.Configurations.{Setup, is_proc}
 use Rattle.step_trace.specs.Steps.{act_sends_to, act_sends, act_takes}
 use Rattle.step_trace.specs.Traces.{step_at}

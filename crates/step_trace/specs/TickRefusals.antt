@@ -1,10 +1,12 @@
 -- The reasons against one more step in a tick, in their order.
-use Rattle.std.specs.Prelude.{ℕ, ◌+◌, List, length, Option, Some, Bool, true, ◌&&◌, ◌==◌, nat_lt, nat_le, not, if◌then◌else◌}
+use Rattle.std.specs.Prelude.{ℕ, ◌+◌, List, length, Option, Some, Bool, true}
+use Rattle.std.specs.Prelude.{◌&&◌, ◌==◌, nat_lt, nat_le, not, if◌then◌else◌}
 use Rattle.std.specs.Option.{option_map_or}
 use Rattle.step_trace.specs.declared.steps.Step.{Step}
 use Rattle.step_trace.specs.declared.traces.TheConstants.{MAX_STEPS, MAX_TICKS}
 use Rattle.step_trace.specs.declared.traces.PushError.{PushError}
-use Rattle.step_trace.specs.declared.traces.PushError.TheVariants.{Full, BadTick, BadProc, ProcOrder, UnknownMessage, NotAddressed, SameTick, Redelivered, Memory}
+use Rattle.step_trace.specs.declared.traces.PushError.TheVariants.{Full, BadTick, BadProc, ProcOrder, UnknownMessage}
+use Rattle.step_trace.specs.declared.traces.PushError.TheVariants.{NotAddressed, SameTick, Redelivered, Memory}
 use Rattle.step_trace.specs.Configurations.{is_proc}
 use Rattle.step_trace.specs.Steps.{act_ids}
 use Rattle.step_trace.specs.Traces.{Recorded, step_at}
@@ -18,7 +20,8 @@ may_end_in trace tick = nat_le trace.last tick && nat_le tick MAX_TICKS
 -- whether a step of p in this tick comes after the last step: that is in another tick, or of a smaller processor
 abbrev pub comes_after_last : List Step → List ℕ → ℕ → ℕ → Bool
 comes_after_last steps ticks tick p =
-    option_map_or (λ x. not (tick_at ticks (length steps) == tick && nat_le p x.proc)) (step_at steps (length steps)) true
+    option_map_or (λ x. not (tick_at ticks (length steps) == tick && nat_le p x.proc))
+    (step_at steps (length steps)) true
 
 -- whether message s was sent in this tick
 abbrev pub is_sent_in : List ℕ → ℕ → ℕ → Bool

@@ -23,7 +23,8 @@ pub record StepsIn (trace : Recorded) (x p : ℕ) : Type 0 where
 -- Step j, which is a, comes before step k, which is b: in an earlier tick, or in the same tick with a smaller
 -- processor.
 abbrev pub ComesBefore : Recorded → ℕ → Step → ℕ → Step → Type 0
-ComesBefore trace j a k b = (tick_of trace j < tick_of trace k) ⊎ ((tick_of trace j ≡ tick_of trace k) × (a.proc < b.proc))
+ComesBefore trace j a k b = (tick_of trace j < tick_of trace k)
+    ⊎ ((tick_of trace j ≡ tick_of trace k) × (a.proc < b.proc))
 
 -- The steps are in time. Each is in a tick from 1 to the last, which is at most MAX_TICKS. Ticks don't fall, and
 -- within a tick the processors rise, so that each takes at most one step in it. A message is taken in a later
@@ -31,8 +32,10 @@ ComesBefore trace j a k b = (tick_of trace j < tick_of trace k) ⊎ ((tick_of tr
 pub record IsTimed (trace : Recorded) : Type 0 where
   pub each : length trace.ticks ≡ length trace.steps
   pub end : trace.last ≤ MAX_TICKS
-  pub inside : (k : ℕ) (x : Step) → step_at trace.steps k ≡ Some x → (1 ≤ tick_of trace k) × (tick_of trace k ≤ trace.last)
-  pub order : (j k : ℕ) (a b : Step) → j < k → step_at trace.steps j ≡ Some a → step_at trace.steps k ≡ Some b → ComesBefore trace j a k b
+  pub inside : (k : ℕ) (x : Step) → step_at trace.steps k ≡ Some x
+      → (1 ≤ tick_of trace k) × (tick_of trace k ≤ trace.last)
+  pub order : (j k : ℕ) (a b : Step) → j < k → step_at trace.steps j ≡ Some a → step_at trace.steps k ≡ Some b
+      → ComesBefore trace j a k b
   pub later : (k s : ℕ) → TakesAt trace.steps k s → tick_of trace s < tick_of trace k
 
 -- A trace is well formed: its steps are, by their numbers, and they are in time.
@@ -42,7 +45,8 @@ pub record IsTrace (trace : Recorded) : Type 0 where
 
 -- the trace with one more step, in this tick
 abbrev pub with_step : Recorded → ℕ → Step → Recorded
-with_step trace tick step = record { config = trace.config; steps = trace.steps ++ step ∷ []; ticks = trace.ticks ++ tick ∷ []; last = tick }
+with_step trace tick step =
+    record { config = trace.config; steps = trace.steps ++ step ∷ []; ticks = trace.ticks ++ tick ∷ []; last = tick }
 
 -- the trace with this last tick
 abbrev pub with_last : Recorded → ℕ → Recorded

@@ -1,5 +1,6 @@
 -- Traces (section 2, the runs of a set of processors; the numbering of all steps from 1 is own).
-use Rattle.std.specs.Prelude.{ℕ, ◌≡◌, ◌<◌, ◌≤◌, List, length, Option, Some, None, slice_get, Contains, IfSome, suc, zero, Bool}
+use Rattle.std.specs.Prelude.{ℕ, ◌≡◌, ◌<◌, ◌≤◌, List, length, Option, Some, None}
+use Rattle.std.specs.Prelude.{slice_get, Contains, IfSome, suc, zero, Bool}
 use Rattle.std.specs.List.Sorted.{IsStrictlyIncreasing}
 use Rattle.step_trace.specs.declared.traces.TheConstants.{MAX_STEPS}
 use Rattle.step_trace.specs.declared.steps.Act.{Act}
@@ -36,7 +37,8 @@ pub record IsWellFormed (c : Setup) (steps : List Step) : Type 0 where
   pub procs : (k : ℕ) (x : Step) → step_at steps k ≡ Some x → IsProc c x.proc
   pub dests : (k : ℕ) (x : Step) → step_at steps k ≡ Some x → IfSome (act_dest x.act) (IsProc c)
   pub rising : (k : ℕ) (x : Step) → step_at steps k ≡ Some x → IsStrictlyIncreasing (act_ids x.act)
-  pub earlier : (k s : ℕ) (x : Step) → step_at steps k ≡ Some x → Contains (act_ids x.act) s → (s < k) × IsSentTo steps s x.proc
+  pub earlier : (k s : ℕ) (x : Step) → step_at steps k ≡ Some x → Contains (act_ids x.act) s
+      → (s < k) × IsSentTo steps s x.proc
   pub once : (m n s : ℕ) → TakesAt steps m s → TakesAt steps n s → m ≡ n
 
 -- step r is a Receive of p

@@ -11,7 +11,8 @@ use Rattle.step_trace.specs.AppendedSteps.{appended}
 
 -- the first n of these steps, as a trace that ends in this tick
 abbrev pub front_of : Setup → Ticked → ℕ → ℕ → Recorded
-front_of config placed n last = record { config = config; steps = take n placed.steps; ticks = take n placed.ticks; last = last }
+front_of config placed n last =
+    record { config = config; steps = take n placed.steps; ticks = take n placed.ticks; last = last }
 
 -- where the steps after the first n lead that trace
 abbrev pub rest_of : Setup → Ticked → ℕ → ℕ → Result Recorded StepRefused

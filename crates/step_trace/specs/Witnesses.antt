@@ -43,8 +43,10 @@ pub record IsNamedMiss (set : ℕ) (trace : Recorded) (g d : ℕ) (m : Miss) : T
   pub miss : IsMiss set trace m
   pub from : g ≤ tick_of trace m.sent
   pub long : tick_of trace m.sent + d ≡ tick_of trace m.missed + 1
-  pub latest : (o : Miss) → IsMiss set trace o → g ≤ tick_of trace o.sent → tick_of trace o.sent + d ≡ tick_of trace o.missed + 1 → tick_of trace o.sent ≤ tick_of trace m.sent
-  pub greatest : (o : Miss) → IsMiss set trace o → tick_of trace o.sent ≡ tick_of trace m.sent → tick_of trace o.sent + d ≡ tick_of trace o.missed + 1 → o.sent ≤ m.sent
+  pub latest : (o : Miss) → IsMiss set trace o → g ≤ tick_of trace o.sent
+      → tick_of trace o.sent + d ≡ tick_of trace o.missed + 1 → tick_of trace o.sent ≤ tick_of trace m.sent
+  pub greatest : (o : Miss) → IsMiss set trace o → tick_of trace o.sent ≡ tick_of trace m.sent
+      → tick_of trace o.sent + d ≡ tick_of trace o.missed + 1 → o.sent ≤ m.sent
 
 -- The named gap for the bound f from tick g: of the gaps of length f - 1 that begin in g or later, the one
 -- with the greatest beginning, then of the least processor.

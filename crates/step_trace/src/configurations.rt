@@ -49,7 +49,8 @@ impl Config {
     /// Refuses, in this order: `BadSize`, `BadFaults`, `BadInit`. Takes no memory.
     pub fn new(n: u64, t: u64, init: Vec<u64>) -> Result<Self, ConfigError>
         ensures ok { IfOk result (λ c. c ≡ record { n = n; t = t; init = init.items }) }
-        ensures refused { MatchResult result (λ _. config_refusal n t (length init.items) ≡ None) (λ why. config_refusal n t (length init.items) ≡ Some why) }
+        ensures refused { MatchResult result (λ _. config_refusal n t (length init.items) ≡ None)
+            (λ why. config_refusal n t (length init.items) ≡ Some why) }
     {
         if n < MIN_PROCESSORS || MAX_PROCESSORS < n {
             return Err(ConfigError::BadSize);

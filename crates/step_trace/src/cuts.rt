@@ -18,7 +18,8 @@ impl Trace {
         requires { tick ≤ self.now.last }
         ensures cut { IfOk result (IsCutAt self.now tick) }
         ensures sound { IfOk result IsTrace }
-        ensures only { IfOk result (λ cut. (other : Recorded) → IsTimed other → IsCutAt self.now tick other → other ≡ cut) }
+        ensures only { IfOk result (λ cut. (other : Recorded) → IsTimed other
+            → IsCutAt self.now tick other → other ≡ cut) }
     {
         let count = self.steps_until(tick);
         let mut cut = self.first_steps(alloc, count)?;
@@ -32,7 +33,8 @@ impl Trace {
     fn steps_until(&self, tick: u64) -> u64
         ensures inside { result ≤ length self.now.steps }
         ensures before { tick_of self.now result ≤ tick }
-        ensures after { (k : ℕ) → result < k → k ≤ length self.now.steps → tick < tick_of self.now k }
+        ensures after { (k : ℕ) → result < k → k ≤ length self.now.steps
+            → tick < tick_of self.now k }
         ensures sound { IsTrace self.now }
     {
         let end = self.len() as u64;

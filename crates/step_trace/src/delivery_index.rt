@@ -1,6 +1,7 @@
 //! The index of the messages that were taken: a flag for each step, so that no step is looked for.
 
-ghost use Rattle.std.specs.Prelude.{◌≡◌, ◌++◌, ◌∷◌, [], ◌<◌, ◌≤◌, ◌||◌, ◌==◌, ◌+◌, ℕ, length, All, false, vec_len, vec_capacity};
+ghost use Rattle.std.specs.Prelude.{◌≡◌, ◌++◌, ◌∷◌, [], ◌<◌, ◌≤◌, ◌||◌, ◌==◌, ◌+◌};
+ghost use Rattle.std.specs.Prelude.{ℕ, length, All, false, vec_len, vec_capacity};
 ghost use Rattle.std.specs.List.{list_any};
 ghost use Rattle.step_trace.specs.DeliveryIndex.{flag_of};
 
@@ -16,7 +17,8 @@ pub(crate) fn append_flag(taken: &mut Vec<bool>, ids: &[u64])
     requires room { vec_len taken.old < vec_capacity taken.old }
     requires known { All (λ s. (0 < s) × (s ≤ length taken.old.items)) ids.now }
     ensures len { length taken.new.items ≡ length taken.old.items + 1 }
-    ensures flags { (s : ℕ) → flag_of taken.new.items s ≡ (flag_of (taken.old.items ++ false ∷ []) s || list_any (λ i. i == s) ids.now) }
+    ensures flags { (s : ℕ) → flag_of taken.new.items s
+        ≡ (flag_of (taken.old.items ++ false ∷ []) s || list_any (λ i. i == s) ids.now) }
 {
     taken.push_reserved(false);
     mark(taken, ids);
@@ -26,7 +28,8 @@ pub(crate) fn append_flag(taken: &mut Vec<bool>, ids: &[u64])
 fn mark(taken: &mut Vec<bool>, ids: &[u64])
     requires { All (λ s. (0 < s) × (s ≤ length taken.old.items)) ids.now }
     ensures len { length taken.new.items ≡ length taken.old.items }
-    ensures flags { (s : ℕ) → flag_of taken.new.items s ≡ (flag_of taken.old.items s || list_any (λ i. i == s) ids.now) }
+    ensures flags { (s : ℕ) → flag_of taken.new.items s
+        ≡ (flag_of taken.old.items s || list_any (λ i. i == s) ids.now) }
 {
     for s in ids {
         taken[*s as usize - 1] = true;

@@ -27,7 +27,8 @@ impl Trace {
         ensures first { 1 ≤ result }
         ensures last { result ≤ length seen.now.steps + 1 }
         ensures before { (k : ℕ) → k < result → placed_at self.now k ≡ placed_at seen.now k }
-        ensures differs { result ≤ length seen.now.steps → placed_at self.now result ≢ placed_at seen.now result }
+        ensures differs { result ≤ length seen.now.steps
+            → placed_at self.now result ≢ placed_at seen.now result }
     {
         let end = seen.len() as u64 + 1;
         for no in self.same_pages(seen) + 1..end {

@@ -58,7 +58,11 @@ impl LooseSteps {
 
     /// Adds a step, in this tick. Fails only if out of memory, and then the step is gone.
     pub fn push(&mut self, tick: u32, step: Step) -> Result<(), AllocError>
-        ensures ok { OnOk result (self.new ≡ record { steps = self.old.steps ++ step ∷ []; ticks = self.old.ticks ++ tick ∷ [] }) }
+        ensures ok { OnOk result
+            (self.new ≡ record {
+              steps = self.old.steps ++ step ∷ [];
+              ticks = self.old.ticks ++ tick ∷ [];
+            }) }
         ensures err { OnErr result (self.new ≡ self.old) }
     {
         self.steps.reserve(1)?;
@@ -76,7 +80,8 @@ impl Trace {
     /// Refuses the first step that `push_at` refuses, for the same reason, and out of memory at any step. The trace is
     /// then gone.
     pub fn with_steps(self, steps: LooseSteps) -> Result<Self, StepRefused>
-        ensures appended { IfOk result (λ longer. appended self steps.steps steps.ticks ≡ Ok longer) }
+        ensures appended { IfOk result
+            (λ longer. appended self steps.steps steps.ticks ≡ Ok longer) }
         ensures refused { IfErr result (IsStepRefusal (appended self steps.steps steps.ticks)) }
     {
         let len = self.len();
@@ -89,7 +94,8 @@ impl Trace {
 
     /// The same, step by step.
     fn with_each(self, steps: LooseSteps) -> Result<Self, StepRefused>
-        ensures appended { IfOk result (λ longer. appended self steps.steps steps.ticks ≡ Ok longer) }
+        ensures appended { IfOk result
+            (λ longer. appended self steps.steps steps.ticks ≡ Ok longer) }
         ensures refused { IfErr result (IsStepRefusal (appended self steps.steps steps.ticks)) }
     {
         let LooseSteps { steps, ticks } = steps;
@@ -104,7 +110,9 @@ impl Trace {
     fn push_next(&mut self, tick: u32, step: Step) -> Result<(), StepRefused>
         ensures fits { OnOk result (refusal_in self.old tick step ≡ None) }
         ensures appended { OnOk result (self.new ≡ with_step self.old tick step) }
-        ensures refused { IfErr result (IsStepRefusal (unless_refused (refusal_in self.old tick step) (length self.old.steps + 1) (Ok self.old))) }
+        ensures refused { IfErr result
+            (IsStepRefusal (unless_refused (refusal_in self.old tick step)
+            (length self.old.steps + 1) (Ok self.old))) }
     {
         let no = self.len() as u64 + 1;
         match self.push_at(u64::from(tick), step) {

@@ -1,6 +1,7 @@
 //! Lists in pages, of which the full ones are shared by copies.
 
-ghost use Rattle.std.specs.Prelude.{◌≡◌, ◌++◌, ◌∷◌, [], ◌≤◌, ◌<◌, ◌+◌, ◌%◌, length, option_copied, ◌⊎◌, OnOk, OnErr, IfOk, IfSome, slice_get, vec_len, vec_capacity};
+ghost use Rattle.std.specs.Prelude.{◌≡◌, ◌++◌, ◌∷◌, [], ◌≤◌, ◌<◌, ◌+◌, ◌%◌, length, option_copied, ◌⊎◌};
+ghost use Rattle.std.specs.Prelude.{OnOk, OnErr, IfOk, IfSome, slice_get, vec_len, vec_capacity};
 ghost use Rattle.step_trace.specs.Pages.{IsPage};
 ghost use Rattle.step_trace.specs.declared.paged_lists.TheConstants.{PAGE_LEN};
 ghost use Rattle.step_trace.specs.declared.traces.TheConstants.{MAX_STEPS};
@@ -143,7 +144,8 @@ fn make_room<P, T>(pages: &mut Vec<P>, last: &mut Vec<T>) -> Result<(), AllocErr
     ensures last { last.new.items ≡ last.old.items }
     ensures pages_room { OnOk result (vec_len pages.new < vec_capacity pages.new) }
     ensures last_room { OnOk result (vec_len last.new < vec_capacity last.new) }
-    ensures more { OnErr result ((vec_capacity pages.old ≤ vec_len pages.old) ⊎ (vec_capacity last.old ≤ vec_len last.old)) }
+    ensures more { OnErr result ((vec_capacity pages.old ≤ vec_len pages.old)
+        ⊎ (vec_capacity last.old ≤ vec_len last.old)) }
 {
     pages.reserve(1)?;
     if pages.is_empty() || last.capacity() > 0 {

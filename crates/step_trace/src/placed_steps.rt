@@ -1,6 +1,7 @@
 //! The steps of a trace in the order of real time, each with its tick.
 
-ghost use Rattle.std.specs.Prelude.{◌≡◌, ◌++◌, ◌∷◌, [], ◌≤◌, ◌<◌, ◌+◌, ◌%◌, ◌↔◌, ℕ, length, vec_len, option_copied, option_map, OnOk, OnErr, IfOk, IsTrue, List};
+ghost use Rattle.std.specs.Prelude.{◌≡◌, ◌++◌, ◌∷◌, [], ◌≤◌, ◌<◌, ◌+◌, ◌%◌, ◌↔◌, ℕ, length, vec_len};
+ghost use Rattle.std.specs.Prelude.{option_copied, option_map, OnOk, OnErr, IfOk, IsTrue, List};
 ghost use Rattle.std.specs.Option.{option_map_or};
 ghost use Rattle.step_trace.specs.declared.traces.TheConstants.{MAX_STEPS};
 ghost use Rattle.step_trace.specs.declared.steps.Step.{Step};
@@ -89,8 +90,10 @@ impl PlacedSteps {
     /// before the first different page.
     pub(crate) fn same_pages(&self, other: &PlacedSteps) -> usize
         ensures inside { result ≤ length other.now.steps }
-        ensures steps { (k : ℕ) → k ≤ result → step_at self.now.steps k ≡ step_at other.now.steps k }
-        ensures ticks { (k : ℕ) → k ≤ result → tick_at self.now.ticks k ≡ tick_at other.now.ticks k }
+        ensures steps { (k : ℕ) → k ≤ result
+            → step_at self.now.steps k ≡ step_at other.now.steps k }
+        ensures ticks { (k : ℕ) → k ≤ result
+            → tick_at self.now.ticks k ≡ tick_at other.now.ticks k }
     {
         let same = same_pages(&self.steps, &other.steps);
         self.ticks.same_first(&other.ticks, same as u64) as usize
@@ -101,7 +104,11 @@ impl PlacedSteps {
     /// Fails only if out of memory, and then the step is gone.
     pub(crate) fn push(&mut self, step: Step, tick: u32) -> Result<(), AllocError>
         requires { length self.old.steps < MAX_STEPS }
-        ensures ok { OnOk result (self.new ≡ record { steps = self.old.steps ++ step ∷ []; ticks = self.old.ticks ++ tick ∷ [] }) }
+        ensures ok { OnOk result
+            (self.new ≡ record {
+              steps = self.old.steps ++ step ∷ [];
+              ticks = self.old.ticks ++ tick ∷ [];
+            }) }
         ensures err { OnErr result (self.new ≡ self.old) }
     {
         self.ticks.reserve(tick)?;
@@ -119,7 +126,11 @@ impl PlacedSteps {
         requires each { length ticks.now ≡ PAGE_LEN }
         requires ends { length self.steps % PAGE_LEN ≡ 0 }
         requires room { length self.steps + PAGE_LEN ≤ MAX_STEPS }
-        ensures { IfOk result (λ longer. longer ≡ record { steps = self.steps ++ steps.items; ticks = self.ticks ++ ticks.now }) }
+        ensures { IfOk result
+            (λ longer. longer ≡ record {
+              steps = self.steps ++ steps.items;
+              ticks = self.ticks ++ ticks.now;
+            }) }
     {
         let PlacedSteps {
             steps: mut all_steps,
@@ -135,7 +146,8 @@ impl PlacedSteps {
 
     /// The ids that the last step takes; none if there is no step.
     pub(crate) fn last_ids(&self) -> &[u64]
-        ensures { (steps : List Step) (x : Step) → self.now.steps ≡ steps ++ x ∷ [] → result.now ≡ act_ids x.act }
+        ensures { (steps : List Step) (x : Step) → self.now.steps ≡ steps ++ x ∷ []
+            → result.now ≡ act_ids x.act }
     {
         match self.step(self.steps.len() as u64) {
             Some(step) => step.act.ids(),

@@ -12,7 +12,8 @@ impl ProcSet {
     /// anything else.
     pub fn parse_list(text: &str) -> Option<ProcSet>
         ensures members { IfSome result (λ set. IsSetIn text.now set) }
-        ensures refused { IfNone result ((text.now ≢ codes "none") × ((numbers : List ℕ) → ¬ IsListOf text.now numbers)) }
+        ensures refused { IfNone result
+            ((text.now ≢ codes "none") × ((numbers : List ℕ) → ¬ IsListOf text.now numbers)) }
     {
         if text == "none" {
             return Some(ProcSet::empty());
@@ -23,7 +24,8 @@ impl ProcSet {
 
 /// The set of the numbers that a text lists.
 fn read_members(text: &str) -> Option<ProcSet>
-    ensures members { IfSome result (λ set. (numbers : List ℕ) × IsListOf text.now numbers × HasMembers set numbers) }
+    ensures members { IfSome result
+        (λ set. (numbers : List ℕ) × IsListOf text.now numbers × HasMembers set numbers) }
     ensures refused { IfNone result ((numbers : List ℕ) → ¬ IsListOf text.now numbers) }
 {
     let mut set = ProcSet::empty();

@@ -23,7 +23,8 @@ pub fn is_receive_of(trace: &Trace, no: u64, p: u64) -> bool
 
 /// The receiver of message `s`, if it goes from a member of the set to a member.
 pub fn receiver(trace: &Trace, set: ProcSet, s: u64) -> Option<u64>
-    ensures { MatchOption result ((b : ℕ) → ¬ IsMessage set trace.now.steps s b) (IsMessage set trace.now.steps s) }
+    ensures { MatchOption result ((b : ℕ) → ¬ IsMessage set trace.now.steps s b)
+        (IsMessage set trace.now.steps s) }
 {
     let step = trace.step(s)?;
     match &step.act {

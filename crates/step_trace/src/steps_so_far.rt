@@ -21,7 +21,12 @@ impl<'a> Model for StepsSoFar<'a> {
 
     ghost Value = { Ticked };
 
-    ghost view = { λ a. record { steps = take a.count a.placed.now.steps; ticks = take a.count a.placed.now.ticks } };
+    ghost view = { λ a.
+        record {
+          steps = take a.count a.placed.now.steps;
+          ticks =
+              take a.count a.placed.now.ticks;
+        } };
 
     ghost invariant = { λ a. a.count ≤ length a.placed.now.steps };
 }
@@ -32,7 +37,10 @@ impl<'a> StepsSoFar<'a> {
     /// The first so many steps of these.
     pub(crate) fn first(placed: &'a PlacedSteps, count: usize) -> Self
         requires { count ≤ length placed.now.steps }
-        ensures { result ≡ record { steps = take count placed.now.steps; ticks = take count placed.now.ticks } }
+        ensures { result ≡ record {
+          steps = take count placed.now.steps;
+          ticks = take count placed.now.ticks;
+        } }
     {
         StepsSoFar { placed, count }
     }

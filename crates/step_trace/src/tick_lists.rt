@@ -78,7 +78,8 @@ impl TickList {
     /// How many steps, from the first on and at most `end`, surely have the tick that they have in another list.
     pub(crate) fn same_first(&self, other: &TickList, end: u64) -> u64
         ensures inside { result ≤ end }
-        ensures same { (k : ℕ) → k ≤ result → tick_at (all_ticks self.now) k ≡ tick_at (all_ticks other.now) k }
+        ensures same { (k : ℕ) → k ≤ result
+            → tick_at (all_ticks self.now) k ≡ tick_at (all_ticks other.now) k }
     {
         for no in u64::from(self.by_number.min(other.by_number))..end {
             if self.tick(no + 1) != other.tick(no + 1) {

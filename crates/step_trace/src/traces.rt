@@ -1,6 +1,7 @@
 //! Well-formed lists of steps under a configuration, each step in its tick.
 
-ghost use Rattle.std.specs.Prelude.{◌≡◌, [], ◌++◌, ◌∷◌, ◌≤◌, ◌<◌, length, option_copied, option_map, OnOk, OnErr, IfErr, IfOk, IsTrue, ◌↔◌, None, Ok, ◌+◌, ◌%◌, ◌⊎◌, ℕ};
+ghost use Rattle.std.specs.Prelude.{◌≡◌, [], ◌++◌, ◌∷◌, ◌≤◌, ◌<◌, length, option_copied, option_map, OnOk};
+ghost use Rattle.std.specs.Prelude.{OnErr, IfErr, IfOk, IsTrue, ◌↔◌, None, Ok, ◌+◌, ◌%◌, ◌⊎◌, ℕ};
 
 use crate::configurations::Config;
 use crate::delivery_index::append_flag;
@@ -73,9 +74,22 @@ impl Model for Trace {
     ghost use Rattle.step_trace.specs.Ticks.{IsTrace};
     ghost use Rattle.step_trace.specs.DeliveryIndex.{IsIndex};
 
-    ghost view = { λ a. record { config = a.config; steps = a.placed.steps; ticks = a.placed.ticks; last = a.last } };
+    ghost view = { λ a.
+        record {
+          config = a.config;
+          steps = a.placed.steps;
+          ticks = a.placed.ticks;
+          last = a.last;
+        } };
 
-    ghost invariant = { λ a. IsTrace (record { config = a.config; steps = a.placed.steps; ticks = a.placed.ticks; last = a.last })
+    ghost invariant = { λ a.
+        IsTrace
+        (record {
+          config = a.config;
+          steps = a.placed.steps;
+          ticks = a.placed.ticks;
+          last = a.last;
+        })
         × IsIndex a.placed.steps a.taken.items };
 }
 
@@ -234,7 +248,8 @@ impl Trace {
         ensures refused { IfErr result (λ e. IsRefusal e (next_refusal self.old step)) }
         ensures justified { IfErr result (λ e. IsJustifiedIn self.old (self.old.last + 1) step e) }
         ensures least { IfErr result (λ e. NamesLeastIn self.old (self.old.last + 1) step e) }
-        ensures by_number { IsOnePerTick self.old → next_refusal self.old step ≡ refusal self.old.config self.old.steps step }
+        ensures by_number { IsOnePerTick self.old
+            → next_refusal self.old step ≡ refusal self.old.config self.old.steps step }
         ensures one_per_tick { IsOnePerTick self.old → OnOk result (IsOnePerTick self.new) }
         ensures err { OnErr result (self.new ≡ self.old) }
     {

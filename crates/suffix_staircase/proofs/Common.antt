@@ -16,7 +16,9 @@ pub use Rattle.step_trace.specs.declared.rows.Row.{Row}
 pub use Rattle.step_trace.specs.declared.steps.Act.{Act}
 pub use Rattle.step_trace.specs.declared.steps.Act.TheVariants.{Receive, Send}
 pub use Rattle.step_trace.specs.declared.steps.Step.{Step}
-pub use Rattle.suffix_staircase.specs.Analysis.{AreIdleUpTo, AreLevels, AreLevelsFrom, IsLevelAt, KnowsGaps, KnowsMisses, KnowsMissesAfter, KnowsStepsAfter, KnowsTicksFrom, NamesAfter, with_gap, with_miss}
+pub use Rattle.suffix_staircase.specs.Analysis.{AreIdleUpTo, AreLevels, AreLevelsFrom, IsLevelAt, KnowsGaps}
+pub use Rattle.suffix_staircase.specs.Analysis.{KnowsMisses, KnowsMissesAfter, KnowsStepsAfter, KnowsTicksFrom}
+pub use Rattle.suffix_staircase.specs.Analysis.{NamesAfter, with_gap, with_miss}
 pub use Rattle.suffix_staircase.specs.Levels.{AreStarts, CanStandBefore, IsStaircase, IsStart, StandsBefore, begins, is_other, level_of, repeated, row_from, rows_after, rows_of, same_bounds, starts}
 pub use Rattle.suffix_staircase.specs.NextSteps.{AreNextSteps, AreNextTicks, IsLatest, IsNextStep, IsNextTick}
 pub use Rattle.suffix_staircase.specs.Receives.{IsDeliveredByNumber, IsFirstReceive, IsLastMissByNumber, IsLastReceive, IsMissByNumber, IsTaker, KnowsReceives, NotesReceive, last_missed}

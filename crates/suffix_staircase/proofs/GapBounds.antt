@@ -2,7 +2,9 @@
 use Rattle.std.proofs.Common.{ℕ, ◌≡◌, ◌+◌, ◌-◌, ◌<◌, ◌≤◌, ◌⊎◌, inl, inr, List, length, get_or, set, Option, Some, None, Bool, true, false, cond, refl, arith}
 use Rattle.std.specs.Prelude.{nat_le}
 use Rattle.std.proofs.lemmas.Bool.{cases_eq, cases_lt, leb-true, leb-false}
-use Rattle.suffix_staircase.proofs.Common.{Gap, IsWithin, Recorded, PhiHolds, IsPhi, IsGap, NamesGap, Level, AreNextSteps, IsLatest, KnowsGaps, with_gap, GapRefutes-sound, IsNamedGap-refutes, PhiHolds-unrefuted}
+use Rattle.suffix_staircase.proofs.Common.{Gap, IsWithin, Recorded, PhiHolds, IsPhi, IsGap, NamesGap, Level}
+use Rattle.suffix_staircase.proofs.Common.{AreNextSteps, IsLatest, KnowsGaps, with_gap, GapRefutes-sound}
+use Rattle.suffix_staircase.proofs.Common.{IsNamedGap-refutes, PhiHolds-unrefuted}
 use Rattle.suffix_staircase.proofs.LongestGaps.{IsLongest-from_latest}
 
 -- a bound with its named gap is positive
@@ -92,7 +94,9 @@ pub record GapsLowered (set : ℕ) (trace : Recorded) (x : ℕ) (old new : Level
   pub miss : new.miss ≡ old.miss
 
 -- one tick back, the level takes that gap if its bound allows it no more
-pub GapsLowered-with_over : (set : ℕ) (t : Recorded) (x q until : ℕ) (level : Level) → IsLongestOver set t x level.phi q until → KnowsGaps set t (x + 1) level.phi level.gap → GapsLowered set t x level (with_gap level q x until)
+pub GapsLowered-with_over : (set : ℕ) (t : Recorded) (x q until : ℕ) (level : Level)
+    → IsLongestOver set t x level.phi q until → KnowsGaps set t (x + 1) level.phi level.gap
+    → GapsLowered set t x level (with_gap level q x until)
 GapsLowered-with_over set t x q until level longest k = go (nat_le level.phi (until - x)) refl where
   go : (b : Bool) → nat_le level.phi (until - x) ≡ b
       → GapsLowered set t x level (cond b (record { delta = level.delta; miss = level.miss; phi = until - x + 1; gap = Some (record { proc = q; from = x; to = until - 1 }) }) level)

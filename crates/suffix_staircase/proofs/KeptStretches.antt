@@ -1,5 +1,7 @@
 -- Stretches in the order of their levels, and as they are kept: in the opposite order.
-use Rattle.std.proofs.Common.{ℕ, ◌≡◌, ◌+◌, ◌-◌, ◌<◌, ◌≤◌, ◌∙◌, List, [], ◌∷◌, ◌++◌, length, replicate, reverse, get_or, set, Some, true, false, not, ◌==◌, Option, refl, sym, ap, suc, zero, inl, inr, arith, length-append}
+use Rattle.std.proofs.Common.{ℕ, ◌≡◌, ◌+◌, ◌-◌, ◌<◌, ◌≤◌, ◌∙◌, List, [], ◌∷◌, ◌++◌, length, replicate, reverse, get_or}
+use Rattle.std.proofs.Common.{set, Some, true, false, not, ◌==◌, Option, refl, sym, ap, suc, zero, inl, inr, arith}
+use Rattle.std.proofs.Common.{length-append}
 use Rattle.std.specs.Option.{option_map_or}
 use Rattle.std.specs.Prelude.{slice_get, nat_lt}
 use Rattle.std.specs.List.Sorted.{IsNonDecreasingBy, IsPartitionPoint}

@@ -2,11 +2,15 @@
 use Rattle.std.proofs.Common.{ℕ, ◌≡◌, ◌+◌, ◌<◌, ◌≤◌, ◌==◌, inl, inr, List, length, get_or, set, Some, Bool, true, false, cond, refl, ap, subst, ◌∙◌, arith}
 use Rattle.std.specs.Prelude.{Contains}
 use Rattle.std.proofs.lemmas.Bool.{cases_lt, eqb-true, eqb-false}
-use Rattle.suffix_staircase.proofs.Common.{Act, Send, Receive, Step, Setup, act_ids, Recorded, step_at, TakesAt, IsReceiveOf, IsWellFormed, IsMessage, step_at_within, Receives, last_missed, IsLastReceive, KnowsReceives, IsDeliveredByNumber, IsMissByNumber, IsLastMissByNumber}
+use Rattle.suffix_staircase.proofs.Common.{Act, Send, Receive, Step, Setup, act_ids, Recorded, step_at, TakesAt}
+use Rattle.suffix_staircase.proofs.Common.{IsReceiveOf, IsWellFormed, IsMessage, step_at_within, Receives, last_missed}
+use Rattle.suffix_staircase.proofs.Common.{IsLastReceive, KnowsReceives, IsDeliveredByNumber, IsMissByNumber}
+use Rattle.suffix_staircase.proofs.Common.{IsLastMissByNumber}
 use Rattle.suffix_staircase.proofs.ReceivesLowered.{same_step}
 
 -- who takes a message is its receiver
-pub taker_receives : (c : Setup) (steps : List Step) (x b place : ℕ) (a : ℕ) → IsWellFormed c steps → step_at steps x ≡ Some (record { proc = a; act = Send b }) → TakesAt steps place x → IsReceiveOf steps place b
+pub taker_receives : (c : Setup) (steps : List Step) (x b place : ℕ) (a : ℕ) → IsWellFormed c steps
+    → step_at steps x ≡ Some (record { proc = a; act = Send b }) → TakesAt steps place x → IsReceiveOf steps place b
 taker_receives c steps x b place a w h t = go t.0.act refl t.2 where
   proc : t.0.proc ≡ b
   proc = let sent = (w.earlier place x t.0 t.1 t.2).1 in
@@ -28,8 +32,10 @@ message_unique set steps x a b q h m =
     cc
 
 -- the bounds between which the misses of a message lie
-IsLastMissByNumber-from_last : (set : ℕ) (steps : List Step) (x b high r : ℕ) → IsMessage set steps x b → (IsDeliveredByNumber steps x r → r < high → ⊥) → ((y : ℕ) → IsMissByNumber set steps (record { sent = x; missed = y }) → y < high)
-    → IsLastReceive steps b x high r → IsLastMissByNumber set steps x r
+IsLastMissByNumber-from_last : (set : ℕ) (steps : List Step) (x b high r : ℕ) → IsMessage set steps x b
+    → (IsDeliveredByNumber steps x r → r < high → ⊥)
+    → ((y : ℕ) → IsMissByNumber set steps (record { sent = x; missed = y }) → y < high) → IsLastReceive steps b x high r
+    → IsLastMissByNumber set steps x r
 IsLastMissByNumber-from_last set steps x b high r m undelivered below l = record {
   found = λ h. let f = l.found h in record { to = b; message = m; receive = f.2; late = f.0; undelivered = λ d. undelivered d f.1 };
   last = λ y i. l.last y (subst (λ (q : ℕ). IsReceiveOf steps y q) (message_unique set steps x _ b _ m.sent i.message) i.receive) i.late (below y i);

@@ -2,7 +2,10 @@
 use Rattle.std.proofs.Common.{ℕ, ◌≡◌, ◌+◌, ◌-◌, ◌<◌, ◌≤◌, List, [], ◌∷◌, length, get_or, Some, None, refl, sym, subst, ◌∙◌, suc, zero, arith}
 use Rattle.std.specs.Prelude.{slice_get}
 use Rattle.std.proofs.lemmas.Option.{same_Some, none-some}
-use Rattle.suffix_staircase.proofs.Common.{IsWithin, tick_of, IsTimed, Recorded, step_at_within, Level, StandsBefore, CanStandBefore, KnowsMisses, KnowsMissesAfter, KnowsGaps, IsLevelAt, AreLevels, AreLevelsFrom, KnowsStepsAfter, KnowsTicksFrom, AreIdleUpTo, with_gap}
+use Rattle.suffix_staircase.proofs.Common.{IsWithin, tick_of, IsTimed, Recorded, step_at_within, Level, StandsBefore}
+use Rattle.suffix_staircase.proofs.Common.{CanStandBefore, KnowsMisses, KnowsMissesAfter, KnowsGaps, IsLevelAt}
+use Rattle.suffix_staircase.proofs.Common.{AreLevels, AreLevelsFrom, KnowsStepsAfter, KnowsTicksFrom, AreIdleUpTo}
+use Rattle.suffix_staircase.proofs.Common.{with_gap}
 use Rattle.suffix_staircase.specs.declared.backward_pass.Pass.{Pass}
 use Rattle.suffix_staircase.proofs.MissBounds.{IsDelta-from_misses}
 use Rattle.suffix_staircase.proofs.GapBounds.{GapsLowered, GapsLowered-with_gap, IsPhi-from_gaps}
@@ -39,7 +42,8 @@ AreLevelsFrom-after_all set t = record {
 }
 
 -- one level more, of the tick before
-pub AreLevelsFrom-before : (set : ℕ) (t : Recorded) (x : ℕ) (level : Level) (levels : List Level) → IsLevelAt set t x level → AreLevelsFrom set t (x + 1) levels → AreLevelsFrom set t x (level ∷ levels)
+pub AreLevelsFrom-before : (set : ℕ) (t : Recorded) (x : ℕ) (level : Level) (levels : List Level)
+    → IsLevelAt set t x level → AreLevelsFrom set t (x + 1) levels → AreLevelsFrom set t x (level ∷ levels)
 AreLevelsFrom-before set t x level levels here a = record {
   count = let count = a.count in omega arith;
   each = each;
@@ -100,7 +104,9 @@ TickLowered-with_gap set t done high g old new levels time within inside idle lo
     let next = steps.next_steps in
     let start : 1 ≤ g = omega (arith, low) in
     let lowered = subst (λ (l : Level). GapsLowered set t g old.level l) (sym is)
-    (GapsLowered-with_gap set t g old.next_steps.latest old.next_steps.by_processor.items old.level start within (AreNextSteps-at_border set t done g old.next_steps.by_processor.items border next.next) next.latest known.gaps) in
+    (GapsLowered-with_gap set t g old.next_steps.latest old.next_steps.by_processor.items old.level start within
+    (AreNextSteps-at_border set t done g old.next_steps.by_processor.items border next.next) next.latest
+    known.gaps) in
     let misses : KnowsMissesAfter set t done new.level.delta new.level.miss = rw (lowered.delta, lowered.miss) steps.misses in
     record {
       falling = CanStandBefore-through new.level old.level levels (lowered_stands set t g old.level new.level lowered) known.falling;

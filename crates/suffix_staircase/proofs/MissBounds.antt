@@ -2,7 +2,10 @@
 use Rattle.std.proofs.Common.{ℕ, ◌≡◌, ◌+◌, ◌-◌, ◌<◌, ◌≤◌, inl, inr, Option, Some, None, Bool, true, false, IsTrue, cond, refl, ap, subst, arith}
 use Rattle.std.specs.Prelude.{nat_le}
 use Rattle.std.proofs.lemmas.Bool.{cases_eq, cases_lt, leb-true, leb-false}
-use Rattle.suffix_staircase.proofs.Common.{Miss, Step, has_proc, DeltaHolds, IsDelta, tick_of, Recorded, step_at, IsMiss, NamesMiss, Level, StandsBefore, KnowsMisses, NamesAfter, KnowsMissesAfter, with_miss, MissRefutes-sound, IsNamedMiss-refutes, DeltaHolds-unrefuted}
+use Rattle.suffix_staircase.proofs.Common.{Miss, Step, has_proc, DeltaHolds, IsDelta, tick_of, Recorded, step_at}
+use Rattle.suffix_staircase.proofs.Common.{IsMiss, NamesMiss, Level, StandsBefore, KnowsMisses, NamesAfter}
+use Rattle.suffix_staircase.proofs.Common.{KnowsMissesAfter, with_miss, MissRefutes-sound, IsNamedMiss-refutes}
+use Rattle.suffix_staircase.proofs.Common.{DeltaHolds-unrefuted}
 use Rattle.suffix_staircase.proofs.MissNumbers.{IsLastMissOf}
 use Rattle.suffix_staircase.proofs.ReceivesLowered.{same_step}
 
@@ -64,7 +67,8 @@ misses_longer set t x d r o low k l h =
     }
 
 -- no miss of message x is as long as the named one
-misses_kept : (set : ℕ) (t : Recorded) (x d r : ℕ) (o : Option Miss) → 1 ≤ x → KnowsMissesAfter set t x d o → IsLastMissOf set t x r → tick_of t r - tick_of t x < d → KnowsMissesAfter set t (x - 1) d o
+misses_kept : (set : ℕ) (t : Recorded) (x d r : ℕ) (o : Option Miss) → 1 ≤ x → KnowsMissesAfter set t x d o
+    → IsLastMissOf set t x r → tick_of t r - tick_of t x < d → KnowsMissesAfter set t (x - 1) d o
 misses_kept set t x d r o low k l h = record {
   shorter = λ m i f. elim (cases_eq m.sent x) [
     | inl e ↦ omega (arith, l.last m.missed (same_sent set t x m i e), ap (tick_of t) e, h)
@@ -111,7 +115,9 @@ MissesLowered-with_miss set t x r level low k l = go (nat_le level.delta (tick_o
   }
 
 -- a step of a processor that is no member sends no message that counts
-pub KnowsMissesAfter-other : (set : ℕ) (t : Recorded) (x d : ℕ) (y : Step) (o : Option Miss) → 1 ≤ x → step_at t.steps x ≡ Some y → ¬ IsTrue (has_proc set y.proc) → KnowsMissesAfter set t x d o → KnowsMissesAfter set t (x - 1) d o
+pub KnowsMissesAfter-other : (set : ℕ) (t : Recorded) (x d : ℕ) (y : Step) (o : Option Miss) → 1 ≤ x
+    → step_at t.steps x ≡ Some y → ¬ IsTrue (has_proc set y.proc) → KnowsMissesAfter set t x d o
+    → KnowsMissesAfter set t (x - 1) d o
 KnowsMissesAfter-other set t x d y o low at other k = misses_kept set t x d 0 o low k
     (record { found = λ l. absurd (omega (arith, l)); last = λ missed i. absurd (unsent missed i) })
     (let positive = after_positive set t x d o k.named in omega (arith, positive))

@@ -3,7 +3,9 @@ use Rattle.std.proofs.Common.{ℕ, ◌≡◌, ◌<◌, ◌≤◌, inl, inr, leng
 use Rattle.std.specs.Prelude.{◌↔◌}
 use Rattle.std.proofs.lemmas.Bool.{cases_lt}
 use Rattle.std.proofs.lemmas.Option.{same_Some}
-use Rattle.suffix_staircase.proofs.Common.{Send, Step, Miss, IsDelivered, tick_of, IsTrace, Recorded, step_at, TakesAt, IsReceiveOf, IsMiss, step_at_within, ticks_rise, number_below, own_ticks_rise, IsDeliveredByNumber, IsMissByNumber, IsLastMissByNumber}
+use Rattle.suffix_staircase.proofs.Common.{Send, Step, Miss, IsDelivered, tick_of, IsTrace, Recorded, step_at, TakesAt}
+use Rattle.suffix_staircase.proofs.Common.{IsReceiveOf, IsMiss, step_at_within, ticks_rise, number_below}
+use Rattle.suffix_staircase.proofs.Common.{own_ticks_rise, IsDeliveredByNumber, IsMissByNumber, IsLastMissByNumber}
 
 -- Of the Receives that miss message s, r is the last; its tick isn't above that of s if none does.
 pub record IsLastMissOf (set : ℕ) (trace : Recorded) (s r : ℕ) : Type 0 where

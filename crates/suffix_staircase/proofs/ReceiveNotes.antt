@@ -1,15 +1,21 @@
 -- What is known of the Receives after a step, back over a Receive.
-use Rattle.std.proofs.Common.{ℕ, ◌≡◌, ◌≢◌, ◌+◌, ◌-◌, ◌<◌, ◌≤◌, ◌==◌, ◌||◌, take, ◌⊎◌, inl, inr, List, length, get_or, set, Some, Bool, true, false, IsTrue, cond, refl, sym, ap, subst, ◌∙◌, arith, get_or-set_same, get_or-set_other}
+use Rattle.std.proofs.Common.{ℕ, ◌≡◌, ◌≢◌, ◌+◌, ◌-◌, ◌<◌, ◌≤◌, ◌==◌, ◌||◌, take, ◌⊎◌, inl, inr, List, length, get_or}
+use Rattle.std.proofs.Common.{set, Some, Bool, true, false, IsTrue, cond, refl, sym, ap, subst, ◌∙◌, arith}
+use Rattle.std.proofs.Common.{get_or-set_same, get_or-set_other}
 use Rattle.std.specs.Prelude.{Contains}
 use Rattle.std.specs.List.{list_any}
 use Rattle.std.proofs.lemmas.List.{length-set}
 use Rattle.std.proofs.lemmas.List.Folds.{list_any_more}
 use Rattle.std.proofs.lemmas.Bool.{cases_eq, cases_lt, eqb-true, eqb-false}
-use Rattle.suffix_staircase.proofs.Common.{Receive, Step, act_ids, has_proc, Recorded, step_at, IsReceiveOf, IsSentTo, IsWellFormed, step_at_within, Contains-from_takes, act_takes-from_Contains, Receives, IsTaker, IsLastReceive, IsFirstReceive, KnowsReceives, NotesReceive}
+use Rattle.suffix_staircase.proofs.Common.{Receive, Step, act_ids, has_proc, Recorded, step_at, IsReceiveOf, IsSentTo}
+use Rattle.suffix_staircase.proofs.Common.{IsWellFormed, step_at_within, Contains-from_takes, act_takes-from_Contains}
+use Rattle.suffix_staircase.proofs.Common.{Receives, IsTaker, IsLastReceive, IsFirstReceive, KnowsReceives}
+use Rattle.suffix_staircase.proofs.Common.{NotesReceive}
 use Rattle.suffix_staircase.proofs.ReceivesLowered.{IsLastReceive-lower, IsFirstReceive-lower, IsTaker-lower, same_step, send_is_no_receive}
 
 -- one id more, as at a step of a loop
-pub taken_noted : (old now ids : List ℕ) (x i s : ℕ) → i < length ids → length now ≡ length old → get_or ids i 0 < length old → get_or now s 0 ≡ cond (list_any (λ k. k == s) (take i ids)) x (get_or old s 0)
+pub taken_noted : (old now ids : List ℕ) (x i s : ℕ) → i < length ids → length now ≡ length old
+    → get_or ids i 0 < length old → get_or now s 0 ≡ cond (list_any (λ k. k == s) (take i ids)) x (get_or old s 0)
     → get_or (set now (get_or ids i 0) x) s 0 ≡ cond (list_any (λ k. k == s) (take (i + 1) ids)) x (get_or old s 0)
 taken_noted old now ids x i s below long inside known = rw (list_any_more (λ k. k == s) ids i 0 below) (go (list_any (λ k. k == s) (take i ids)) (get_or ids i 0 == s) known refl) where
   go : (before here : Bool) → get_or now s 0 ≡ cond before x (get_or old s 0) → (get_or ids i 0 == s) ≡ here
@@ -76,8 +82,10 @@ noted_last members steps n x p last low high receive long k q within member = go
   go false e (inr ne) = IsLastReceive-lower steps q x _ _ low (λ r. ne (receive_unique steps x q p r receive)) (k q within member)
 
 -- the notes of first Receives
-noted_first : (members : ℕ) (steps : List Step) (n x p : ℕ) (first : List ℕ) → 1 ≤ x → IsReceiveOf steps x p → length first ≡ n + 1
-    → ((q : ℕ) → q ≤ n → IsTrue (has_proc members q) → IsFirstReceive steps q x (get_or first q 0)) → (q : ℕ) → q ≤ n → IsTrue (has_proc members q) → IsFirstReceive steps q (x - 1) (get_or (set first p x) q 0)
+noted_first : (members : ℕ) (steps : List Step) (n x p : ℕ) (first : List ℕ) → 1 ≤ x → IsReceiveOf steps x p
+    → length first ≡ n + 1 → ((q : ℕ) → q ≤ n → IsTrue (has_proc members q)
+    → IsFirstReceive steps q x (get_or first q 0)) → (q : ℕ) → q ≤ n → IsTrue (has_proc members q)
+    → IsFirstReceive steps q (x - 1) (get_or (set first p x) q 0)
 noted_first members steps n x p first low receive long k q within member = elim (cases_eq q p) [
   | inl same ↦ (let place : p < length first = omega (arith, long, same, within) in
       subst (λ (m : ℕ). IsFirstReceive steps m (x - 1) (get_or (set first p x) m 0)) (sym same)

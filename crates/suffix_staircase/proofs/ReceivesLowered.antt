@@ -4,7 +4,9 @@ use Rattle.std.specs.Prelude.{Contains}
 use Rattle.std.proofs.lemmas.List.{length-replicate}
 use Rattle.std.proofs.lemmas.Option.{same_Some}
 use Rattle.std.proofs.lemmas.Bool.{cases_eq}
-use Rattle.suffix_staircase.proofs.Common.{Send, Step, act_ids, has_proc, Recorded, step_at, TakesAt, IsReceiveOf, IsSentTo, IsWellFormed, step_at_within, Receives, IsTaker, IsLastReceive, IsFirstReceive, KnowsReceives}
+use Rattle.suffix_staircase.proofs.Common.{Send, Step, act_ids, has_proc, Recorded, step_at, TakesAt, IsReceiveOf}
+use Rattle.suffix_staircase.proofs.Common.{IsSentTo, IsWellFormed, step_at_within, Receives, IsTaker, IsLastReceive}
+use Rattle.suffix_staircase.proofs.Common.{IsFirstReceive, KnowsReceives}
 
 -- each place of a list of zeros holds 0
 get_or-zeros : (m k : ℕ) → get_or {A = ℕ} (replicate m 0) k 0 ≡ 0
@@ -13,7 +15,9 @@ get_or-zeros (suc m) zero = refl
 get_or-zeros (suc m) (suc k) = get_or-zeros m k
 
 -- after the last step there is no Receive
-pub KnowsReceives-after_all : (set : ℕ) (t : Recorded) (r : Receives) → r.links.items ≡ replicate (length t.steps + 1) 0 → r.first.items ≡ replicate (t.config.n + 1) 0 → r.last.items ≡ replicate (t.config.n + 1) 0 → KnowsReceives set t (length t.steps) r
+pub KnowsReceives-after_all : (set : ℕ) (t : Recorded) (r : Receives) → r.links.items ≡ replicate (length t.steps + 1) 0
+    → r.first.items ≡ replicate (t.config.n + 1) 0 → r.last.items ≡ replicate (t.config.n + 1) 0
+    → KnowsReceives set t (length t.steps) r
 KnowsReceives-after_all set t r links first last = record {
   links_long = ap length links ∙ length-replicate (length t.steps + 1) 0;
   first_long = ap length first ∙ length-replicate (t.config.n + 1) 0;
@@ -95,7 +99,9 @@ KnowsReceives-send set t x a b r h k =
     KnowsReceives-lower set t x r (step_at_within t.steps x _ h).0 (λ s p member m. send_takes_none t.steps x a b s h) (λ p member. send_is_no_receive t.steps x a b p h) k
 
 -- nor back over a step of a processor that is no member
-pub KnowsReceives-other : (set : ℕ) (t : Recorded) (x : ℕ) (y : Step) (r : Receives) → IsWellFormed t.config t.steps → step_at t.steps x ≡ Some y → ¬ IsTrue (has_proc set y.proc) → KnowsReceives set t x r → KnowsReceives set t (x - 1) r
+pub KnowsReceives-other : (set : ℕ) (t : Recorded) (x : ℕ) (y : Step) (r : Receives) → IsWellFormed t.config t.steps
+    → step_at t.steps x ≡ Some y → ¬ IsTrue (has_proc set y.proc) → KnowsReceives set t x r
+    → KnowsReceives set t (x - 1) r
 KnowsReceives-other set t x y r sound h other k =
     KnowsReceives-lower set t x r (step_at_within t.steps x y h).0
     (λ s p member m taken.

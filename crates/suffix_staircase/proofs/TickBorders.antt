@@ -1,7 +1,9 @@
 -- Between the ticks of two steps in a row, what is known by numbers is known by ticks.
 use Rattle.std.proofs.Common.{ℕ, ◌≡◌, ◌+◌, ◌-◌, ◌<◌, ◌≤◌, ◌⊎◌, inl, inr, List, [], ◌∷◌, length, Option, Some, None, IsTrue, refl, suc, zero, arith}
 use Rattle.std.proofs.lemmas.Bool.{cases_lt}
-use Rattle.suffix_staircase.proofs.Common.{Step, Miss, has_proc, tick_of, IsTimed, Recorded, step_at, NamesMiss, step_at_within, ticks_rise, KnowsMisses, NamesAfter, KnowsMissesAfter, AreIdleUpTo, IsNextTick, AreNextTicks, IsNextStep, AreNextSteps}
+use Rattle.suffix_staircase.proofs.Common.{Step, Miss, has_proc, tick_of, IsTimed, Recorded, step_at, NamesMiss}
+use Rattle.suffix_staircase.proofs.Common.{step_at_within, ticks_rise, KnowsMisses, NamesAfter, KnowsMissesAfter}
+use Rattle.suffix_staircase.proofs.Common.{AreIdleUpTo, IsNextTick, AreNextTicks, IsNextStep, AreNextSteps}
 
 -- the steps after number done are those in tick g or later
 pub record IsBorder (trace : Recorded) (done g : ℕ) : Type 0 where

@@ -1,5 +1,6 @@
 -- The levels of a trace.
-use Rattle.std.specs.Prelude.{ℕ, ◌≡◌, ◌+◌, ◌-◌, ◌<◌, ◌≤◌, List, length, Option, Some, None, slice_get, nat_le, if◌then◌else◌}
+use Rattle.std.specs.Prelude.{ℕ, ◌≡◌, ◌+◌, ◌-◌, ◌<◌, ◌≤◌, List, length, Option}
+use Rattle.std.specs.Prelude.{Some, None, slice_get, nat_le, if◌then◌else◌}
 use Rattle.step_trace.specs.declared.steps.Step.{Step}
 use Rattle.step_trace.specs.declared.rows.Miss.{Miss}
 use Rattle.step_trace.specs.declared.rows.Gap.{Gap}
@@ -32,7 +33,8 @@ pub record AreLevelsFrom (set : ℕ) (trace : Recorded) (x : ℕ) (levels : List
 
 -- each miss of a message sent in tick g or later is shorter than d, and this is the witness of d
 pub record KnowsMisses (set : ℕ) (trace : Recorded) (g d : ℕ) (witness : Option Miss) : Type 0 where
-  pub shorter : (m : Miss) → IsMiss set trace m → g ≤ tick_of trace m.sent → tick_of trace m.missed < tick_of trace m.sent + d
+  pub shorter : (m : Miss) → IsMiss set trace m → g ≤ tick_of trace m.sent
+      → tick_of trace m.missed < tick_of trace m.sent + d
   pub named : NamesMiss set trace g d witness
 
 -- of the misses of length d - 1 of messages after number done, the one of the last message
@@ -40,7 +42,8 @@ pub record IsNamedAfter (set : ℕ) (trace : Recorded) (done d : ℕ) (m : Miss)
   pub miss : IsMiss set trace m
   pub after : done < m.sent
   pub long : tick_of trace m.sent + d ≡ tick_of trace m.missed + 1
-  pub greatest : (o : Miss) → IsMiss set trace o → done < o.sent → tick_of trace o.sent + d ≡ tick_of trace o.missed + 1 → o.sent ≤ m.sent
+  pub greatest : (o : Miss) → IsMiss set trace o → done < o.sent → tick_of trace o.sent + d ≡ tick_of trace o.missed + 1
+      → o.sent ≤ m.sent
 
 -- the witness of a communication bound for messages after number done: none at 1
 abbrev pub NamesAfter : ℕ → Recorded → ℕ → ℕ → Option Miss → Type 0
@@ -88,5 +91,10 @@ with_miss level miss long =
 abbrev pub with_gap : Level → ℕ → ℕ → ℕ → Level
 with_gap level proc from until =
     if nat_le level.phi (until - from) then
-    record { delta = level.delta; miss = level.miss; phi = until - from + 1; gap = Some (record { proc = proc; from = from; to = until - 1 }) }
+    record {
+      delta = level.delta;
+      miss = level.miss;
+      phi = until - from + 1;
+      gap = Some (record { proc = proc; from = from; to = until - 1 });
+    }
     else level

@@ -1,5 +1,6 @@
 -- The levels of a trace: the least bounds from each tick on, which fall from tick to tick.
-use Rattle.std.specs.Prelude.{ℕ, ◌≡◌, ◌+◌, ◌-◌, ◌≤◌, List, [], ◌∷◌, ◌++◌, map, replicate, Option, None, Some, Bool, true, false, not, ◌==◌, ◌&&◌, slice_get, Contains, if◌then◌else◌}
+use Rattle.std.specs.Prelude.{ℕ, ◌≡◌, ◌+◌, ◌-◌, ◌≤◌, List, [], ◌∷◌, ◌++◌, map, replicate, Option, None, Some}
+use Rattle.std.specs.Prelude.{Bool, true, false, not, ◌==◌, ◌&&◌, slice_get, Contains, if◌then◌else◌}
 use Rattle.std.specs.List.Sorted.{IsStrictlyIncreasing}
 use Rattle.step_trace.specs.declared.rows.Row.{Row}
 use Rattle.suffix_staircase.specs.declared.levels.Level.{Level}

@@ -1,6 +1,7 @@
 -- What is known of the Receives after a step, in numbers from 1 with 0 for none. Numbers rise with ticks. So a miss
 -- is also one by the numbers of its steps, as long as its Receive is in a later tick than its Send.
-use Rattle.std.specs.Prelude.{ℕ, ◌≡◌, ◌+◌, ◌<◌, ◌≤◌, ◌==◌, List, ◌∷◌, length, slice_index, slice_set, IsTrue, if◌then◌else◌}
+use Rattle.std.specs.Prelude.{ℕ, ◌≡◌, ◌+◌, ◌<◌, ◌≤◌, ◌==◌, List, ◌∷◌, length}
+use Rattle.std.specs.Prelude.{slice_index, slice_set, IsTrue, if◌then◌else◌}
 use Rattle.std.specs.List.{list_any}
 use Rattle.step_trace.specs.declared.rows.Miss.{Miss}
 use Rattle.step_trace.specs.declared.steps.Step.{Step}
@@ -49,15 +50,20 @@ pub record KnowsReceives (set : ℕ) (trace : Recorded) (x : ℕ) (r : Receives)
   pub links_long : length r.links.items ≡ length trace.steps + 1
   pub first_long : length r.first.items ≡ trace.config.n + 1
   pub last_long : length r.last.items ≡ trace.config.n + 1
-  pub taken : (s p : ℕ) → IsTrue (has_proc set p) → IsSentTo trace.steps s p → IsTaker trace.steps x s (slice_index r.links.items s)
-  pub before : (p y : ℕ) → IsTrue (has_proc set p) → IsReceiveOf trace.steps y p → x < y → IsLastReceive trace.steps p x y (slice_index r.links.items y)
+  pub taken : (s p : ℕ) → IsTrue (has_proc set p) → IsSentTo trace.steps s p
+      → IsTaker trace.steps x s (slice_index r.links.items s)
+  pub before : (p y : ℕ) → IsTrue (has_proc set p) → IsReceiveOf trace.steps y p → x < y
+      → IsLastReceive trace.steps p x y (slice_index r.links.items y)
   pub clear : (p y : ℕ) → IsReceiveOf trace.steps y p → y ≤ x → slice_index r.links.items y ≡ 0
-  pub first : (p : ℕ) → p ≤ trace.config.n → IsTrue (has_proc set p) → IsFirstReceive trace.steps p x (slice_index r.first.items p)
-  pub last : (p : ℕ) → p ≤ trace.config.n → IsTrue (has_proc set p) → IsLastReceive trace.steps p x (length trace.steps + 1) (slice_index r.last.items p)
+  pub first : (p : ℕ) → p ≤ trace.config.n → IsTrue (has_proc set p)
+      → IsFirstReceive trace.steps p x (slice_index r.first.items p)
+  pub last : (p : ℕ) → p ≤ trace.config.n → IsTrue (has_proc set p)
+      → IsLastReceive trace.steps p x (length trace.steps + 1) (slice_index r.last.items p)
 
 -- x is noted at these places, and at others there is what was before
 abbrev pub NotesAt : ℕ → List ℕ → List ℕ → List ℕ → Type 0
-NotesAt x places old new = (s : ℕ) → slice_index new s ≡ (if list_any (λ i. i == s) places then x else slice_index old s)
+NotesAt x places old new = (s : ℕ)
+    → slice_index new s ≡ (if list_any (λ i. i == s) places then x else slice_index old s)
 
 -- what changes if the Receive x of p, which takes these messages, is scanned: it is linked from them, and from the
 -- Receive of p that follows
@@ -65,7 +71,8 @@ pub record NotesReceive (x p : ℕ) (ids : List ℕ) (old new : Receives) : Type
   pub long : length new.links.items ≡ length old.links.items
   pub links : NotesAt x (slice_index old.first.items p ∷ ids) old.links.items new.links.items
   pub first : new.first.items ≡ slice_set old.first.items p x
-  pub last : new.last.items ≡ (if slice_index old.last.items p == 0 then slice_set old.last.items p x else old.last.items)
+  pub last : new.last.items
+      ≡ (if slice_index old.last.items p == 0 then slice_set old.last.items p x else old.last.items)
 
 -- the last Receive of p before the one that takes message s, or the last of all if none does
 abbrev pub last_missed : Receives → ℕ → ℕ → ℕ

@@ -9,7 +9,8 @@ ghost use Rattle.step_trace.specs.declared.traces.TheConstants.{MAX_TICKS};
 ghost use Rattle.step_trace.specs.Processors.{IsWithin};
 ghost use Rattle.step_trace.specs.Ticks.{tick_of, IsTimed};
 ghost use Rattle.suffix_staircase.specs.Levels.{StandsBefore};
-ghost use Rattle.suffix_staircase.specs.Analysis.{AreLevels, KnowsStepsAfter, KnowsTicksFrom, KnowsGaps, AreIdleUpTo, with_miss, with_gap};
+ghost use Rattle.suffix_staircase.specs.Analysis.{AreLevels, KnowsStepsAfter, KnowsTicksFrom, KnowsGaps};
+ghost use Rattle.suffix_staircase.specs.Analysis.{AreIdleUpTo, with_miss, with_gap};
 
 use crate::levels::Level;
 use crate::next_steps::NextSteps;
@@ -31,8 +32,10 @@ pub(crate) struct Pass {
 impl Pass {
     /// A pass that has scanned no step.
     pub(crate) fn after_all(alloc: Global, trace: &Trace, set: ProcSet) -> Result<Self, AllocError>
-        ensures steps { IfOk result (λ p. KnowsStepsAfter set trace.now (length trace.now.steps) p) }
-        ensures gaps { IfOk result (λ p. KnowsGaps set trace.now (trace.now.last + 1) p.level.phi p.level.gap) }
+        ensures steps { IfOk result
+            (λ p. KnowsStepsAfter set trace.now (length trace.now.steps) p) }
+        ensures gaps { IfOk result
+            (λ p. KnowsGaps set trace.now (trace.now.last + 1) p.level.phi p.level.gap) }
     {
         Ok(Pass {
             set,
@@ -55,7 +58,8 @@ impl Pass {
         builder: &mut StairBuilder,
     ) -> Result<(), AllocError>
         requires within { IsWithin self.old.set trace.now.config.n }
-        requires known { KnowsTicksFrom self.old.set trace.now (length trace.now.steps) (trace.now.last + 1) self.old builder.old }
+        requires known { KnowsTicksFrom self.old.set trace.now (length trace.now.steps)
+            (trace.now.last + 1) self.old builder.old }
         ensures levels { OnOk result (AreLevels self.old.set trace.now builder.new) }
     {
         let len = trace.len() as u64;
@@ -101,8 +105,11 @@ impl Pass {
         requires timed { IsTimed trace.now }
         requires within { IsWithin self.old.set trace.now.config.n }
         requires idle { AreIdleUpTo trace.now done high }
-        requires known { KnowsTicksFrom self.old.set trace.now done (high + 1) self.old builder.old }
-        ensures known { OnOk result (KnowsTicksFrom self.old.set trace.now done (tick_of trace.now done + 1) self.new builder.new) }
+        requires known { KnowsTicksFrom self.old.set trace.now done
+            (high + 1) self.old builder.old }
+        ensures known { OnOk result
+            (KnowsTicksFrom self.old.set trace.now done (tick_of trace.now done + 1) self.new
+            builder.new) }
         ensures tick { IfOk result (λ tick. tick ≡ tick_of trace.now done) }
     {
         let tick = tick_of(trace, done);
@@ -116,8 +123,10 @@ impl Pass {
     fn tick_back(&mut self, g: u64) -> Level
         requires low { 1 ≤ g }
         requires positive { 1 ≤ self.old.level.phi }
-        requires latest { self.old.next_steps.latest < length self.old.next_steps.by_processor.items }
-        ensures level { result ≡ with_gap self.old.level self.old.next_steps.latest g (slice_index self.old.next_steps.by_processor.items self.old.next_steps.latest) }
+        requires latest { self.old.next_steps.latest < length
+            self.old.next_steps.by_processor.items }
+        ensures level { result ≡ with_gap self.old.level self.old.next_steps.latest g
+            (slice_index self.old.next_steps.by_processor.items self.old.next_steps.latest) }
         ensures kept { self.new.level ≡ result }
         ensures set { self.new.set ≡ self.old.set }
         ensures receives { self.new.receives ≡ self.old.receives }

@@ -42,7 +42,8 @@ impl NextSteps {
         requires high { no ≤ length trace.now.steps }
         requires tick { tick ≡ tick_of trace.now no }
         requires timed { IsTimed trace.now }
-        requires member { (x : Step) → (step_at trace.now.steps no ≡ Some x) → IsTrue (has_proc set x.proc) }
+        requires member { (x : Step) → (step_at trace.now.steps no ≡ Some x)
+            → IsTrue (has_proc set x.proc) }
         requires known { KnowsNextSteps set trace.now no self.old }
         ensures { KnowsNextSteps set trace.now (no - 1) self.new }
     {
@@ -72,7 +73,8 @@ impl NextSteps {
 
 /// The next steps from the end of a trace on: each is one after the last tick.
 fn no_next_steps(alloc: Global, trace: &Trace) -> Result<Vec<u64>, AllocError>
-    ensures { IfOk result (λ n. (set : ℕ) → AreNextTicks (λ p. IsTrue (has_proc set p)) trace.now (length trace.now.steps) n.items) }
+    ensures { IfOk result (λ n. (set : ℕ)
+        → AreNextTicks (λ p. IsTrue (has_proc set p)) trace.now (length trace.now.steps) n.items) }
 {
     let processors = trace.config().n() as usize + 1;
     let mut next_steps = vec![in alloc; trace.last_tick() + 1; processors]?;

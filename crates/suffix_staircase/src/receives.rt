@@ -5,7 +5,8 @@
 ghost use Rattle.std.specs.Prelude.{ℕ, ◌≡◌, ◌-◌, ◌<◌, ◌≤◌, length, Some, All, IfOk, slice_index, replicate};
 ghost use Rattle.step_trace.specs.declared.traces.TheConstants.{MAX_STEPS};
 ghost use Rattle.step_trace.specs.Traces.{step_at, IsWellFormed};
-ghost use Rattle.suffix_staircase.specs.Receives.{KnowsReceives, NotesReceive, NotesAt, IsLastMissByNumber, last_missed};
+ghost use Rattle.suffix_staircase.specs.Receives.{KnowsReceives, NotesReceive, NotesAt};
+ghost use Rattle.suffix_staircase.specs.Receives.{IsLastMissByNumber, last_missed};
 
 use std::alloc::{AllocError, Global};
 use step_trace::{Act, ProcSet, Step, Trace};
@@ -46,7 +47,8 @@ fn zeros(alloc: Global, count: usize) -> Result<Vec<u32>, AllocError>
 impl Receives {
     /// What is known after the last step: there is none.
     pub fn after_all(alloc: Global, trace: &Trace) -> Result<Self, AllocError>
-        ensures { IfOk result (λ r. (set : ℕ) → KnowsReceives set trace.now (length trace.now.steps) r) }
+        ensures { IfOk result
+            (λ r. (set : ℕ) → KnowsReceives set trace.now (length trace.now.steps) r) }
     {
         let steps = trace.len() + 1;
         let processors = trace.config().n() as usize + 1;

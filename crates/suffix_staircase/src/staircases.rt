@@ -1,10 +1,12 @@
 //! The levels of a whole trace.
 
-ghost use Rattle.std.specs.Prelude.{◌≡◌, ◌∷◌, [], ◌+◌, ◌-◌, ◌<◌, ◌≤◌, length, Some, slice_get, IfOk, OnOk, OnErr, IsTrue};
+ghost use Rattle.std.specs.Prelude.{◌≡◌, ◌∷◌, [], ◌+◌, ◌-◌, ◌<◌, ◌≤◌, length, Some};
+ghost use Rattle.std.specs.Prelude.{slice_get, IfOk, OnOk, OnErr, IsTrue};
 ghost use Rattle.step_trace.specs.declared.traces.TheConstants.{MAX_TICKS};
 ghost use Rattle.step_trace.specs.Processors.{IsWithin};
 ghost use Rattle.suffix_staircase.specs.Analysis.{AreLevels};
-ghost use Rattle.suffix_staircase.specs.Levels.{CanStandBefore, IsStaircase, begins, repeated, starts, rows_of, AreStarts};
+ghost use Rattle.suffix_staircase.specs.Levels.{CanStandBefore, IsStaircase, begins, repeated};
+ghost use Rattle.suffix_staircase.specs.Levels.{starts, rows_of, AreStarts};
 
 use crate::backward_pass::Pass;
 use crate::levels::Level;

@@ -1,7 +1,8 @@
 //! Levels kept as stretches of equal bounds, in the order in which they are built: from the last
 //! level to the first.
 
-ghost use Rattle.std.specs.Prelude.{◌≡◌, ◌∷◌, [], ◌+◌, ◌-◌, ◌<◌, ◌≤◌, length, reverse, Some, slice_get, OnOk, OnErr, IsTrue};
+ghost use Rattle.std.specs.Prelude.{◌≡◌, ◌∷◌, [], ◌+◌, ◌-◌, ◌<◌, ◌≤◌, length, reverse};
+ghost use Rattle.std.specs.Prelude.{Some, slice_get, OnOk, OnErr, IsTrue};
 ghost use Rattle.step_trace.specs.declared.traces.TheConstants.{MAX_TICKS};
 ghost use Rattle.suffix_staircase.specs.Levels.{CanStandBefore, begins, repeated, rows_of};
 ghost use Rattle.suffix_staircase.specs.Stretches.{levels_of, AreStretches};
@@ -71,7 +72,8 @@ pub(crate) fn put_before(stretches: &mut Vec<Stretch>, level: Level) -> Result<(
     requires room { length (levels_of stretches.old.items) < MAX_TICKS }
     requires stretches { AreStretches stretches.old.items }
     requires falling { CanStandBefore level (levels_of stretches.old.items) }
-    ensures ok { OnOk result (levels_of stretches.new.items ≡ level ∷ levels_of stretches.old.items) }
+    ensures ok { OnOk result
+        (levels_of stretches.new.items ≡ level ∷ levels_of stretches.old.items) }
     ensures err { OnErr result (stretches.new.items ≡ stretches.old.items) }
     ensures more { OnErr result (IsTrue (begins level (levels_of stretches.old.items))) }
     ensures stretches { AreStretches stretches.new.items }
@@ -91,7 +93,8 @@ pub(crate) fn put_before(stretches: &mut Vec<Stretch>, level: Level) -> Result<(
 pub(crate) fn repeat_first(stretches: &mut Vec<Stretch>, count: u64)
     requires room { length (levels_of stretches.old.items) + count ≤ MAX_TICKS }
     requires stretches { AreStretches stretches.old.items }
-    ensures levels { levels_of stretches.new.items ≡ repeated count (levels_of stretches.old.items) }
+    ensures levels { levels_of stretches.new.items ≡ repeated count
+        (levels_of stretches.old.items) }
     ensures stretches { AreStretches stretches.new.items }
 {
     if stretches.len() == 0 {

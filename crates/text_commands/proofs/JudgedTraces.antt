@@ -13,7 +13,8 @@ use Rattle.text_commands.specs.Answers.{IsDeclined}
 use Rattle.text_commands.specs.Judgings.{IsUnjudged}
 
 -- a text that is no formula is reported as one
-pub formula-declined : {A : Type 0} (j : Judging) (decisions : List ℕ) (t : Recorded) (text : List ℕ) (e : FormulaError) (r : Result A FormulaError) → r ≡ Err e → text ≡ string_bytes j.within → HasCorrect j.correct t
+pub formula-declined : {A : Type 0} (j : Judging) (decisions : List ℕ) (t : Recorded) (text : List ℕ) (e : FormulaError)
+    (r : Result A FormulaError) → r ≡ Err e → text ≡ string_bytes j.within → HasCorrect j.correct t
     → ((why : BadFormula) → r ≡ Err (Refused why) → read_formula text ≡ Err why)
     → IsDeclined (IsUnjudged j decisions t) (fault_of_formula e)
 formula-declined j decisions t text (Refused why) r is same within bad = (within, rw same at (bad why is))

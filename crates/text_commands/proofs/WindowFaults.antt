@@ -29,7 +29,9 @@ refused-untold form o w no_log.Memory h = tt
 refused-untold form o w why h = (h, λ e. absurd (cc e))
 
 -- or in the log
-log-unread : (o : Options) (from : LogEnd) (known : Option (List ℕ)) (why : LogError) → IfSome known (IsWindowRefusal o.unit from o.until (unread.Log why)) → IsUnreadWindow o from known (fault_of_log why)
+log-unread : (o : Options) (from : LogEnd) (known : Option (List ℕ)) (why : LogError)
+    → IfSome known (IsWindowRefusal o.unit from o.until (unread.Log why))
+    → IsUnreadWindow o from known (fault_of_log why)
 log-unread o from known no_log.Memory h = tt
 log-unread o from known why h = (h, λ e. absurd (cc e))
 
@@ -71,8 +73,10 @@ unread-unwritten writer o from known (fault.Log reason) h = refl
 unread-unwritten writer o from known w h = absurd h
 
 -- a window is refused
-pub untold-served : (form : ImportForm) (o : Options) (from : LogEnd) (Told : List ℕ → Type 0) (before after known : Option (List ℕ)) (window : LogWindow) (w : Fault) → IsWindowOf o.unit from o.until known window
-    → IsUntoldOfWindow form o window w → IfSome known (λ text. IsServeFault (IsWindowTold form o from Told) (IsWindowless form o from) text before after w)
+pub untold-served : (form : ImportForm) (o : Options) (from : LogEnd) (Told : List ℕ → Type 0)
+    (before after known : Option (List ℕ)) (window : LogWindow) (w : Fault)
+    → IsWindowOf o.unit from o.until known window → IsUntoldOfWindow form o window w
+    → IfSome known (λ text. IsServeFault (IsWindowTold form o from Told) (IsWindowless form o from) text before after w)
 untold-served form o from Told before after None window w is h = tt
 untold-served form o from Told before after (Some text) window fault.Memory is h = tt
 untold-served form o from Told before after (Some text) window (fault.Log reason) is h = (inr (window, subst (λ xs. IsWindow o.unit from o.until xs window) is.is is.window, h.0), h.1)
@@ -94,7 +98,8 @@ untold-unwritten writer form o window (fault.Log reason) h = refl
 untold-unwritten writer form o window w h = absurd h
 
 -- what holds of a text holds of the notes that it is
-pub now_told : (form : ImportForm) (o : Options) (Told : List ℕ → Type 0) (notes : List ℕ) (w : LogWindow) (out : List ℕ) → IsToldOfWindow form o (λ n. notes ≡ n) w out → Told notes → IsToldOfWindow form o Told w out
+pub now_told : (form : ImportForm) (o : Options) (Told : List ℕ → Type 0) (notes : List ℕ) (w : LogWindow)
+    (out : List ℕ) → IsToldOfWindow form o (λ n. notes ≡ n) w out → Told notes → IsToldOfWindow form o Told w out
 now_told forms.Trace o Told notes w out t h = record { import = t.import; exact = t.exact; written = t.written; told = subst Told t.told h }
 now_told forms.Table o Told notes w out t h = record { import = t.import; exact = t.exact; told = subst Told t.told h }
 now_told forms.Ticks o Told notes w out t h = record { kind = t.kind; rows = t.rows; exact = t.exact; written = t.written; told = subst Told t.told h }

@@ -1,4 +1,5 @@
--- The causes of the faults of a command that has its answer: where its writing ends. And what was read is what there was.
+-- The causes of the faults of a command that has its answer: where its writing ends. And what was read is what there
+-- was.
 use Rattle.std.proofs.Common.{ℕ, ◌≡◌, ◌≢◌, ◌<◌, List, length, Option, Some, None, IfSome, refl, subst, sym}
 use Rattle.trace_text.specs.declared.byte_loops.TheConstants.{MAX_TEXT_BYTES}
 use Rattle.trace_text.specs.declared.refusals.WriteError.{WriteError}

@@ -1,5 +1,6 @@
 -- The rows of a report at which other evidence is named.
-use Rattle.std.specs.Prelude.{ℕ, ◌≡◌, List, [], ◌∷◌, Option, Some, None, Bool, true, false, not, ◌==◌, ◌&&◌, if◌then◌else◌}
+use Rattle.std.specs.Prelude.{ℕ, ◌≡◌, List, [], ◌∷◌, Option, Some, None, Bool}
+use Rattle.std.specs.Prelude.{true, false, not, ◌==◌, ◌&&◌, if◌then◌else◌}
 use Rattle.step_trace.specs.declared.rows.Row.{Row}
 use Rattle.step_trace.specs.declared.rows.Miss.{Miss}
 use Rattle.step_trace.specs.declared.rows.Gap.{Gap}
@@ -32,7 +33,8 @@ names_other (Some before) row = not (same_miss before.miss row.miss && same_sile
 -- the rows that do, in their order, if this row comes before them
 abbrev pub brief_after : Option Row → List Row → List Row
 brief_after before [] = []
-brief_after before (row ∷ rows) = if names_other before row then row ∷ brief_after (Some row) rows else brief_after (Some row) rows
+brief_after before (row ∷ rows) = if names_other before row then row
+    ∷ brief_after (Some row) rows else brief_after (Some row) rows
 
 -- the text is that of the brief rows of the trace's report
 pub record IsBriefTextOf (set : ℕ) (out : List ℕ) (t : Recorded) : Type 0 where

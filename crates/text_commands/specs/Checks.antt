@@ -30,7 +30,8 @@ IsRefusalOfText reason = (reason ≢ why.Read) × (reason ≢ why.Memory)
 
 -- the fault is the first refusal of the certificate, or out of memory
 abbrev pub IsBadCertificate : List ℕ → Fault → Type 0
-IsBadCertificate certificate (fault.Certificate reason) = (rows_of_text certificate ≡ Err reason) × IsRefusalOfText reason
+IsBadCertificate certificate (fault.Certificate reason) = (rows_of_text certificate ≡ Err reason)
+    × IsRefusalOfText reason
 IsBadCertificate certificate fault.Memory = ⊤
 IsBadCertificate certificate _ = ⊥
 
@@ -45,7 +46,8 @@ IsUncut claim = IsUncutAt claim.correct claim.until
 
 -- why this one isn't: the same, or else the first refusal of the certificate
 abbrev pub IsUnchecked : Claim → List ℕ → Recorded → Fault → Type 0
-IsUnchecked claim certificate t (fault.Certificate reason) = IsUncertified claim.correct claim.until certificate reason t × IsRefusalOfText reason
+IsUnchecked claim certificate t (fault.Certificate reason) =
+    IsUncertified claim.correct claim.until certificate reason t × IsRefusalOfText reason
 IsUnchecked claim certificate t w = IsUncut claim t w
 
 -- what the command may report: a refusal of a certificate, or what it may report about the trace alone
@@ -55,5 +57,6 @@ IsToldOfChecks claim w = MayTell (IsUncut claim) w
 
 -- if the fault is a failed read, a call of one of two readers answered a fault; else none did
 abbrev pub IsEitherReadFault : ℕ → ℕ → ℕ → ℕ → Fault → Type 0
-IsEitherReadFault old new other_old other_new fault.Read = (Rose old new × (other_new ≡ other_old)) ⊎ ((new ≡ old) × Rose other_old other_new)
+IsEitherReadFault old new other_old other_new fault.Read = (Rose old new × (other_new ≡ other_old))
+    ⊎ ((new ≡ old) × Rose other_old other_new)
 IsEitherReadFault old new other_old other_new _ = (new ≡ old) × (other_new ≡ other_old)

@@ -1,5 +1,6 @@
 -- What the program makes of a trace in a picture.
-use Rattle.std.specs.Prelude.{ℕ, ◌≡◌, ◌||◌, Bool, true, false, is_some, List, [], Option, Some, None, Result, Ok, Err, String, option_map, string_bytes, ⊤}
+use Rattle.std.specs.Prelude.{ℕ, ◌≡◌, ◌||◌, Bool, true, false, is_some, List, [], Option, Some}
+use Rattle.std.specs.Prelude.{None, Result, Ok, Err, String, option_map, string_bytes, ⊤}
 use Rattle.std.specs.Option.{unwrap_or}
 use Rattle.step_trace.specs.declared.rows.Row.{Row}
 use Rattle.step_trace.specs.Members.{all_to}
@@ -149,7 +150,8 @@ are_refused_in (Some list) count why = IsNamesRefusal count (parts_of (string_by
 
 -- a fault of the names: how many there are of how many processors, or the first that doesn't do
 abbrev pub IsNamesFault : {B : Type 0} → Option (String B) → ℕ → Fault → Type 0
-IsNamesFault names count (fault.Picture (option.NameCount given processors)) = (processors ≡ count) × are_refused_in names count (no_names.WrongCount given)
+IsNamesFault names count (fault.Picture (option.NameCount given processors)) =
+    (processors ≡ count) × are_refused_in names count (no_names.WrongCount given)
 IsNamesFault names count (fault.Picture (option.BadName place)) = are_refused_in names count (no_names.BadName place)
 IsNamesFault names count (fault.Picture (option.SameName place)) = are_refused_in names count (no_names.SameName place)
 IsNamesFault names count fault.Memory = ⊤
@@ -162,8 +164,10 @@ are_lanes_refused_in (Some list) names count why = IsLanesRefusal names (parts_o
 
 -- a fault of the lanes: the first that is no processor's, or whose processor is above their number
 abbrev pub IsLanesFault : {B : Type 0} → Option (String B) → List (List ℕ) → ℕ → Fault → Type 0
-IsLanesFault lanes names count (fault.Picture (option.NoLane place)) = are_lanes_refused_in lanes names count (no_lanes.NoLane place)
-IsLanesFault lanes names count (fault.Set set_option.Lanes o) = (o.count ≡ count) × are_lanes_refused_in lanes names count (no_lanes.Above o.member)
+IsLanesFault lanes names count (fault.Picture (option.NoLane place)) =
+    are_lanes_refused_in lanes names count (no_lanes.NoLane place)
+IsLanesFault lanes names count (fault.Set set_option.Lanes o) =
+    (o.count ≡ count) × are_lanes_refused_in lanes names count (no_lanes.Above o.member)
 IsLanesFault lanes names count fault.Memory = ⊤
 IsLanesFault lanes names count _ = ⊥
 
@@ -173,14 +177,18 @@ HasLanes d table count = AreNamesFor d count × ((set : ℕ) × AreLanesFor d ta
 
 -- why there is no picture of the trace: its names, or else its lanes, or its first tick, or its last one
 abbrev pub IsUndrawnFor : Drawing → Option Told → Recorded → PictureOption → Type 0
-IsUndrawnFor d table t (option.From from last) = HasLanes d table t.config.n × (window_for d t.last ≡ Err (no_window.BadFrom from last))
-IsUndrawnFor d table t (option.To to from) = HasLanes d table t.config.n × (window_for d t.last ≡ Err (no_window.BadTo to from))
-IsUndrawnFor d table t (option.NoLane place) = AreNamesFor d t.config.n × IsLanesFault d.lanes (names_by d.names table) t.config.n (fault.Picture (option.NoLane place))
+IsUndrawnFor d table t (option.From from last) = HasLanes d table t.config.n
+    × (window_for d t.last ≡ Err (no_window.BadFrom from last))
+IsUndrawnFor d table t (option.To to from) = HasLanes d table t.config.n
+    × (window_for d t.last ≡ Err (no_window.BadTo to from))
+IsUndrawnFor d table t (option.NoLane place) = AreNamesFor d t.config.n
+    × IsLanesFault d.lanes (names_by d.names table) t.config.n (fault.Picture (option.NoLane place))
 IsUndrawnFor d table t o = IsNamesFault d.names t.config.n (fault.Picture o)
 
 -- a lane is that of a processor which the trace hasn't
 abbrev pub IsLaneOutside : Drawing → Option Told → Recorded → MemberOutside → Type 0
-IsLaneOutside d table t o = AreNamesFor d t.config.n × IsLanesFault d.lanes (names_by d.names table) t.config.n (fault.Set set_option.Lanes o)
+IsLaneOutside d table t o = AreNamesFor d t.config.n
+    × IsLanesFault d.lanes (names_by d.names table) t.config.n (fault.Set set_option.Lanes o)
 
 abbrev pub IsUndrawn : Drawing → Option Told → Recorded → Fault → Type 0
 IsUndrawn d table t (fault.Picture o) = IsUndrawnFor d table t o
@@ -192,7 +200,8 @@ IsUndrawn d table t _ = ⊥
 abbrev pub IsUndrawnBy : Drawing → Option (List ℕ) → Recorded → Fault → Type 0
 IsUndrawnBy d text t (fault.Table why) = HasCorrect d.correct t × IsTableFault text t (fault.Table why)
 IsUndrawnBy d text t (fault.Picture o) = HasCorrect d.correct t × HasTable text t × IsUndrawnFor d (told_by text t) t o
-IsUndrawnBy d text t (fault.Set set_option.Lanes o) = HasCorrect d.correct t × HasTable text t × IsLaneOutside d (told_by text t) t o
+IsUndrawnBy d text t (fault.Set set_option.Lanes o) = HasCorrect d.correct t × HasTable text t
+    × IsLaneOutside d (told_by text t) t o
 IsUndrawnBy d text t w = IsOutside d.correct t w
 
 abbrev pub IsUndrawnTrace : ToldDrawing → Recorded → Fault → Type 0

@@ -1,5 +1,6 @@
 -- What is reported about a log besides its trace: the notes on it.
-use Rattle.std.specs.Prelude.{ℕ, ◌+◌, ◌-◌, List, [], ◌∷◌, ◌++◌, ◌==◌, if◌then◌else◌, length, codes, decimal, Bool, true, false, Option, Some, None, ℤ, pos, int_lt, slice_index_or}
+use Rattle.std.specs.Prelude.{ℕ, ◌+◌, ◌-◌, List, [], ◌∷◌, ◌++◌, ◌==◌, if◌then◌else◌, length, codes, decimal}
+use Rattle.std.specs.Prelude.{Bool, true, false, Option, Some, None, ℤ, pos, int_lt, slice_index_or}
 use Rattle.std.specs.Fmt.{signed_decimal}
 use Rattle.std.specs.List.{flat_map, range_with_len}
 use Rattle.timed_events.specs.declared.lateness.LateMessage.{LateMessage}
@@ -26,12 +27,17 @@ tick_words ticks = if ticks == 1 then codes "1 tick" else decimal ticks ++ codes
 -- how many ticks events moved at most, and the record of the first that did; nothing if none moved
 abbrev pub distance_words : ℕ → Option ℕ → List ℕ
 distance_words ticks None = []
-distance_words ticks (Some place) = codes ", by at most " ++ (tick_words ticks ++ (codes " (record " ++ (decimal (place + 2) ++ codes ")")))
+distance_words ticks (Some place) = codes ", by at most "
+    ++ (tick_words ticks ++ (codes " (record " ++ (decimal (place + 2) ++ codes ")")))
 
 -- the line that says how many of so many events moved, and how far
 abbrev pub moved_line : ℕ → Moved → List ℕ
 moved_line count moved =
-    codes "synchrony: " ++ (decimal moved.events ++ (codes " of " ++ (decimal count ++ (codes " events moved" ++ (distance_words moved.ticks moved.farthest ++ 10 ∷ [])))))
+    codes "synchrony: "
+    ++ (decimal moved.events
+    ++ (codes " of "
+    ++ (decimal count
+    ++ (codes " events moved" ++ (distance_words moved.ticks moved.farthest ++ 10 ∷ [])))))
 
 -- the nodes, if they weren't listed
 abbrev pub node_notes : Option (List (List ℕ)) → List (List ℕ) → List ℕ
@@ -48,8 +54,14 @@ late_count_words messages =
 -- record, which record sends it, and what may help
 abbrev pub named_late_lines : ℕ → ℕ → ℕ → ℕ → List ℕ
 named_late_lines messages by number sent =
-    codes "synchrony: " ++ (late_count_words messages ++ (codes ", by the clocks; most by " ++ (decimal by ++ (codes " in record " ++ (decimal number
-    ++ (codes ", which record " ++ (decimal sent ++ (codes " sends" ++ 10 ∷ (codes "synchrony: --align moves the clocks of nodes, and may bring most of them into order" ++ 10 ∷ [])))))))))
+    codes "synchrony: "
+    ++ (late_count_words messages
+    ++ (codes ", by the clocks; most by " ++ (decimal by ++ (codes " in record " ++ (decimal number
+    ++ (codes ", which record "
+    ++ (decimal sent
+    ++ (codes " sends" ++ 10
+    ∷ (codes "synchrony: --align moves the clocks of nodes, and may bring most of them into order"
+    ++ 10 ∷ [])))))))))
 
 -- the same of so many messages and the worst of them; nothing if there are none
 abbrev pub late_lines : ℕ → Option LateMessage → List ℕ
@@ -63,12 +75,14 @@ moved_notes false count moved lateness = []
 
 -- the line that says by how much the clock of a node moved
 abbrev pub clock_line : List ℕ → ℤ → List ℕ
-clock_line name offset = codes "synchrony: the clock of " ++ (printed name ++ (codes " moved by " ++ (signed_decimal offset ++ 10 ∷ [])))
+clock_line name offset = codes "synchrony: the clock of "
+    ++ (printed name ++ (codes " moved by " ++ (signed_decimal offset ++ 10 ∷ [])))
 
 -- the same of the node at a place, counted from 0, if its clock moved
 abbrev pub clock_line_at : List (List ℕ) → List ℤ → ℕ → List ℕ
 clock_line_at nodes offsets place =
-    if int_lt (pos 0) (slice_index_or offsets place (pos 0)) then clock_line (slice_index_or nodes place []) (slice_index_or offsets place (pos 0)) else []
+    if int_lt (pos 0) (slice_index_or offsets place (pos 0)) then clock_line (slice_index_or nodes place [])
+    (slice_index_or offsets place (pos 0)) else []
 
 -- the lines of so many nodes
 abbrev pub clock_lines : List (List ℕ) → List ℤ → ℕ → List ℕ
@@ -83,7 +97,8 @@ clock_notes nodes (Some offsets) = clock_lines nodes offsets (length nodes)
 abbrev pub lost_line : ℕ → List ℕ
 lost_line lost =
     if lost == 1 then codes "synchrony: 1 message was never received; its send is left out" ++ 10 ∷ []
-    else codes "synchrony: " ++ (decimal lost ++ (codes " messages were never received; their sends are left out" ++ 10 ∷ []))
+    else codes "synchrony: "
+    ++ (decimal lost ++ (codes " messages were never received; their sends are left out" ++ 10 ∷ []))
 
 -- this line, if they are left out
 abbrev pub lost_notes : Option ℕ → List ℕ
@@ -103,12 +118,14 @@ merged_notes (Some merged) = merged_line merged
 
 -- so many receives of nothing
 abbrev pub receives_words : ℕ → List ℕ
-receives_words count = if count == 1 then codes "1 receive of nothing" else decimal count ++ codes " receives of nothing"
+receives_words count = if count == 1 then codes "1 receive of nothing" else decimal count
+    ++ codes " receives of nothing"
 
 -- the line that says how many receives of nothing were added, and in which silences
 abbrev pub idle_line : ℕ → ℕ → List ℕ
 idle_line count limit =
-    codes "synchrony: " ++ (receives_words count ++ (codes " added, in silences of at most " ++ (tick_words limit ++ 10 ∷ [])))
+    codes "synchrony: "
+    ++ (receives_words count ++ (codes " added, in silences of at most " ++ (tick_words limit ++ 10 ∷ [])))
 
 -- this line, if silences get such receives
 abbrev pub idle_notes : Option IdleReceives → List ℕ
@@ -122,4 +139,9 @@ event_count steps (Some idle) = steps - idle.count
 
 -- the notes on a log that was read as a trace
 abbrev pub notes_of : Options → Import → List ℕ
-notes_of o import = node_notes o.nodes import.nodes ++ (clock_notes import.nodes import.offsets ++ (lost_notes import.lost ++ (merged_notes import.merged ++ (moved_notes o.spread (event_count (length import.trace.steps) import.idle) import.moved import.lateness ++ idle_notes import.idle))))
+notes_of o import = node_notes o.nodes import.nodes
+    ++ (clock_notes import.nodes import.offsets
+    ++ (lost_notes import.lost
+    ++ (merged_notes import.merged
+    ++ (moved_notes o.spread (event_count (length import.trace.steps) import.idle) import.moved import.lateness
+    ++ idle_notes import.idle))))

@@ -31,12 +31,18 @@ IsNoLength o text fault.Memory = ⊤
 IsNoLength o text _ = ⊥
 
 -- why five texts give no options: the first of them that is bad; or out of memory
-abbrev pub IsImportOptionFault : Option (List ℕ) → Option (List ℕ) → Option (List ℕ) → Option (List ℕ) → Option (List ℕ) → Fault → Type 0
-IsImportOptionFault nodes unit tick until idle (fault.Import option.Nodes) = IsOptionFault nodes unit tick until idle no_options.Nodes
-IsImportOptionFault nodes unit tick until idle (fault.Import option.Unit) = IsOptionFault nodes unit tick until idle no_options.Unit
-IsImportOptionFault nodes unit tick until idle (fault.Import option.Until) = IsOptionFault nodes unit tick until idle no_options.Until
-IsImportOptionFault nodes unit tick until idle (fault.Length option.Tick given) = IsOptionFault nodes unit tick until idle no_options.Tick × (tick ≡ Some (string_bytes given))
-IsImportOptionFault nodes unit tick until idle (fault.Length option.Idle given) = IsOptionFault nodes unit tick until idle no_options.Idle × (idle ≡ Some (string_bytes given))
+abbrev pub IsImportOptionFault : Option (List ℕ) → Option (List ℕ) → Option (List ℕ) → Option (List ℕ) → Option (List ℕ)
+    → Fault → Type 0
+IsImportOptionFault nodes unit tick until idle (fault.Import option.Nodes) =
+    IsOptionFault nodes unit tick until idle no_options.Nodes
+IsImportOptionFault nodes unit tick until idle (fault.Import option.Unit) =
+    IsOptionFault nodes unit tick until idle no_options.Unit
+IsImportOptionFault nodes unit tick until idle (fault.Import option.Until) =
+    IsOptionFault nodes unit tick until idle no_options.Until
+IsImportOptionFault nodes unit tick until idle (fault.Length option.Tick given) =
+    IsOptionFault nodes unit tick until idle no_options.Tick × (tick ≡ Some (string_bytes given))
+IsImportOptionFault nodes unit tick until idle (fault.Length option.Idle given) =
+    IsOptionFault nodes unit tick until idle no_options.Idle × (idle ≡ Some (string_bytes given))
 IsImportOptionFault nodes unit tick until idle fault.Memory = ⊤
 IsImportOptionFault nodes unit tick until idle _ = ⊥
 

@@ -1,5 +1,6 @@
 -- The judgement of the decisions of a run, and why there is none.
-use Rattle.std.specs.Prelude.{ℕ, ◌≡◌, ◌≢◌, List, Bool, true, false, Option, Some, None, Err, Ok, string_bytes, unwrap_or}
+use Rattle.std.specs.Prelude.{ℕ, ◌≡◌, ◌≢◌, List, Bool, true, false, Option}
+use Rattle.std.specs.Prelude.{Some, None, Err, Ok, string_bytes, unwrap_or}
 use Rattle.step_trace.specs.CorrectSets.{named}
 use Rattle.step_trace.specs.Traces.{Recorded}
 use Rattle.decision_claims.specs.declared.decisions.Decision.{Decision}
@@ -39,7 +40,8 @@ AreDecisions false text t found = decisions_of_text t.config.n t.last text ≡ O
 -- why there are none: the trace is no run, or the first refusal of the text
 abbrev pub IsUndecided : Bool → List ℕ → Recorded → Fault → Type 0
 IsUndecided true text t (fault.NotARun number due) = IsOffRun t (fault.NotARun number due)
-IsUndecided false text t (fault.Decisions reason) = (decisions_of_text t.config.n t.last text ≡ Err reason) × (reason ≢ undecided.Memory)
+IsUndecided false text t (fault.Decisions reason) = (decisions_of_text t.config.n t.last text ≡ Err reason)
+    × (reason ≢ undecided.Memory)
 IsUndecided replay text t _ = ⊥
 
 -- the text is a formula
@@ -85,6 +87,8 @@ IsStartFault start t _ = ⊥
 abbrev pub IsUnjudged : Judging → List ℕ → Recorded → Fault → Type 0
 IsUnjudged j text t (fault.Within why) = HasCorrect j.correct t × (read_formula (string_bytes j.within) ≡ Err why)
 IsUnjudged j text t (fault.Report option.Start o) = HasFormula j t × IsNoTickOf j.start t o
-IsUnjudged j text t (fault.Decisions reason) = HasFormula j t × HasStart j.start t × IsUndecided j.replay text t (fault.Decisions reason)
-IsUnjudged j text t (fault.NotARun number due) = HasFormula j t × HasStart j.start t × IsUndecided j.replay text t (fault.NotARun number due)
+IsUnjudged j text t (fault.Decisions reason) = HasFormula j t × HasStart j.start t
+    × IsUndecided j.replay text t (fault.Decisions reason)
+IsUnjudged j text t (fault.NotARun number due) = HasFormula j t × HasStart j.start t
+    × IsUndecided j.replay text t (fault.NotARun number due)
 IsUnjudged j text t w = IsOutside j.correct t w

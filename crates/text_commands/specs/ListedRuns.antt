@@ -1,5 +1,6 @@
 -- The runs of a list: what each of them is judged for, and the line that is printed for it (docs/FORMATS.md).
-use Rattle.std.specs.Prelude.{ℕ, ◌≡◌, ◌≢◌, ◌⊎◌, List, [], ◌∷◌, ◌++◌, Bool, true, false, Option, Some, None, Ok, Err, option_map, ◌==◌, if◌then◌else◌, codes, decimal, string_bytes}
+use Rattle.std.specs.Prelude.{ℕ, ◌≡◌, ◌≢◌, ◌⊎◌, List, [], ◌∷◌, ◌++◌, Bool, true, false, Option, Some, None}
+use Rattle.std.specs.Prelude.{Ok, Err, option_map, ◌==◌, if◌then◌else◌, codes, decimal, string_bytes}
 use Rattle.std.specs.Str.{IsUtf8}
 use Rattle.step_trace.specs.declared.correct_sets.Correct.{Correct}
 use Rattle.step_trace.specs.CorrectSets.{IsCorrectIn}
@@ -61,7 +62,8 @@ pub record IsListedJudging (asked : Judging) (run : Listed) (j : Judging) : Type
 abbrev pub IsListedFault : Judging → Listed → Fault → Type 0
 IsListedFault asked run fault.Memory = Unit {0}
 IsListedFault asked run (fault.Listed field.Correct) = IsNoCorrect run.correct
-IsListedFault asked run (fault.Listed field.Start) = ((found : Correct) × IsListedCorrect asked.correct run.correct found)
+IsListedFault asked run (fault.Listed field.Start) =
+    ((found : Correct) × IsListedCorrect asked.correct run.correct found)
     × (start_of asked.start run.start ≡ None)
 IsListedFault asked run _ = ⊥
 

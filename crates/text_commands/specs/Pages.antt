@@ -41,7 +41,8 @@ IsUntellable p t w = IsNamesFault p.names t.config.n w
 abbrev pub IsNoPageBy : Page → Option (List ℕ) → Recorded → Fault → Type 0
 IsNoPageBy p table t (fault.Table why) = HasCorrect p.correct t × IsTableFault table t (fault.Table why)
 IsNoPageBy p table t (fault.Picture o) = HasCorrect p.correct t × HasTable table t × IsUntellable p t (fault.Picture o)
-IsNoPageBy p table t (fault.Report option o) = HasCorrect p.correct t × HasTable table t × IsUntellable p t (fault.Report option o)
+IsNoPageBy p table t (fault.Report option o) = HasCorrect p.correct t × HasTable table t
+    × IsUntellable p t (fault.Report option o)
 IsNoPageBy p table t w = IsOutside p.correct t w
 
 abbrev pub IsNoPage : ToldPage → Recorded → Fault → Type 0

@@ -15,5 +15,6 @@ pub record IsReplayOf (t : Recorded) (replay : List ℕ) : Type 0 where
 
 -- why a trace has no replay: its step of this number is the first that is none of a run; its processor had to do this
 abbrev pub IsOffRun : Recorded → Fault → Type 0
-IsOffRun t (fault.NotARun number (Some due)) = IsFirstOff t.config t.steps number × IsDueInstead t.config t.steps number due
+IsOffRun t (fault.NotARun number (Some due)) = IsFirstOff t.config t.steps number
+    × IsDueInstead t.config t.steps number due
 IsOffRun t _ = ⊥

@@ -52,7 +52,8 @@ pub record IsPartOfReport (part : ReportPart) (t : Recorded) (out : List ℕ) : 
 -- which tick the trace hasn't: the one up to which it is to be reported, or, up to that, the one whose row is asked for
 abbrev pub IsTickOutsideFor : ReportPart → Recorded → ReportOption → TickOutside → Type 0
 IsTickOutsideFor part t option.Until o = IsNoTickOf part.until t o
-IsTickOutsideFor part t option.At o = (reported : Recorded) × IsReportedTo part.until t reported × IsNoTickOf part.at reported o
+IsTickOutsideFor part t option.At o = (reported : Recorded) × IsReportedTo part.until t reported
+    × IsNoTickOf part.at reported o
 IsTickOutsideFor part t option.Start o = ⊥
 
 -- a fault of the trace to be reported

@@ -14,9 +14,11 @@ use Rattle.text_commands.specs.Answers.{IsAnswerTo, IsUnanswered}
 
 -- The fault has its cause: the text is refused for it; or a read failed; or the text has an answer, of which that many
 -- first bytes were written.
-abbrev pub IsServeFault : (List ℕ → List ℕ → Type 0) → (List ℕ → Fault → Type 0) → List ℕ → Option (List ℕ) → Option (List ℕ) → Fault → Type 0
+abbrev pub IsServeFault : (List ℕ → List ℕ → Type 0) → (List ℕ → Fault → Type 0) → List ℕ → Option (List ℕ)
+    → Option (List ℕ) → Fault → Type 0
 IsServeFault Gives Refuses text before after fault.Read = ⊤
-IsServeFault Gives Refuses text before after (fault.Write n) = (out : List ℕ) × Gives text out × (n ≤ length out) × Appends before after (take n out)
+IsServeFault Gives Refuses text before after (fault.Write n) = (out : List ℕ) × Gives text out × (n ≤ length out)
+    × Appends before after (take n out)
 IsServeFault Gives Refuses text before after w = Refuses text w
 
 -- the fault is one of memory, of a reader or of a writer, or one that the command may report
@@ -39,7 +41,8 @@ IsReadFault old new _ = new ≡ old
 
 -- What was read has an answer, which was written whole and flushed; neither device met a fault. If it is known what was
 -- there to be read, that is what was read.
-pub record HasServed {R W : Type 0} (Gives : List ℕ → List ℕ → Type 0) (left : R → Option (List ℕ)) (taken : W → Option (List ℕ))
+pub record HasServed {R W : Type 0} (Gives : List ℕ → List ℕ → Type 0) (left : R → Option (List ℕ))
+    (taken : W → Option (List ℕ))
     (reader read : Counting R) (writer written : Counting W) : Type 0 where
   pub text : List ℕ
   pub out : List ℕ
@@ -53,20 +56,26 @@ pub record HasServed {R W : Type 0} (Gives : List ℕ → List ℕ → Type 0) (
 
 -- The fault has its cause in what was there to be read, if that is known, and the command may report it. It is a failed
 -- read or a failed write exactly if a device met a fault.
-pub record IsUnserved {R W : Type 0} (Gives : List ℕ → List ℕ → Type 0) (Refuses : List ℕ → Fault → Type 0) (May : Fault → Type 0)
-    (left : R → Option (List ℕ)) (taken : W → Option (List ℕ)) (reader read : Counting R) (writer written : Counting W) (w : Fault) : Type 0 where
-  pub cause : IfSome (left (inner_of reader)) (λ text. IsServeFault Gives Refuses text (taken (inner_of writer)) (taken (inner_of written)) w)
+pub record IsUnserved {R W : Type 0} (Gives : List ℕ → List ℕ → Type 0) (Refuses : List ℕ → Fault → Type 0)
+    (May : Fault → Type 0)
+    (left : R → Option (List ℕ)) (taken : W → Option (List ℕ)) (reader read : Counting R) (writer written : Counting W)
+    (w : Fault) : Type 0 where
+  pub cause : IfSome (left (inner_of reader))
+      (λ text. IsServeFault Gives Refuses text (taken (inner_of writer)) (taken (inner_of written)) w)
   pub own : IsFaultOf May w
   pub unread : IsReadFault (faults_of reader) (faults_of read) w
   pub unwritten : IsWriteFault writer written w
 
 -- what a command has done that answered so: it has written its answer to a text, or it reported a fault
 abbrev pub Serves : {A R W : Type 0} → (List ℕ → List ℕ → Type 0) → (List ℕ → Fault → Type 0) → (Fault → Type 0)
-    → (R → Option (List ℕ)) → (W → Option (List ℕ)) → Counting R → Counting R → Counting W → Counting W → Result A Fault → Type 0
+    → (R → Option (List ℕ)) → (W → Option (List ℕ)) → Counting R → Counting R → Counting W → Counting W
+    → Result A Fault → Type 0
 Serves Gives Refuses May left taken reader read writer written result =
-    MatchResult result (λ _. HasServed Gives left taken reader read writer written) (IsUnserved Gives Refuses May left taken reader read writer written)
+    MatchResult result (λ _. HasServed Gives left taken reader read writer written)
+    (IsUnserved Gives Refuses May left taken reader read writer written)
 
 -- the same of a command that makes a text of a trace
 abbrev pub ServesTrace : {A R W : Type 0} → (Recorded → List ℕ → Type 0) → (Recorded → Fault → Type 0)
-    → (R → Option (List ℕ)) → (W → Option (List ℕ)) → Counting R → Counting R → Counting W → Counting W → Result A Fault → Type 0
+    → (R → Option (List ℕ)) → (W → Option (List ℕ)) → Counting R → Counting R → Counting W → Counting W
+    → Result A Fault → Type 0
 ServesTrace Gives Declines = Serves (IsAnswerTo Gives) (IsUnanswered Declines) (MayTell Declines)

@@ -1,5 +1,6 @@
 -- The table of the lengths of a tick for a log, as text, and the note on it.
-use Rattle.std.specs.Prelude.{ℕ, ◌/◌, ◌%◌, ◌*◌, Bool, false, List, [], ◌∷◌, ◌++◌, ◌==◌, if◌then◌else◌, fold, codes, decimal, nat_le, Option, Some, None}
+use Rattle.std.specs.Prelude.{ℕ, ◌/◌, ◌%◌, ◌*◌, Bool, false, List, [], ◌∷◌, ◌++◌, ◌==◌, if◌then◌else◌}
+use Rattle.std.specs.Prelude.{fold, codes, decimal, nat_le, Option, Some, None}
 use Rattle.std.specs.List.{flat_map}
 use Rattle.std.specs.Option.{option_map_or}
 use Rattle.event_log.specs.declared.tick_rows.Placing.{Placing}
@@ -26,7 +27,8 @@ row_length kind row = length_words row.width (tick_nanoseconds kind row.width)
 
 -- the line of a row: the length of a tick, the last tick, how many events move, and by how many ticks at most
 abbrev pub placing_line : List ℕ → Placing → List ℕ
-placing_line length p = length ++ (codes "," ++ (decimal p.last ++ (codes "," ++ (decimal p.moved ++ (codes "," ++ (decimal p.most ++ 10 ∷ []))))))
+placing_line length p = length
+    ++ (codes "," ++ (decimal p.last ++ (codes "," ++ (decimal p.moved ++ (codes "," ++ (decimal p.most ++ 10 ∷ []))))))
 
 -- the same; nothing if the trace would have too many ticks
 abbrev pub placing_text : List ℕ → Option Placing → List ℕ
@@ -54,7 +56,9 @@ nearest rows = fold later_near None rows
 -- the line that names it
 abbrev pub near_line : TimeKind → Option TickRow → List ℕ
 near_line kind None = codes "synchrony: each of these moves more than 1 in 100 events by more than one tick" ++ 10 ∷ []
-near_line kind (Some row) = codes "synchrony: --tick " ++ (row_length kind row ++ (codes " is the longest that moves at most 1 in 100 events by more than one tick" ++ 10 ∷ []))
+near_line kind (Some row) = codes "synchrony: --tick "
+    ++ (row_length kind row
+    ++ (codes " is the longest that moves at most 1 in 100 events by more than one tick" ++ 10 ∷ []))
 
 -- the note on the table
 abbrev pub tick_notes : TimeKind → List TickRow → List ℕ

@@ -12,8 +12,10 @@ outside_notes outside =
 abbrev pub unsent_notes : ℕ → List ℕ
 unsent_notes unsent =
     if unsent == 0 then []
-    else if unsent == 1 then codes "synchrony: 1 received message was sent outside the window, and is left out" ++ 10 ∷ []
-    else codes "synchrony: " ++ (decimal unsent ++ (codes " received messages were sent outside the window, and are left out" ++ 10 ∷ []))
+    else if unsent == 1 then codes "synchrony: 1 received message was sent outside the window, and is left out"
+    ++ 10 ∷ []
+    else codes "synchrony: "
+    ++ (decimal unsent ++ (codes " received messages were sent outside the window, and are left out" ++ 10 ∷ []))
 
 abbrev pub window_notes : ℕ → ℕ → List ℕ
 window_notes outside unsent = outside_notes outside ++ unsent_notes unsent

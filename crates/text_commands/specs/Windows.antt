@@ -55,7 +55,8 @@ IsToldOfWindow forms.Table o Told w out = IsTableToldOf o Told w out
 IsToldOfWindow forms.Ticks o Told w out = AreTicksToldOf o Told w out
 
 -- the second text is what is printed of the window of the first from a time on
-pub record IsWindowTold (form : ImportForm) (o : Options) (from : LogEnd) (Told : List ℕ → Type 0) (text out : List ℕ) : Type 0 where
+pub record IsWindowTold (form : ImportForm) (o : Options) (from : LogEnd) (Told : List ℕ → Type 0)
+    (text out : List ℕ) : Type 0 where
   pub window : LogWindow
   pub is : IsWindow o.unit from o.until text window
   pub told : IsToldOfWindow form o Told window out
@@ -75,7 +76,8 @@ IsUntoldOfWindow form o w _ = ⊥
 -- the log has no such window, or its window is refused for this reason
 abbrev pub IsRefusalFrom : ImportForm → Options → LogEnd → List ℕ → LogError → Type 0
 IsRefusalFrom form o from text reason =
-    HasNoWindow o.unit from o.until text reason ⊎ ((w : LogWindow) × IsWindow o.unit from o.until text w × IsRefusalOfWindow form o w reason)
+    HasNoWindow o.unit from o.until text reason
+    ⊎ ((w : LogWindow) × IsWindow o.unit from o.until text w × IsRefusalOfWindow form o w reason)
 
 -- the fault has its cause in the log: its first refusal; or out of memory
 abbrev pub IsWindowless : ImportForm → Options → LogEnd → List ℕ → Fault → Type 0
@@ -87,5 +89,6 @@ IsWindowless form o from text _ = ⊥
 abbrev pub IsUnreadWindow : Options → LogEnd → Option (List ℕ) → Fault → Type 0
 IsUnreadWindow o from known fault.Read = ⊤
 IsUnreadWindow o from known fault.Memory = ⊤
-IsUnreadWindow o from known (fault.Log reason) = IfSome known (λ text. HasNoWindow o.unit from o.until text reason) × (reason ≢ no_log.Memory)
+IsUnreadWindow o from known (fault.Log reason) = IfSome known (λ text. HasNoWindow o.unit from o.until text reason)
+    × (reason ≢ no_log.Memory)
 IsUnreadWindow o from known _ = ⊥

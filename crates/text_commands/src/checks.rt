@@ -3,8 +3,10 @@
 ghost use Rattle.std.specs.Prelude.{◌≡◌, ℕ, List, OnOk, IfOk, IfErr, IfSome, IsTrue};
 ghost use Rattle.step_trace.specs.CorrectSets.{named};
 ghost use Rattle.text_commands.specs.Answers.{IsAnswerTo, IsDeclined, IsUnanswered};
-ghost use Rattle.text_commands.specs.Checks.{IsBadCertificate, IsEitherReadFault, IsLineOn, IsToldOfChecks, IsUncut, IsUnchecked};
-ghost use Rattle.text_commands.specs.Serving.{Appends, IsAtEnd, IsFaultOf, IsServeFault, IsWriteFault, WasFaultless, faults_of, inner_of, is_flushed};
+ghost use Rattle.text_commands.specs.Checks.{IsBadCertificate, IsEitherReadFault, IsLineOn};
+ghost use Rattle.text_commands.specs.Checks.{IsToldOfChecks, IsUncut, IsUnchecked};
+ghost use Rattle.text_commands.specs.Serving.{Appends, IsAtEnd, IsFaultOf, IsServeFault, IsWriteFault};
+ghost use Rattle.text_commands.specs.Serving.{WasFaultless, faults_of, inner_of, is_flushed};
 ghost use Rattle.text_verdicts.specs.Checks.{IsJudged, IsVerdictOn};
 ghost use Rattle.text_verdicts.specs.Cuts.{IsReportedTo};
 ghost use Rattle.text_verdicts.specs.Texts.{HasCorrect, OfTrace};
@@ -46,20 +48,28 @@ pub fn run_check<R: Read, S: Read, W: Write>(
     certificate: &mut Counting<S>,
     writer: &mut Counting<W>,
 ) -> Result<Verdict, Fault>
-    ensures end { OnOk result (IsAtEnd (R.remaining (inner_of trace.new)) × IsAtEnd (S.remaining (inner_of certificate.new))) }
+    ensures end { OnOk result (IsAtEnd (R.remaining (inner_of trace.new))
+        × IsAtEnd (S.remaining (inner_of certificate.new))) }
     ensures verdict { IfOk result (λ verdict. (text claimed : List ℕ)
         × IfSome (R.remaining (inner_of trace.old)) (λ known. text ≡ known)
         × IfSome (S.remaining (inner_of certificate.old)) (λ known. claimed ≡ known)
         × OfTrace (IsVerdictOn claim.now.correct claim.now.until claimed verdict) text
-        × Appends (W.contents (inner_of writer.old)) (W.contents (inner_of writer.new)) (told_verdict verdict)) }
+        × Appends (W.contents (inner_of writer.old)) (W.contents (inner_of writer.new))
+        (told_verdict verdict)) }
     ensures flushed { OnOk result (IsTrue (is_flushed writer.new)) }
-    ensures faultless { OnOk result ((faults_of trace.new ≡ faults_of trace.old) × (faults_of certificate.new ≡ faults_of certificate.old)
+    ensures faultless { OnOk result ((faults_of trace.new ≡ faults_of trace.old)
+        × (faults_of certificate.new ≡ faults_of certificate.old)
         × WasFaultless writer.old writer.new) }
-    ensures refused { IfErr result (λ why. IfSome (R.remaining (inner_of trace.old)) (λ text. IfSome (S.remaining (inner_of certificate.old)) (λ claimed.
-        IsServeFault (IsAnswerTo (IsLineOn claim.now claimed)) (IsUnanswered (IsUnchecked claim.now claimed)) text
+    ensures refused { IfErr result
+        (λ why. IfSome (R.remaining (inner_of trace.old))
+        (λ text. IfSome (S.remaining (inner_of certificate.old)) (λ claimed.
+        IsServeFault (IsAnswerTo (IsLineOn claim.now claimed))
+        (IsUnanswered (IsUnchecked claim.now claimed)) text
         (W.contents (inner_of writer.old)) (W.contents (inner_of writer.new)) why))) }
     ensures own { IfErr result (IsFaultOf (IsToldOfChecks claim.now)) }
-    ensures read { IfErr result (IsEitherReadFault (faults_of trace.old) (faults_of trace.new) (faults_of certificate.old) (faults_of certificate.new)) }
+    ensures read { IfErr result
+        (IsEitherReadFault (faults_of trace.old) (faults_of trace.new) (faults_of certificate.old)
+        (faults_of certificate.new)) }
     ensures unwritten { IfErr result (IsWriteFault writer.old writer.new) }
 {
     let trace = read_trace_by_parts(alloc, trace)?;
@@ -83,7 +93,9 @@ pub fn verdict_on(
     text: &[u8],
     certificate: &[u8],
 ) -> Result<Verdict, Fault>
-    ensures verdict { IfOk result (λ verdict. OfTrace (IsVerdictOn claim.now.correct claim.now.until certificate.now verdict) text.now) }
+    ensures verdict { IfOk result
+        (λ verdict. OfTrace
+        (IsVerdictOn claim.now.correct claim.now.until certificate.now verdict) text.now) }
     ensures refused { IfErr result (IsUnanswered (IsUnchecked claim.now certificate.now) text.now) }
 {
     let trace = trace_of(alloc, text)?;
@@ -112,7 +124,9 @@ fn verdict_by(
     certificate: &[u8],
 ) -> Result<Verdict, Fault>
     requires { HasCorrect claim.now.correct reported.now }
-    ensures verdict { IfOk result (λ verdict. IsJudged (named claim.now.correct reported.now.config.n) certificate.now verdict reported.now) }
+    ensures verdict { IfOk result
+        (λ verdict. IsJudged (named claim.now.correct reported.now.config.n) certificate.now verdict
+        reported.now) }
     ensures refused { IfErr result (IsBadCertificate certificate.now) }
 {
     let set = claim.correct.named(reported.config().n());

@@ -2,7 +2,9 @@
 
 ghost use Rattle.std.specs.Prelude.{◌≡◌, IfErr, IfOk, MatchResult, Ok, OnOk, map};
 ghost use Rattle.step_trace.specs.Processors.{IsWithin};
-ghost use Rattle.text_commands.specs.Drawings.{IsDrawable, IsDrawnWindow, IsMarksFault, IsPictureFor, IsUndrawn, IsWindowFault, asks_for_ticks, names_by, names_of_list, names_told, option_of, window_for};
+ghost use Rattle.text_commands.specs.Drawings.{IsDrawable, IsDrawnWindow, IsMarksFault, IsPictureFor, IsUndrawn};
+ghost use Rattle.text_commands.specs.Drawings.{IsWindowFault, asks_for_ticks, names_by, names_of_list, names_told};
+ghost use Rattle.text_commands.specs.Drawings.{option_of, window_for};
 
 use crate::answers::Answer;
 use crate::lanes::lanes_for;
@@ -83,7 +85,8 @@ fn names_by<'a>(
     table: &'a Option<StepTable>,
 ) -> Result<Vec<&'a str>, AllocError>
     requires { map (λ name. name.now) listed.items ≡ names_of_list drawing.now.names }
-    ensures { IfOk result (λ names. map (λ name. name.now) names.items ≡ names_by drawing.now.names table.now) }
+    ensures { IfOk result
+        (λ names. map (λ name. name.now) names.items ≡ names_by drawing.now.names table.now) }
 {
     if drawing.names.is_some() {
         return Ok(listed);
@@ -159,7 +162,8 @@ fn option_of(why: WindowError) -> PictureOption
 
 /// The ticks to draw, of a trace with this last tick.
 fn window_for(drawing: &Drawing, last: u64) -> Result<Window, Fault>
-    ensures { MatchResult result (λ w. window_for drawing.now last ≡ Ok w) (IsWindowFault drawing.now last) }
+    ensures { MatchResult result (λ w. window_for drawing.now last ≡ Ok w)
+        (IsWindowFault drawing.now last) }
 {
     match window_of(last, drawing.from, drawing.to) {
         Ok(window) => Ok(window),

@@ -1,7 +1,8 @@
 //! The lines that say how a log was read.
 
 ghost use Rattle.std.specs.Prelude.{◌≡◌, [], IfOk, Some, length, slice_index_or, string_bytes};
-ghost use Rattle.text_commands.specs.ImportLines.{clock_line_at, clock_lines, clock_notes, event_count, late_lines, moved_notes, node_lines, notes_of};
+ghost use Rattle.text_commands.specs.ImportLines.{clock_line_at, clock_lines, clock_notes, event_count};
+ghost use Rattle.text_commands.specs.ImportLines.{late_lines, moved_notes, node_lines, notes_of};
 
 use crate::idle_lines::{event_count, idle_notes};
 use crate::lost_lines::lost_notes;
@@ -45,7 +46,10 @@ pub(crate) fn notes_text(
 
 /// How far events moved, if they might, and then which messages are late.
 fn moved_notes(alloc: Global, spread: bool, import: &Import) -> Result<String, AllocError>
-    ensures { IfOk result (λ text. string_bytes text ≡ moved_notes spread (event_count (length import.now.trace.steps) import.now.idle) import.now.moved import.now.lateness) }
+    ensures { IfOk result
+        (λ text. string_bytes text ≡ moved_notes spread
+        (event_count (length import.now.trace.steps) import.now.idle) import.now.moved
+        import.now.lateness) }
 {
     let mut notes = String::new(alloc);
     if spread {
@@ -77,7 +81,8 @@ fn clock_notes(
 
 /// A line for each node whose clock moved.
 fn clock_lines(alloc: Global, nodes: &NameSet, offsets: &Offsets) -> Result<String, AllocError>
-    ensures { IfOk result (λ text. string_bytes text ≡ clock_lines nodes.now offsets.now (length nodes.now)) }
+    ensures { IfOk result
+        (λ text. string_bytes text ≡ clock_lines nodes.now offsets.now (length nodes.now)) }
 {
     let mut lines = String::new(alloc);
     for place in 0..nodes.len() {
@@ -141,7 +146,8 @@ impl fmt::Display for ClockLine<'_> {
 /// How many messages are received no later than they are sent, the worst of them, and what may help; nothing if there
 /// are none.
 fn late_lines(alloc: Global, lateness: Lateness) -> Result<String, AllocError>
-    ensures { IfOk result (λ text. string_bytes text ≡ late_lines lateness.messages lateness.worst) }
+    ensures { IfOk result
+        (λ text. string_bytes text ≡ late_lines lateness.messages lateness.worst) }
 {
     match lateness.worst {
         None => Ok(String::new(alloc)),
@@ -264,7 +270,8 @@ impl fmt::Display for LateLines {
     ghost use Rattle.std.specs.Prelude.{Some};
     ghost use Rattle.text_commands.specs.ImportLines.{named_late_lines};
 
-    ghost output = { λ lines. Some (named_late_lines lines.messages lines.by lines.number lines.sent) };
+    ghost output = { λ lines.
+        Some (named_late_lines lines.messages lines.by lines.number lines.sent) };
 
     fn fmt<W: fmt::Write>(&self, f: &mut fmt::Formatter<W>) -> fmt::Result {
         write!(

@@ -4,7 +4,8 @@ ghost use Rattle.std.specs.Prelude.{◌≡◌, IfOk, IfErr, option_map, string_b
 ghost use Rattle.command_faults.specs.Printing.{WentOut};
 ghost use Rattle.event_log.specs.Options.{AreOptions};
 ghost use Rattle.log_windows.specs.LogImports.{AreLogTicks, IsLogImport, IsLogTable};
-ghost use Rattle.text_commands.specs.Imports.{IsImportOptionFault, IsImportTold, IsNoLength, IsQuietFault, IsToldOfLogs, IsUnimported};
+ghost use Rattle.text_commands.specs.Imports.{IsImportOptionFault, IsImportTold, IsNoLength};
+ghost use Rattle.text_commands.specs.Imports.{IsQuietFault, IsToldOfLogs, IsUnimported};
 ghost use Rattle.text_commands.specs.Serving.{Serves};
 
 use crate::import_lines::notes_text;
@@ -41,8 +42,14 @@ pub fn import_options(
     drop_lost: bool,
     merge: bool,
 ) -> Result<Options, Fault>
-    ensures options { IfOk result (λ o. AreOptions (option_map (λ t. t.now) nodes.entry) (option_map (λ t. t.now) unit.entry) (option_map (λ t. t.now) tick.entry) (option_map (λ t. t.now) until.entry) (option_map (λ t. t.now) idle.entry) spread align drop_lost merge o) }
-    ensures refused { IfErr result (IsImportOptionFault (option_map (λ t. t.now) nodes.entry) (option_map (λ t. t.now) unit.entry) (option_map (λ t. t.now) tick.entry) (option_map (λ t. t.now) until.entry) (option_map (λ t. t.now) idle.entry)) }
+    ensures options { IfOk result
+        (λ o. AreOptions (option_map (λ t. t.now) nodes.entry) (option_map (λ t. t.now) unit.entry)
+        (option_map (λ t. t.now) tick.entry) (option_map (λ t. t.now) until.entry)
+        (option_map (λ t. t.now) idle.entry) spread align drop_lost merge o) }
+    ensures refused { IfErr result
+        (IsImportOptionFault (option_map (λ t. t.now) nodes.entry)
+        (option_map (λ t. t.now) unit.entry) (option_map (λ t. t.now) tick.entry)
+        (option_map (λ t. t.now) until.entry) (option_map (λ t. t.now) idle.entry)) }
 {
     match read_options(
         alloc, nodes, unit, tick, until, idle, spread, align, drop_lost, merge,
@@ -80,7 +87,8 @@ pub fn run_import<R: Read, W: Write, N: Write>(
     writer: &mut Counting<W>,
     notes: &mut Counting<N>,
 ) -> Result<(), Fault>
-    ensures served { Serves (IsImportTold form options.now (WentOut N.contents notes.old notes.new)) (IsUnimported form options.now) IsToldOfLogs
+    ensures served { Serves (IsImportTold form options.now (WentOut N.contents notes.old notes.new))
+        (IsUnimported form options.now) IsToldOfLogs
         R.remaining W.contents reader.old reader.new writer.old writer.new result }
     ensures quiet { IfErr result (IsQuietFault notes.old notes.new) }
 {
@@ -106,7 +114,9 @@ fn texts_of(
     options: &Options,
     form: ImportForm,
 ) -> Result<ImportTexts, Fault>
-    ensures texts { IfOk result (λ texts. IsImportTold form options.now (λ notes. string_bytes texts.notes ≡ notes) text.items texts.out.items) }
+    ensures texts { IfOk result
+        (λ texts. IsImportTold form options.now (λ notes. string_bytes texts.notes ≡ notes)
+        text.items texts.out.items) }
     ensures refused { IfErr result (IsUnimported form options.now text.items) }
 {
     match form {
@@ -118,7 +128,9 @@ fn texts_of(
 
 /// The text of the trace of a log, and the notes. The log is freed before they are made.
 fn trace_texts(alloc: Global, text: Vec<u8>, options: &Options) -> Result<ImportTexts, Fault>
-    ensures texts { IfOk result (λ texts. IsImportTold ImportForm.Trace options.now (λ notes. string_bytes texts.notes ≡ notes) text.items texts.out.items) }
+    ensures texts { IfOk result
+        (λ texts. IsImportTold ImportForm.Trace options.now
+        (λ notes. string_bytes texts.notes ≡ notes) text.items texts.out.items) }
     ensures refused { IfErr result (IsUnimported ImportForm.Trace options.now text.items) }
 {
     let import = import_of(alloc, text, options)?;
@@ -129,7 +141,9 @@ fn trace_texts(alloc: Global, text: Vec<u8>, options: &Options) -> Result<Import
 
 /// The table of the steps of a log, and the notes.
 fn table_texts(alloc: Global, text: Vec<u8>, options: &Options) -> Result<ImportTexts, Fault>
-    ensures texts { IfOk result (λ texts. IsImportTold ImportForm.Table options.now (λ notes. string_bytes texts.notes ≡ notes) text.items texts.out.items) }
+    ensures texts { IfOk result
+        (λ texts. IsImportTold ImportForm.Table options.now
+        (λ notes. string_bytes texts.notes ≡ notes) text.items texts.out.items) }
     ensures refused { IfErr result (IsUnimported ImportForm.Table options.now text.items) }
 {
     let LogTable { import, table } = table_of(alloc, text, options)?;
@@ -139,7 +153,9 @@ fn table_texts(alloc: Global, text: Vec<u8>, options: &Options) -> Result<Import
 
 /// The table of the lengths of a tick for a log, and the note on it.
 fn tick_texts(alloc: Global, text: Vec<u8>, options: &Options) -> Result<ImportTexts, Fault>
-    ensures texts { IfOk result (λ texts. IsImportTold ImportForm.Ticks options.now (λ notes. string_bytes texts.notes ≡ notes) text.items texts.out.items) }
+    ensures texts { IfOk result
+        (λ texts. IsImportTold ImportForm.Ticks options.now
+        (λ notes. string_bytes texts.notes ≡ notes) text.items texts.out.items) }
     ensures refused { IfErr result (IsUnimported ImportForm.Ticks options.now text.items) }
 {
     let table = ticks_of(alloc, text, options)?;

@@ -2,7 +2,9 @@
 
 ghost use Rattle.std.specs.Prelude.{◌≡◌, ℕ, List, OnOk, IfOk, IfErr, IfSome, string_bytes};
 ghost use Rattle.text_commands.specs.Answers.{IsDeclined, IsUnanswered};
-ghost use Rattle.text_commands.specs.Judgings.{AreDecisions, HasStart, IsFormulaFault, IsFormulaText, IsJudgedText, IsJudgementOn, IsStartFault, IsUndecided, IsUnjudged, demands_of, details_of};
+ghost use Rattle.text_commands.specs.Judgings.{AreDecisions, HasStart, IsFormulaFault, IsFormulaText, IsJudgedText};
+ghost use Rattle.text_commands.specs.Judgings.{IsJudgementOn, IsStartFault, IsUndecided, IsUnjudged, demands_of};
+ghost use Rattle.text_commands.specs.Judgings.{details_of};
 ghost use Rattle.text_commands.specs.Serving.{Appends, IsAtEnd, IsReadFault, ServesTrace, faults_of, inner_of};
 ghost use Rattle.text_commands.specs.Texts.{IsUnreadWhole};
 ghost use Rattle.text_verdicts.specs.Texts.{OfTrace};
@@ -36,10 +38,13 @@ pub fn test_formula(alloc: Global, within: &str) -> Result<(), Fault>
 ///
 /// Refuses Read at the first fault, and Decisions for a text that is too large. Memory may come instead.
 pub fn read_decisions<R: Read>(alloc: Global, reader: &mut Counting<R>) -> Result<Vec<u8>, Fault>
-    ensures text { IfOk result (λ text. IfSome (R.remaining (inner_of reader.old)) (λ known. text.items ≡ known)) }
+    ensures text { IfOk result
+        (λ text. IfSome (R.remaining (inner_of reader.old)) (λ known. text.items ≡ known)) }
     ensures end { OnOk result (IsAtEnd (R.remaining (inner_of reader.new))) }
     ensures faultless { OnOk result (faults_of reader.new ≡ faults_of reader.old) }
-    ensures refused { IfErr result (IsUnreadWhole (Fault.Decisions DecisionsError.TooLarge) (R.remaining (inner_of reader.old))) }
+    ensures refused { IfErr result
+        (IsUnreadWhole (Fault.Decisions DecisionsError.TooLarge)
+        (R.remaining (inner_of reader.old))) }
     ensures read { IfErr result (IsReadFault (faults_of reader.old) (faults_of reader.new)) }
 {
     read_whole(alloc, reader, Fault::Decisions(DecisionsError::TooLarge))
@@ -65,8 +70,11 @@ pub fn run_judge<R: Read, W: Write>(
     reader: &mut Counting<R>,
     writer: &mut Counting<W>,
 ) -> Result<Verdict, Fault>
-    ensures served { ServesTrace (IsJudgedText judging.now decisions.now) (IsUnjudged judging.now decisions.now) R.remaining W.contents reader.old reader.new writer.old writer.new result }
-    ensures verdict { IfOk result (λ verdict. (text out : List ℕ) × IfSome (R.remaining (inner_of reader.old)) (λ known. text ≡ known)
+    ensures served { ServesTrace (IsJudgedText judging.now decisions.now)
+        (IsUnjudged judging.now decisions.now) R.remaining W.contents reader.old reader.new
+        writer.old writer.new result }
+    ensures verdict { IfOk result (λ verdict. (text out : List ℕ)
+        × IfSome (R.remaining (inner_of reader.old)) (λ known. text ≡ known)
         × OfTrace (IsJudgementOn judging.now decisions.now verdict out) text
         × Appends (W.contents (inner_of writer.old)) (W.contents (inner_of writer.new)) out) }
 {
@@ -86,7 +94,9 @@ pub fn judgement_on(
     text: &[u8],
     decisions: &[u8],
 ) -> Result<Judgement, Fault>
-    ensures verdict { IfOk result (λ told. OfTrace (IsJudgementOn judging.now decisions.now told.verdict (string_bytes told.text)) text.now) }
+    ensures verdict { IfOk result
+        (λ told. OfTrace (IsJudgementOn judging.now decisions.now told.verdict
+        (string_bytes told.text)) text.now) }
     ensures refused { IfErr result (IsUnanswered (IsUnjudged judging.now decisions.now) text.now) }
 {
     let trace = trace_of(alloc, text)?;
@@ -100,7 +110,9 @@ fn judgement_for(
     decisions: &[u8],
     trace: &Trace,
 ) -> Result<Judgement, Fault>
-    ensures verdict { IfOk result (λ told. IsJudgementOn judging.now decisions.now told.verdict (string_bytes told.text) trace.now) }
+    ensures verdict { IfOk result
+        (λ told. IsJudgementOn judging.now decisions.now told.verdict
+        (string_bytes told.text) trace.now) }
     ensures refused { IfErr result (IsDeclined (IsUnjudged judging.now decisions.now trace.now)) }
 {
     let set = set_of(judging.correct, trace)?;
@@ -118,8 +130,10 @@ fn decisions_for(
     text: &[u8],
     trace: &Trace,
 ) -> Result<Vec<Decision>, Fault>
-    ensures decisions { IfOk result (λ found. AreDecisions judging.now.replay text.now trace.now found.items) }
-    ensures refused { IfErr result (IsDeclined (IsUndecided judging.now.replay text.now trace.now)) }
+    ensures decisions { IfOk result
+        (λ found. AreDecisions judging.now.replay text.now trace.now found.items) }
+    ensures refused { IfErr result
+        (IsDeclined (IsUndecided judging.now.replay text.now trace.now)) }
 {
     if judging.replay {
         return replayed_decisions(alloc, trace);

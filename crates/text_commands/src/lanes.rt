@@ -18,7 +18,8 @@ pub(crate) fn lanes_for(
 ) -> Result<ProcSet, Fault>
     requires { count ≤ MAX_MEMBER }
     ensures lanes { IfOk result (AreLanesIn list.now (map (λ name. name.now) names.now) count) }
-    ensures refused { IfErr result (IsLanesFault list.now (map (λ name. name.now) names.now) count) }
+    ensures refused { IfErr result
+        (IsLanesFault list.now (map (λ name. name.now) names.now) count) }
 {
     let Some(list) = list else {
         return Ok(ProcSet::all_to(count));

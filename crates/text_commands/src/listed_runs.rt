@@ -1,9 +1,12 @@
 //! The runs of a list: how each of them is judged, and the line that is printed for it.
 
-ghost use Rattle.std.specs.Prelude.{◌≡◌, ◌≢◌, ◌++◌, ◌∷◌, [], IfErr, IfOk, IfNone, IfSome, OnOk, option_map, codes, decimal, string_bytes};
+ghost use Rattle.std.specs.Prelude.{◌≡◌, ◌≢◌, ◌++◌, ◌∷◌, [], IfErr, IfOk, IfNone, IfSome};
+ghost use Rattle.std.specs.Prelude.{OnOk, option_map, codes, decimal, string_bytes};
 ghost use Rattle.std.specs.Str.{IsUtf8};
 ghost use Rattle.command_faults.specs.FaultLines.{fault_line};
-ghost use Rattle.text_commands.specs.ListedRuns.{AreListed, IsListedCorrect, IsListedFault, IsListedJudging, IsNoCorrect, IsNoPath, IsUnlisted, one_line, start_of, told_run, unjudged_words};
+ghost use Rattle.text_commands.specs.ListedRuns.{AreListed, IsListedCorrect, IsListedFault, IsListedJudging};
+ghost use Rattle.text_commands.specs.ListedRuns.{IsNoCorrect, IsNoPath, IsUnlisted, one_line, start_of, told_run};
+ghost use Rattle.text_commands.specs.ListedRuns.{unjudged_words};
 ghost use Rattle.text_commands.specs.Serving.{IsAtEnd, IsReadFault, faults_of, inner_of};
 ghost use Rattle.text_commands.specs.Texts.{IsUnreadWhole};
 
@@ -22,10 +25,12 @@ use trace_text::records::number;
 ///
 /// Refuses Read at the first fault, and Runs with the first refusal of the text. Memory may come instead.
 pub fn read_runs<R: Read>(alloc: Global, reader: &mut Counting<R>) -> Result<Vec<ListedRun>, Fault>
-    ensures runs { IfOk result (λ runs. IfSome (R.remaining (inner_of reader.old)) (λ known. AreListed known runs.items)) }
+    ensures runs { IfOk result
+        (λ runs. IfSome (R.remaining (inner_of reader.old)) (λ known. AreListed known runs.items)) }
     ensures end { OnOk result (IsAtEnd (R.remaining (inner_of reader.new))) }
     ensures faultless { OnOk result (faults_of reader.new ≡ faults_of reader.old) }
-    ensures refused { IfErr result (λ why. IfSome (R.remaining (inner_of reader.old)) (λ known. IsUnlisted known why)) }
+    ensures refused { IfErr result
+        (λ why. IfSome (R.remaining (inner_of reader.old)) (λ known. IsUnlisted known why)) }
     ensures read { IfErr result (IsReadFault (faults_of reader.old) (faults_of reader.new)) }
 {
     let text = read_whole(alloc, reader, Fault::Runs(RunListError::TooLarge))?;

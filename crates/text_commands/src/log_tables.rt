@@ -18,10 +18,12 @@ use trace_text::Counting;
 ///
 /// Refuses Read at the first fault, and Table for a text that is too large. Memory may come instead.
 pub fn read_table<R: Read>(alloc: Global, reader: &mut Counting<R>) -> Result<Vec<u8>, Fault>
-    ensures text { IfOk result (λ text. IfSome (R.remaining (inner_of reader.old)) (λ known. text.items ≡ known)) }
+    ensures text { IfOk result
+        (λ text. IfSome (R.remaining (inner_of reader.old)) (λ known. text.items ≡ known)) }
     ensures end { OnOk result (IsAtEnd (R.remaining (inner_of reader.new))) }
     ensures faultless { OnOk result (faults_of reader.new ≡ faults_of reader.old) }
-    ensures refused { IfErr result (IsUnreadWhole (Fault.Table TableError.TooLarge) (R.remaining (inner_of reader.old))) }
+    ensures refused { IfErr result
+        (IsUnreadWhole (Fault.Table TableError.TooLarge) (R.remaining (inner_of reader.old))) }
     ensures read { IfErr result (IsReadFault (faults_of reader.old) (faults_of reader.new)) }
 {
     read_whole(alloc, reader, Fault::Table(TableError::TooLarge))
@@ -33,9 +35,11 @@ pub(crate) fn table_for(
     text: &Option<Vec<u8>>,
     trace: &Trace,
 ) -> Result<Option<StepTable>, Fault>
-    ensures told { IfOk result (λ table. table ≡ told_by (option_map (λ text. text.items) text.now) trace.now) }
+    ensures told { IfOk result
+        (λ table. table ≡ told_by (option_map (λ text. text.items) text.now) trace.now) }
     ensures table { OnOk result (HasTable (option_map (λ text. text.items) text.now) trace.now) }
-    ensures refused { IfErr result (IsTableFault (option_map (λ text. text.items) text.now) trace.now) }
+    ensures refused { IfErr result
+        (IsTableFault (option_map (λ text. text.items) text.now) trace.now) }
 {
     match text {
         Some(text) => Ok(Some(table_of_text(alloc, trace, text)?)),

@@ -14,7 +14,8 @@ pub(crate) fn names_for(
     count: u64,
 ) -> Result<Vec<&str>, Fault>
     ensures fit { OnOk result (are_names_in list.now count) }
-    ensures names { IfOk result (λ names. map (λ name. name.now) names.items ≡ names_of_list list.now) }
+    ensures names { IfOk result
+        (λ names. map (λ name. name.now) names.items ≡ names_of_list list.now) }
     ensures refused { IfErr result (λ why. IsNamesFault list.now count why) }
 {
     let Some(list) = list else {

@@ -13,7 +13,8 @@ use trace_text::record_writing::{number_text, record_writer, text_written, write
 
 /// The text of the replay that gave this World: for each processor its round and its decision.
 pub fn replay_text_of(alloc: Global, world: &World) -> Result<Vec<u8>, AllocError>
-    ensures { IfOk result (λ text. text.items ≡ replay_text world.now.trace.config world.now.trace.steps) }
+    ensures { IfOk result
+        (λ text. text.items ≡ replay_text world.now.trace.config world.now.trace.steps) }
 {
     let mut writer = record_writer(alloc);
     write_records(alloc, &mut writer, world)?;
@@ -50,7 +51,8 @@ fn write_processor(
     requires ready { IsReady writer.old }
     ensures ready { OnOk result (IsReady writer.new) }
     ensures text { OnOk result (written writer.new
-        ≡ written writer.old ++ record_line (processor_record world.now.trace.config world.now.trace.steps p)) }
+        ≡ written writer.old
+        ++ record_line (processor_record world.now.trace.config world.now.trace.steps p)) }
 {
     let proc = number_text(alloc, p)?;
     let round = number_text(alloc, world.round(p))?;

@@ -49,7 +49,8 @@ pub fn run_report<T: Threads + Wait + Sync, R: Read, W: Write, G: Gate>(
 ) -> Result<(), Fault>
     requires some { 1 ≤ workers }
     requires few { workers ≤ MAX_WORKERS }
-    ensures { ServesTrace (IsReportFor correct) (IsUnreported correct) R.remaining W.contents reader.old reader.new writer.old writer.new result }
+    ensures { ServesTrace (IsReportFor correct) (IsUnreported correct) R.remaining W.contents
+        reader.old reader.new writer.old writer.new result }
 {
     let trace = read_trace_from(rt, alloc, reader, workers)?;
     let report = report_of(rt, alloc, trace, correct, workers, gate)?;

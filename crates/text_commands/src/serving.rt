@@ -26,7 +26,8 @@ pub fn serve<A: Answer, R: Read, W: Write>(
     reader: &mut Counting<R>,
     writer: &mut Counting<W>,
 ) -> Result<(), Fault>
-    ensures { ServesTrace (A.Gives command.now) (A.Declines command.now) R.remaining W.contents reader.old reader.new writer.old writer.new result }
+    ensures { ServesTrace (A.Gives command.now) (A.Declines command.now) R.remaining W.contents
+        reader.old reader.new writer.old writer.new result }
 {
     let trace = read_trace_by_parts(alloc, reader)?;
     let out = answer_of(alloc, command, trace)?;

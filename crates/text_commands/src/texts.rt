@@ -19,7 +19,8 @@ pub(crate) fn read_whole<R: Read>(
     too_large: Fault,
 ) -> Result<Vec<u8>, Fault>
     requires { too_large ≢ Fault.Read }
-    ensures text { IfOk result (λ text. IfSome (R.remaining (inner_of reader.old)) (λ known. text.items ≡ known)) }
+    ensures text { IfOk result
+        (λ text. IfSome (R.remaining (inner_of reader.old)) (λ known. text.items ≡ known)) }
     ensures end { OnOk result (IsAtEnd (R.remaining (inner_of reader.new))) }
     ensures faultless { OnOk result (faults_of reader.new ≡ faults_of reader.old) }
     ensures refused { IfErr result (IsUnreadWhole too_large (R.remaining (inner_of reader.old))) }

@@ -2,7 +2,8 @@
 
 ghost use Rattle.std.specs.Prelude.{◌≡◌, ◌++◌, IfOk, decimal, string_bytes};
 ghost use Rattle.std.specs.Option.{option_map_or};
-ghost use Rattle.text_commands.specs.TickLines.{is_near, later_near, length_words, near_line, nearest, row_length, row_text, scaled_words, tick_notes, ticks_text};
+ghost use Rattle.text_commands.specs.TickLines.{is_near, later_near, length_words, near_line, nearest, row_length};
+ghost use Rattle.text_commands.specs.TickLines.{row_text, scaled_words, tick_notes, ticks_text};
 
 use event_log::{Placing, TickRow, TickTable, TimeKind};
 use std::alloc::{AllocError, Global};
@@ -46,7 +47,8 @@ fn length_in(kind: TimeKind, row: &TickRow) -> Length
 /// The note on the table: which length is the longest with which at most one in a hundred events moves by more than one
 /// tick.
 pub(crate) fn tick_notes(alloc: Global, table: &TickTable) -> Result<String, AllocError>
-    ensures { IfOk result (λ text. string_bytes text ≡ tick_notes table.now.kind table.now.rows.items) }
+    ensures { IfOk result
+        (λ text. string_bytes text ≡ tick_notes table.now.kind table.now.rows.items) }
 {
     near_line(alloc, table.kind, nearest(&table.rows))
 }
@@ -151,7 +153,8 @@ impl fmt::Display for PlacingLine {
     ghost use Rattle.std.specs.Prelude.{Some};
     ghost use Rattle.text_commands.specs.TickLines.{length_words, placing_line};
 
-    ghost output = { λ line. Some (placing_line (length_words line.length.width line.length.nanoseconds) line.placing) };
+    ghost output = { λ line.
+        Some (placing_line (length_words line.length.width line.length.nanoseconds) line.placing) };
 
     fn fmt<W: fmt::Write>(&self, f: &mut fmt::Formatter<W>) -> fmt::Result {
         writeln!(
@@ -170,7 +173,10 @@ impl fmt::Display for NearLine {
     ghost use Rattle.std.specs.Prelude.{Some, ◌++◌, ◌∷◌, [], codes};
     ghost use Rattle.text_commands.specs.TickLines.{length_words};
 
-    ghost output = { λ line. Some (codes "synchrony: --tick " ++ (length_words line.0.width line.0.nanoseconds ++ (codes " is the longest that moves at most 1 in 100 events by more than one tick" ++ 10 ∷ []))) };
+    ghost output = { λ line. Some (codes "synchrony: --tick "
+        ++ (length_words line.0.width line.0.nanoseconds
+        ++ (codes " is the longest that moves at most 1 in 100 events by more than one tick"
+        ++ 10 ∷ []))) };
 
     fn fmt<W: fmt::Write>(&self, f: &mut fmt::Formatter<W>) -> fmt::Result {
         writeln!(

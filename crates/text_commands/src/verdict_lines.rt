@@ -22,10 +22,13 @@ pub fn tell_verdict<W: Write>(
     verdict: Verdict,
     writer: &mut Counting<W>,
 ) -> Result<(), Fault>
-    ensures told { OnOk result (Appends (W.contents (inner_of writer.old)) (W.contents (inner_of writer.new)) (told_verdict verdict)) }
+    ensures told { OnOk result (Appends (W.contents (inner_of writer.old))
+        (W.contents (inner_of writer.new)) (told_verdict verdict)) }
     ensures flushed { OnOk result (IsTrue (is_flushed writer.new)) }
     ensures faultless { OnOk result (WasFaultless writer.old writer.new) }
-    ensures part { IfErr result (λ why. IsUntold why (told_verdict verdict) (W.contents (inner_of writer.old)) (W.contents (inner_of writer.new))) }
+    ensures part { IfErr result
+        (λ why. IsUntold why (told_verdict verdict) (W.contents (inner_of writer.old))
+        (W.contents (inner_of writer.new))) }
     ensures cause { IfErr result (IsWriteFault writer.old writer.new) }
 {
     let line = verdict_text(alloc, verdict)?;

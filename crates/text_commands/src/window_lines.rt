@@ -9,7 +9,8 @@ use std::fmt;
 
 /// How many events are outside a window, and how many received messages were sent outside it, if there are any.
 pub(crate) fn window_notes(alloc: Global, window: &LogWindow) -> Result<String, AllocError>
-    ensures { IfOk result (λ text. string_bytes text ≡ window_notes window.now.outside window.now.unsent) }
+    ensures { IfOk result
+        (λ text. string_bytes text ≡ window_notes window.now.outside window.now.unsent) }
 {
     let mut notes = OutsideLine(window.outside).to_string(alloc)?;
     let unsent = UnsentLine(window.unsent).to_string(alloc)?;

@@ -9,7 +9,8 @@ ghost use Rattle.event_log.specs.Options.{IsUntilIn};
 ghost use Rattle.log_windows.specs.LogWindows.{IsWindowOf};
 ghost use Rattle.text_commands.specs.Imports.{IsQuietFault, IsToldOfLogs};
 ghost use Rattle.text_commands.specs.Serving.{IsReadFault, Serves};
-ghost use Rattle.text_commands.specs.Windows.{AreTicksToldOf, IsNoStart, IsTableToldOf, IsTraceToldOf, IsToldOfWindow, IsUnreadWindow, IsUntoldOfWindow, IsWindowTold, IsWindowless};
+ghost use Rattle.text_commands.specs.Windows.{AreTicksToldOf, IsNoStart, IsTableToldOf, IsTraceToldOf, IsToldOfWindow};
+ghost use Rattle.text_commands.specs.Windows.{IsUnreadWindow, IsUntoldOfWindow, IsWindowTold, IsWindowless};
 
 use crate::import_lines::notes_text;
 use crate::imports::ImportTexts;
@@ -55,7 +56,8 @@ pub fn run_window<R: Read, W: Write, N: Write>(
     writer: &mut Counting<W>,
     notes: &mut Counting<N>,
 ) -> Result<(), Fault>
-    ensures served { Serves (IsWindowTold form options.now from (WentOut N.contents notes.old notes.new)) (IsWindowless form options.now from) IsToldOfLogs
+    ensures served { Serves (IsWindowTold form options.now from
+        (WentOut N.contents notes.old notes.new)) (IsWindowless form options.now from) IsToldOfLogs
         R.remaining W.contents reader.old reader.new writer.old writer.new result }
     ensures quiet { IfErr result (IsQuietFault notes.old notes.new) }
 {
@@ -72,10 +74,12 @@ fn window_from<R: Read>(
     from: LogEnd,
     reader: &mut Counting<R>,
 ) -> Result<LogWindow, Fault>
-    ensures window { IfOk result (IsWindowOf options.now.unit from options.now.until (R.remaining (inner_of reader.old))) }
+    ensures window { IfOk result
+        (IsWindowOf options.now.unit from options.now.until (R.remaining (inner_of reader.old))) }
     ensures end { OnOk result (IsAtEnd (R.remaining (inner_of reader.new))) }
     ensures faultless { OnOk result (faults_of reader.new ≡ faults_of reader.old) }
-    ensures refused { IfErr result (IsUnreadWindow options.now from (R.remaining (inner_of reader.old))) }
+    ensures refused { IfErr result
+        (IsUnreadWindow options.now from (R.remaining (inner_of reader.old))) }
     ensures read { IfErr result (IsReadFault (faults_of reader.old) (faults_of reader.new)) }
 {
     match read_window(alloc, reader, options.unit, from, options.until) {
@@ -92,7 +96,9 @@ fn texts_of(
     options: &Options,
     form: ImportForm,
 ) -> Result<ImportTexts, Fault>
-    ensures texts { IfOk result (λ texts. IsToldOfWindow form options.now (λ notes. string_bytes texts.notes ≡ notes) window.now texts.out.items) }
+    ensures texts { IfOk result
+        (λ texts. IsToldOfWindow form options.now (λ notes. string_bytes texts.notes ≡ notes)
+        window.now texts.out.items) }
     ensures refused { IfErr result (IsUntoldOfWindow form options.now window.now) }
 {
     match form {
@@ -104,7 +110,9 @@ fn texts_of(
 
 /// The text of the trace of a window, and the notes.
 fn trace_texts(alloc: Global, window: &LogWindow, options: &Options) -> Result<ImportTexts, Fault>
-    ensures texts { IfOk result (λ texts. IsTraceToldOf options.now (λ notes. string_bytes texts.notes ≡ notes) window.now texts.out.items) }
+    ensures texts { IfOk result
+        (λ texts. IsTraceToldOf options.now (λ notes. string_bytes texts.notes ≡ notes) window.now
+        texts.out.items) }
     ensures refused { IfErr result (IsUntoldOfWindow ImportForm.Trace options.now window.now) }
 {
     let import = window_import(alloc, window, options)?;
@@ -117,7 +125,9 @@ fn trace_texts(alloc: Global, window: &LogWindow, options: &Options) -> Result<I
 
 /// The table of the steps of a window, and the notes.
 fn table_texts(alloc: Global, window: &LogWindow, options: &Options) -> Result<ImportTexts, Fault>
-    ensures texts { IfOk result (λ texts. IsTableToldOf options.now (λ notes. string_bytes texts.notes ≡ notes) window.now texts.out.items) }
+    ensures texts { IfOk result
+        (λ texts. IsTableToldOf options.now (λ notes. string_bytes texts.notes ≡ notes) window.now
+        texts.out.items) }
     ensures refused { IfErr result (IsUntoldOfWindow ImportForm.Table options.now window.now) }
 {
     let LogTable { import, table } = window_table(alloc, window, options)?;
@@ -129,7 +139,9 @@ fn table_texts(alloc: Global, window: &LogWindow, options: &Options) -> Result<I
 
 /// The table of the lengths of a tick for a window, and the notes.
 fn tick_texts(alloc: Global, window: &LogWindow, options: &Options) -> Result<ImportTexts, Fault>
-    ensures texts { IfOk result (λ texts. AreTicksToldOf options.now (λ notes. string_bytes texts.notes ≡ notes) window.now texts.out.items) }
+    ensures texts { IfOk result
+        (λ texts. AreTicksToldOf options.now (λ notes. string_bytes texts.notes ≡ notes) window.now
+        texts.out.items) }
     ensures refused { IfErr result (IsUntoldOfWindow ImportForm.Ticks options.now window.now) }
 {
     let table = window_ticks(alloc, window, options)?;

@@ -1,5 +1,6 @@
 -- What is kept of the text of a certificate, record by record, for a trace with this last tick.
-use Rattle.std.specs.Prelude.{ℕ, ◌≡◌, ◌<◌, ◌≤◌, ◌+◌, ◌^◌, List, [], ◌++◌, length, Option, Some, None, Result, Ok, Err, Bool, false, ◌||◌, nat_le, if◌then◌else◌, is_ok, ⊤}
+use Rattle.std.specs.Prelude.{ℕ, ◌≡◌, ◌<◌, ◌≤◌, ◌+◌, ◌^◌, List, [], ◌++◌, length, Option, Some, None}
+use Rattle.std.specs.Prelude.{Result, Ok, Err, Bool, false, ◌||◌, nat_le, if◌then◌else◌, is_ok, ⊤}
 use Rattle.std.proofs.Common.{refl}
 use Rattle.step_trace.specs.declared.rows.Row.{Row}
 use Rattle.trace_text.specs.declared.byte_loops.TheConstants.{MAX_TEXT_BYTES}
@@ -43,9 +44,11 @@ row_keeps (Some kept) fields = nat_le (2 ^ 64) (count_of kept + 1) || is_ok (row
 abbrev pub keeps_claimed : Certificate → List (List ℕ) → Bool
 keeps_claimed c fields = row_keeps c.rows fields
 
-after-long : (last : ℕ) (rows : Option ClaimedRows) (front : List (List ℕ)) → MAX_FIELDS < length front → (e : ReportError) × ((more : List (List ℕ)) → kept_after last rows (front ++ more) ≡ Err e)
+after-long : (last : ℕ) (rows : Option ClaimedRows) (front : List (List ℕ)) → MAX_FIELDS < length front
+    → (e : ReportError) × ((more : List (List ℕ)) → kept_after last rows (front ++ more) ≡ Err e)
 after-long last None front long = (BadHeader, λ more. (let other = not_eight front more long in rw other refl))
-after-long last (Some kept) front long = (BadFields (count_of kept + 1), λ more. (let other = not_eight front more long in rw other refl))
+after-long last (Some kept) front long =
+    (BadFields (count_of kept + 1), λ more. (let other = not_eight front more long in rw other refl))
 
 -- a record of too many fields is refused as soon as it has them
 pub refuses_long : RefusesLong next_claimed

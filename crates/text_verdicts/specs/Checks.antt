@@ -33,4 +33,5 @@ IsVerdictOn correct until certificate v t = IsCutFor correct until (IsJudged (na
 
 -- nothing is wrong with the trace, the correct processors and the tick; but the certificate is refused for this reason
 abbrev pub IsUncertified : Correct → Option ℕ → List ℕ → ReportError → Recorded → Type 0
-IsUncertified correct until certificate reason t = IsCutFor correct until (λ reported. rows_of_text certificate ≡ Err reason) t
+IsUncertified correct until certificate reason t =
+    IsCutFor correct until (λ reported. rows_of_text certificate ≡ Err reason) t

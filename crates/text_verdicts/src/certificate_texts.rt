@@ -5,7 +5,8 @@ ghost use Rattle.csv.specs.Records.{fields_of};
 ghost use Rattle.certificate_checker.specs.Claims.{count_of};
 ghost use Rattle.trace_text.specs.Records.{ReachesUnless, WantsOnlyWhere, records_of_text};
 ghost use Rattle.front.specs.ReportRefusals.{Gives, is_memory, row_of, rows_of_records};
-ghost use Rattle.text_verdicts.specs.CertificateTexts.{IsKeptOf, IsRefusalOf, keeps_claimed, kept_at_end, kept_of, kept_with, next_claimed, refuses_long, row_keeps};
+ghost use Rattle.text_verdicts.specs.CertificateTexts.{IsKeptOf, IsRefusalOf, keeps_claimed, kept_at_end, kept_of};
+ghost use Rattle.text_verdicts.specs.CertificateTexts.{kept_with, next_claimed, refuses_long, row_keeps};
 
 use certificate_checker::ClaimedRows;
 use csv::ByteRecord;
@@ -43,7 +44,8 @@ pub fn certificate_of_text(
 
 /// What is kept of the rows of a text.
 fn claimed_in(alloc: Global, text: &[u8], last: u64) -> Result<ClaimedRows, ReportError>
-    ensures { Gives (λ kept. kept) result (kept_of last (rows_of_records (records_of_text text.now))) }
+    ensures { Gives (λ kept. kept) result
+        (kept_of last (rows_of_records (records_of_text text.now))) }
 {
     let mut certificate = Certificate { last, rows: None };
     read_records(alloc, text, &mut certificate)?;
@@ -97,7 +99,8 @@ fn with_record(
     last: u64,
     fields: &ByteRecord,
 ) -> Result<ClaimedRows, ReportError>
-    ensures row { Gives (λ more. more) result (kept_with last rows (row_of (count_of rows + 1) (fields_of fields.now))) }
+    ensures row { Gives (λ more. more) result
+        (kept_with last rows (row_of (count_of rows + 1) (fields_of fields.now))) }
     ensures more { WantsOnlyWhere is_memory result (row_keeps (Some rows) (fields_of fields.now)) }
 {
     let Some(no) = rows.count().checked_add(1) else {

@@ -70,7 +70,9 @@ zero-each (suc n) zero = refl
 zero-each (suc n) (suc i) = zero-each n i
 
 -- before the first event is placed
-pub walked-start : (events : List Event) (heads met waits ranks awake : List ℕ) → AreFirsts events heads → met ≡ replicate MAX_PROCESSORS 0 → waits ≡ replicate MAX_PROCESSORS 0 → ranks ≡ replicate (length events) 0 → awake ≡ range_with_len 0 MAX_PROCESSORS → IsWalked events heads met waits ranks [] awake
+pub walked-start : (events : List Event) (heads met waits ranks awake : List ℕ) → AreFirsts events heads
+    → met ≡ replicate MAX_PROCESSORS 0 → waits ≡ replicate MAX_PROCESSORS 0 → ranks ≡ replicate (length events) 0
+    → awake ≡ range_with_len 0 MAX_PROCESSORS → IsWalked events heads met waits ranks [] awake
 walked-start events heads met waits ranks awake f e1 e2 e3 e4 = record {
   wide = (f.wide, ap length e1 ∙ length-replicate {A = ℕ} MAX_PROCESSORS 0, ap length e2 ∙ length-replicate {A = ℕ} MAX_PROCESSORS 0);
   long = ap length e3 ∙ length-replicate {A = ℕ} (length events) 0;
@@ -81,7 +83,14 @@ walked-start events heads met waits ranks awake f e1 e2 e3 e4 = record {
   next = λ i l z. f.first i l;
   head = λ p l b. (f.own p l b, none (slice_index heads p));
   known = λ p l b a s k m i. absurd (let z = ap (λ xs. slice_index xs p) e1 ∙ zero-each MAX_PROCESSORS p in omega arith);
-  asleep = λ p l b. inl (record { k = p; within = (let n = ap length e4 ∙ length-range_with_len 0 MAX_PROCESSORS in omega arith); at = (let x = ap (λ xs. slice_index xs p) e4 ∙ get_or-range_with_len 0 MAX_PROCESSORS p 0 l in omega arith) });
+  asleep = λ p l b.
+      inl
+      (record {
+        k = p;
+        within = (let n = ap length e4 ∙ length-range_with_len 0 MAX_PROCESSORS in omega arith);
+        at =
+            (let x = ap (λ xs. slice_index xs p) e4 ∙ get_or-range_with_len 0 MAX_PROCESSORS p 0 l in omega arith);
+      });
   inside = λ k l. (
       let n = ap length e4 ∙ length-range_with_len 0 MAX_PROCESSORS in
       let x = ap (λ xs. slice_index xs k) e4 ∙ get_or-range_with_len 0 MAX_PROCESSORS k 0 (omega arith) in
@@ -129,14 +138,24 @@ module _ (events : List Event) (heads met waits ranks order awake : List ℕ) (p
     inside = inside-less MAX_PROCESSORS p awake w.inside;
   } where
     known : (q : ℕ) → q < MAX_PROCESSORS → slice_index heads q < length events → (q ≡ p) ⊎ ¬ (q ≡ p) → AreMet events ranks (slice_index heads q) (slice_index (set met p m) q)
-    known q l b (inl e) = subst (λ r. AreMet events ranks (slice_index heads r) (slice_index (set met p m) r)) (sym e) (subst (λ x. AreMet events ranks (slice_index heads p) x) (sym (get_or-set_same met p m 0 (let a = w.wide.1 in omega arith))) k)
+    known q l b (inl e) = subst (λ r. AreMet events ranks (slice_index heads r) (slice_index (set met p m) r)) (sym e)
+        (subst (λ x. AreMet events ranks (slice_index heads p) x)
+        (sym (get_or-set_same met p m 0 (let a = w.wide.1 in omega arith))) k)
     known q l b (inr n) = subst (λ x. AreMet events ranks (slice_index heads q) x) (sym (get_or-set_other met p q m 0 n)) (w.known q l b)
 
     asleep : (q : ℕ) → q < MAX_PROCESSORS → slice_index heads q < length events → (q ≡ p) ⊎ ¬ (q ≡ p) → IsIn q awake ⊎ IsWaiting events ranks (slice_index heads q) (slice_index (set waits p s) q)
-    asleep q l b (inl e) = inr (subst (λ r. IsWaiting events ranks (slice_index heads r) (slice_index (set waits p s) r)) (sym e) (subst (λ x. IsWaiting events ranks (slice_index heads p) x) (sym (get_or-set_same waits p s 0 (let a = w.wide.2 in omega arith))) i))
+    asleep q l b (inl e) = inr
+        (subst (λ r. IsWaiting events ranks (slice_index heads r) (slice_index (set waits p s) r)) (sym e)
+        (subst (λ x. IsWaiting events ranks (slice_index heads p) x)
+        (sym (get_or-set_same waits p s 0 (let a = w.wide.2 in omega arith))) i))
     asleep q l b (inr n) = subst (λ x. IsIn q awake ⊎ IsWaiting events ranks (slice_index heads q) x) (sym (get_or-set_other waits p q s 0 n)) (still q n b l)
 
-  module _ (nexts now : List ℕ) (x : AreNexts events nexts) (b : slice_index heads p < length events) (sent : (s : ℕ) → IsSentTo events (slice_index heads p) s → 0 < slice_index ranks s) (kept : (q : ℕ) → IsIn q (awake ++ p ∷ []) → IsIn q now) (woken : (q : ℕ) → q < MAX_PROCESSORS → slice_index heads q < length events → IsWaiting events ranks (slice_index heads q) (slice_index waits q) → slice_index waits q ≡ slice_index heads p → IsIn q now) (inside : (k : ℕ) → k < length now → slice_index now k < MAX_PROCESSORS) where
+  module _ (nexts now : List ℕ) (x : AreNexts events nexts) (b : slice_index heads p < length events)
+      (sent : (s : ℕ) → IsSentTo events (slice_index heads p) s → 0 < slice_index ranks s)
+      (kept : (q : ℕ) → IsIn q (awake ++ p ∷ []) → IsIn q now) (woken : (q : ℕ) → q < MAX_PROCESSORS
+      → slice_index heads q < length events → IsWaiting events ranks (slice_index heads q) (slice_index waits q)
+      → slice_index waits q ≡ slice_index heads p → IsIn q now) (inside : (k : ℕ) → k < length now
+      → slice_index now k < MAX_PROCESSORS) where
     abbrev h : ℕ
     h = slice_index heads p
 
@@ -176,7 +195,9 @@ module _ (events : List Event) (heads met waits ranks order awake : List ℕ) (p
     rank-kept : (i : ℕ) → 0 < slice_index ranks i → 0 < slice_index (set ranks h (length order + 1)) i
     rank-kept i l = let e = same-rank i (placed-other i l) in omega arith
 
-    placed : (k : ℕ) → (k < length order) ⊎ (length order ≤ k) → k < length (order ++ h ∷ []) → (slice_index (order ++ h ∷ []) k < length events) × (slice_index (set ranks h (length order + 1)) (slice_index (order ++ h ∷ []) k) ≡ k + 1)
+    placed : (k : ℕ) → (k < length order) ⊎ (length order ≤ k) → k < length (order ++ h ∷ [])
+        → (slice_index (order ++ h ∷ []) k < length events)
+        × (slice_index (set ranks h (length order + 1)) (slice_index (order ++ h ∷ []) k) ≡ k + 1)
     placed k (inl below) l =
         let e = push-other order h k below in
         let r = w.placed k below in
@@ -192,7 +213,9 @@ module _ (events : List Event) (heads met waits ranks order awake : List ℕ) (p
         let s = ap (slice_index (set ranks h (length order + 1))) e in
         (omega arith, s ∙ new-rank ∙ ap (λ n. n + 1) (sym c))
 
-    ranked : (i : ℕ) → (i ≡ h) ⊎ ¬ (i ≡ h) → 0 < slice_index (set ranks h (length order + 1)) i → (slice_index (set ranks h (length order + 1)) i ≤ length (order ++ h ∷ [])) × (slice_index (order ++ h ∷ []) (slice_index (set ranks h (length order + 1)) i - 1) ≡ i)
+    ranked : (i : ℕ) → (i ≡ h) ⊎ ¬ (i ≡ h) → 0 < slice_index (set ranks h (length order + 1)) i
+        → (slice_index (set ranks h (length order + 1)) i ≤ length (order ++ h ∷ []))
+        × (slice_index (order ++ h ∷ []) (slice_index (set ranks h (length order + 1)) i - 1) ≡ i)
     ranked i (inl e) l =
         let n = length_push order h in
         let r = ap (slice_index (set ranks h (length order + 1))) e ∙ new-rank in
@@ -206,7 +229,9 @@ module _ (events : List Event) (heads met waits ranks order awake : List ℕ) (p
         let c : slice_index (set ranks h (length order + 1)) i - 1 ≡ slice_index ranks i - 1 = omega arith in
         (omega arith, ap (slice_index (order ++ h ∷ [])) c ∙ push-other order h (slice_index ranks i - 1) (omega arith) ∙ r.1)
 
-    after : (i j : ℕ) → (i ≡ h) ⊎ ¬ (i ≡ h) → 0 < slice_index (set ranks h (length order + 1)) i → IsCause events i j → (0 < slice_index (set ranks h (length order + 1)) j) × (slice_index (set ranks h (length order + 1)) j < slice_index (set ranks h (length order + 1)) i)
+    after : (i j : ℕ) → (i ≡ h) ⊎ ¬ (i ≡ h) → 0 < slice_index (set ranks h (length order + 1)) i → IsCause events i j
+        → (0 < slice_index (set ranks h (length order + 1)) j)
+        × (slice_index (set ranks h (length order + 1)) j < slice_index (set ranks h (length order + 1)) i)
     after i j (inl e) l c =
         let a = cause-placed j (subst (λ k. IsCause events k j) e c) in
         let s = same-rank j (placed-other j a) in
@@ -232,7 +257,10 @@ module _ (events : List Event) (heads met waits ranks order awake : List ℕ) (p
     next-own i l n (inl e) = absurd (n e)
     next-own i l n (inr o) = x.first h i l o
 
-    next : (i : ℕ) → i < length events → ¬ (i ≡ h) → slice_index ranks i ≡ 0 → (index_at events i ≡ p) ⊎ ¬ (index_at events i ≡ p) → (slice_index (set heads p (slice_index nexts h)) (index_at events i) < length events) × IsFrom events (slice_index (set heads p (slice_index nexts h)) (index_at events i)) i
+    next : (i : ℕ) → i < length events → ¬ (i ≡ h) → slice_index ranks i ≡ 0
+        → (index_at events i ≡ p) ⊎ ¬ (index_at events i ≡ p)
+        → (slice_index (set heads p (slice_index nexts h)) (index_at events i) < length events)
+        × IsFrom events (slice_index (set heads p (slice_index nexts h)) (index_at events i)) i
     next i l n z (inl e) =
         let f = subst (λ q. IsFrom events (slice_index heads q) i) e (w.next i l z).1 in
         let s : slice_index (set heads p (slice_index nexts h)) (index_at events i) ≡ slice_index nexts h = ap (slice_index (set heads p (slice_index nexts h))) e ∙ new-head in
@@ -254,7 +282,10 @@ module _ (events : List Event) (heads met waits ranks order awake : List ℕ) (p
       go (inl z) = z
       go (inr n) = let a = (w.after j h (omega arith) (inl o)).0 in let u = unplaced in absurd (omega arith)
 
-    head : (q : ℕ) → q < MAX_PROCESSORS → (q ≡ p) ⊎ ¬ (q ≡ p) → slice_index (set heads p (slice_index nexts h)) q < length events → (index_at events (slice_index (set heads p (slice_index nexts h)) q) ≡ q) × (slice_index (set ranks h (length order + 1)) (slice_index (set heads p (slice_index nexts h)) q) ≡ 0)
+    head : (q : ℕ) → q < MAX_PROCESSORS → (q ≡ p) ⊎ ¬ (q ≡ p)
+        → slice_index (set heads p (slice_index nexts h)) q < length events
+        → (index_at events (slice_index (set heads p (slice_index nexts h)) q) ≡ q)
+        × (slice_index (set ranks h (length order + 1)) (slice_index (set heads p (slice_index nexts h)) q) ≡ 0)
     head q l (inl e) a =
         let s : slice_index (set heads p (slice_index nexts h)) q ≡ slice_index nexts h = ap (slice_index (set heads p (slice_index nexts h))) e ∙ new-head in
         let o = x.own h b (omega arith) in
@@ -265,24 +296,36 @@ module _ (events : List Event) (heads met waits ranks order awake : List ℕ) (p
         let d : ¬ (slice_index heads q ≡ h) = (λ e. n (sym r.0 ∙ ap (index_at events) e ∙ index-h)) in
         subst (λ k. (index_at events k ≡ q) × (slice_index (set ranks h (length order + 1)) k ≡ 0)) (sym s) (r.0, same-rank (slice_index heads q) d ∙ r.1)
 
-    known : (q : ℕ) → q < MAX_PROCESSORS → (q ≡ p) ⊎ ¬ (q ≡ p) → slice_index (set heads p (slice_index nexts h)) q < length events → AreMet events (set ranks h (length order + 1)) (slice_index (set heads p (slice_index nexts h)) q) (slice_index (set met p 0) q)
+    known : (q : ℕ) → q < MAX_PROCESSORS → (q ≡ p) ⊎ ¬ (q ≡ p)
+        → slice_index (set heads p (slice_index nexts h)) q < length events
+        → AreMet events (set ranks h (length order + 1)) (slice_index (set heads p (slice_index nexts h)) q)
+        (slice_index (set met p 0) q)
     known q l (inl e) a k s below at i = absurd (let z = ap (slice_index (set met p 0)) e ∙ get_or-set_same met p 0 0 (let n = w.wide.1 in omega arith) in omega arith)
     known q l (inr n) a k s below at i =
         let m = get_or-set_other met p q 0 0 n in
         let g = same-head q n in
         rank-kept s (w.known q l (omega arith) k s (omega arith) (subst (λ j. slice_index_or (messages_at events j) k None ≡ Some s) g at) i)
 
-    asleep : (q : ℕ) → q < MAX_PROCESSORS → (q ≡ p) ⊎ ¬ (q ≡ p) → slice_index (set heads p (slice_index nexts h)) q < length events → IsIn q now ⊎ IsWaiting events (set ranks h (length order + 1)) (slice_index (set heads p (slice_index nexts h)) q) (slice_index waits q)
+    asleep : (q : ℕ) → q < MAX_PROCESSORS → (q ≡ p) ⊎ ¬ (q ≡ p)
+        → slice_index (set heads p (slice_index nexts h)) q < length events
+        → IsIn q now ⊎ IsWaiting events (set ranks h (length order + 1))
+        (slice_index (set heads p (slice_index nexts h)) q) (slice_index waits q)
     asleep q l (inl e) a = inl (kept q (subst (λ r. IsIn r (awake ++ p ∷ [])) (sym e) (in-last p awake)))
     asleep q l (inr n) a = go (still q n here l) where
       here : slice_index heads q < length events
       here = let g = same-head q n in omega arith
 
-      wait : IsWaiting events ranks (slice_index heads q) (slice_index waits q) → (slice_index waits q ≡ h) ⊎ ¬ (slice_index waits q ≡ h) → IsIn q now ⊎ IsWaiting events (set ranks h (length order + 1)) (slice_index (set heads p (slice_index nexts h)) q) (slice_index waits q)
+      wait : IsWaiting events ranks (slice_index heads q) (slice_index waits q)
+          → (slice_index waits q ≡ h) ⊎ ¬ (slice_index waits q ≡ h)
+          → IsIn q now ⊎ IsWaiting events (set ranks h (length order + 1))
+          (slice_index (set heads p (slice_index nexts h)) q) (slice_index waits q)
       wait i (inl e) = inl (woken q l here i e)
-      wait i (inr d) = inr (subst (λ k. IsWaiting events (set ranks h (length order + 1)) k (slice_index waits q)) (sym (same-head q n)) (record { sent = i.sent; unplaced = same-rank (slice_index waits q) d ∙ i.unplaced }))
+      wait i (inr d) = inr (subst (λ k. IsWaiting events (set ranks h (length order + 1)) k (slice_index waits q))
+          (sym (same-head q n)) (record { sent = i.sent; unplaced = same-rank (slice_index waits q) d ∙ i.unplaced }))
 
-      go : IsIn q awake ⊎ IsWaiting events ranks (slice_index heads q) (slice_index waits q) → IsIn q now ⊎ IsWaiting events (set ranks h (length order + 1)) (slice_index (set heads p (slice_index nexts h)) q) (slice_index waits q)
+      go : IsIn q awake ⊎ IsWaiting events ranks (slice_index heads q) (slice_index waits q)
+          → IsIn q now ⊎ IsWaiting events (set ranks h (length order + 1))
+          (slice_index (set heads p (slice_index nexts h)) q) (slice_index waits q)
       go (inl i) = inl (kept q (in-more q p awake i))
       go (inr i) = wait i (cases_eq (slice_index waits q) h)
 
@@ -303,7 +346,8 @@ module _ (events : List Event) (heads met waits ranks order awake : List ℕ) (p
     }
 
 -- if nobody is awake, each event that isn't placed has a cause that isn't
-pub walked-stuck : (events : List Event) (heads met waits ranks order awake : List ℕ) → AreOfProcessors events → length awake ≡ 0 → IsWalked events heads met waits ranks order awake → AreStuck events ranks
+pub walked-stuck : (events : List Event) (heads met waits ranks order awake : List ℕ) → AreOfProcessors events
+    → length awake ≡ 0 → IsWalked events heads met waits ranks order awake → AreStuck events ranks
 walked-stuck events heads met waits ranks order awake o none w i l z = go (w.next i l z).1 where
   p : index_at events i < MAX_PROCESSORS
   p = let a = (o i l).0 in let b = (o i l).1 in omega arith
@@ -311,7 +355,9 @@ walked-stuck events heads met waits ranks order awake o none w i l z = go (w.nex
   within : slice_index heads (index_at events i) < length events
   within = (w.next i l z).0
 
-  wait : i ≡ slice_index heads (index_at events i) → IsIn (index_at events i) awake ⊎ IsWaiting events ranks (slice_index heads (index_at events i)) (slice_index waits (index_at events i)) → (j : ℕ) × IsCause events i j × (slice_index ranks j ≡ 0)
+  wait : i ≡ slice_index heads (index_at events i) → IsIn (index_at events i) awake
+      ⊎ IsWaiting events ranks (slice_index heads (index_at events i)) (slice_index waits (index_at events i))
+      → (j : ℕ) × IsCause events i j × (slice_index ranks j ≡ 0)
   wait e (inl n) = absurd (let b = n.within in omega arith)
   wait e (inr h) = (slice_index waits (index_at events i), inr (subst (λ k. IsSentTo events k (slice_index waits (index_at events i))) (sym e) h.sent), h.unplaced)
 
@@ -324,21 +370,26 @@ pub messages-read : (events : List Event) (i : ℕ) (e : Event) (ms : List (Opti
 messages-read events i e ms l h g = g ∙ ap (λ x. received_in x.act) (sym h) ∙ sym (ap (λ o. option_map_or (λ x. received_in x.act) o []) (slice_get_read events (length events) i e refl l h))
 
 -- a message whose Send isn't placed is waited for
-pub waits-here : (events : List Event) (ranks : List ℕ) (i k s : ℕ) (ms : List (Option ℕ)) → ms ≡ messages_at events i → k < length ms → slice_index_or ms k None ≡ Some s → s < length events → slice_index ranks s ≡ 0 → IsWaiting events ranks i s
+pub waits-here : (events : List Event) (ranks : List ℕ) (i k s : ℕ) (ms : List (Option ℕ)) → ms ≡ messages_at events i
+    → k < length ms → slice_index_or ms k None ≡ Some s → s < length events → slice_index ranks s ≡ 0
+    → IsWaiting events ranks i s
 waits-here events ranks i k s ms m l at b z = record {
   sent = record { inside = b; taken = subst (λ xs. list_any (is_message s) xs ≡ true) m (names-message ms k s l at) };
   unplaced = z;
 }
 
 -- one message more is met
-pub met-more : (events : List Event) (ranks : List ℕ) (i k : ℕ) (ms : List (Option ℕ)) → ms ≡ messages_at events i → ((s : ℕ) → slice_index_or ms k None ≡ Some s → s < length events → 0 < slice_index ranks s) → AreMet events ranks i k → AreMet events ranks i (k + 1)
+pub met-more : (events : List Event) (ranks : List ℕ) (i k : ℕ) (ms : List (Option ℕ)) → ms ≡ messages_at events i
+    → ((s : ℕ) → slice_index_or ms k None ≡ Some s → s < length events → 0 < slice_index ranks s)
+    → AreMet events ranks i k → AreMet events ranks i (k + 1)
 met-more events ranks i k ms m here h a s b at l = go (cases_lt a k) where
   go : (a < k) ⊎ (k ≤ a) → 0 < slice_index ranks s
   go (inl below) = h a s below at l
   go (inr above) = let e : a ≡ k = omega arith in here s (subst (λ x. slice_index_or ms x None ≡ Some s) e (subst (λ xs. slice_index_or xs a None ≡ Some s) (sym m) at)) l
 
 -- all are
-pub met-all : (events : List Event) (ranks : List ℕ) (i k : ℕ) (ms : List (Option ℕ)) → ms ≡ messages_at events i → length ms ≤ k → AreMet events ranks i k → (s : ℕ) → IsSentTo events i s → 0 < slice_index ranks s
+pub met-all : (events : List Event) (ranks : List ℕ) (i k : ℕ) (ms : List (Option ℕ)) → ms ≡ messages_at events i
+    → length ms ≤ k → AreMet events ranks i k → (s : ℕ) → IsSentTo events i s → 0 < slice_index ranks s
 met-all events ranks i k ms m l h s t =
     let f = named-at (messages_at events i) s t.taken in
     let n = ap length m in
@@ -351,24 +402,43 @@ met-read events ranks read i j k m e f g h = subst (λ xs. AreMet events xs j m)
 pub waiting-read : (events : List Event) (ranks read : List ℕ) (i j s : ℕ) → read ≡ ranks → j ≡ i → IsWaiting events read j s → IsWaiting events ranks i s
 waiting-read events ranks read i j s e f h = subst (λ xs. IsWaiting events xs i s) e (subst (λ x. IsWaiting events read x s) f h)
 
-pub sent-read : (events : List Event) (ranks read : List ℕ) (i j : ℕ) → read ≡ ranks → j ≡ i → ((s : ℕ) → IsSentTo events j s → 0 < slice_index read s) → (s : ℕ) → IsSentTo events i s → 0 < slice_index ranks s
+pub sent-read : (events : List Event) (ranks read : List ℕ) (i j : ℕ) → read ≡ ranks → j ≡ i
+    → ((s : ℕ) → IsSentTo events j s → 0 < slice_index read s) → (s : ℕ) → IsSentTo events i s → 0 < slice_index ranks s
 sent-read events ranks read i j e f h = subst (λ xs. (s : ℕ) → IsSentTo events i s → 0 < slice_index xs s) e (subst (λ x. (s : ℕ) → IsSentTo events x s → 0 < slice_index read s) f h)
 
 -- a processor that waits for a message is the one to whom it was sent
-pub waiting-for : (events : List Event) (heads waits ranks : List ℕ) (q h : ℕ) → AreOfProcessors events → AreRightlyReceived events → index_at events (slice_index heads q) ≡ q → slice_index heads q < length events → IsWaiting events ranks (slice_index heads q) (slice_index waits q) → slice_index waits q ≡ h → is_for events h (q + 1) ≡ true
+pub waiting-for : (events : List Event) (heads waits ranks : List ℕ) (q h : ℕ) → AreOfProcessors events
+    → AreRightlyReceived events → index_at events (slice_index heads q) ≡ q → slice_index heads q < length events
+    → IsWaiting events ranks (slice_index heads q) (slice_index waits q) → slice_index waits q ≡ h
+    → is_for events h (q + 1) ≡ true
 waiting-for events heads waits ranks q h o r own b w e =
     let a = (o (slice_index heads q) b).0 in
     let p : processor_at events (slice_index heads q) ≡ q + 1 = omega arith in
     subst (λ x. is_for events x (q + 1) ≡ true) e (subst (λ x. is_for events (slice_index waits q) x ≡ true) p (r (slice_index heads q) (slice_index waits q) b w.sent))
 
 -- one event more, as the code places it
-pub placed-read : (events : List Event) (heads met waits ranks order awake nexts now grown : List ℕ) (p head rank : ℕ) → p < MAX_PROCESSORS → IsWalked events heads met waits ranks order (awake ++ p ∷ []) → AreNexts events nexts → slice_index heads p < length events → ((s : ℕ) → IsSentTo events (slice_index heads p) s → 0 < slice_index ranks s) → ((q : ℕ) → IsIn q (awake ++ p ∷ []) → IsIn q now)
-    → ((q : ℕ) → q < MAX_PROCESSORS → slice_index heads q < length events → IsWaiting events ranks (slice_index heads q) (slice_index waits q) → slice_index waits q ≡ slice_index heads p → IsIn q now) → ((k : ℕ) → k < length now → slice_index now k < MAX_PROCESSORS) → head ≡ slice_index heads p → rank ≡ length order + 1 → grown ≡ order ++ head ∷ []
+pub placed-read : (events : List Event) (heads met waits ranks order awake nexts now grown : List ℕ) (p head rank : ℕ)
+    → p < MAX_PROCESSORS → IsWalked events heads met waits ranks order (awake ++ p ∷ []) → AreNexts events nexts
+    → slice_index heads p < length events
+    → ((s : ℕ) → IsSentTo events (slice_index heads p) s → 0 < slice_index ranks s)
+    → ((q : ℕ) → IsIn q (awake ++ p ∷ []) → IsIn q now)
+    → ((q : ℕ) → q < MAX_PROCESSORS → slice_index heads q < length events
+    → IsWaiting events ranks (slice_index heads q) (slice_index waits q) → slice_index waits q ≡ slice_index heads p
+    → IsIn q now) → ((k : ℕ) → k < length now → slice_index now k < MAX_PROCESSORS) → head ≡ slice_index heads p
+    → rank ≡ length order + 1 → grown ≡ order ++ head ∷ []
     → IsWalked events (set heads p (slice_index nexts head)) (set met p 0) waits (set ranks head rank) grown now
-placed-read events heads met waits ranks order awake nexts now grown p head rank lp w x b sent kept woken inside e f g = subst (λ o. IsWalked events (set heads p (slice_index nexts head)) (set met p 0) waits (set ranks head rank) o now) (sym g) (subst (λ r. IsWalked events (set heads p (slice_index nexts head)) (set met p 0) waits (set ranks head r) (order ++ head ∷ []) now) (sym f) (subst (λ i. IsWalked events (set heads p (slice_index nexts i)) (set met p 0) waits (set ranks i (length order + 1)) (order ++ i ∷ []) now) (sym e) (walked-placed events heads met waits ranks order awake p lp w nexts now x b sent kept woken inside)))
+placed-read events heads met waits ranks order awake nexts now grown p head rank lp w x b sent kept woken inside e f g =
+    subst (λ o. IsWalked events (set heads p (slice_index nexts head)) (set met p 0) waits (set ranks head rank) o now)
+    (sym g)
+    (subst (λ r. IsWalked events (set heads p (slice_index nexts head)) (set met p 0) waits (set ranks head r)
+    (order ++ head ∷ []) now) (sym f)
+    (subst (λ i. IsWalked events (set heads p (slice_index nexts i)) (set met p 0) waits
+    (set ranks i (length order + 1)) (order ++ i ∷ []) now) (sym e)
+    (walked-placed events heads met waits ranks order awake p lp w nexts now x b sent kept woken inside)))
 
 -- less is left to do
-pub placed-less : (ranks awake now : List ℕ) (h rank : ℕ) → h < length ranks → slice_index ranks h ≡ 0 → 0 < rank → length now ≤ length awake + 2 → left_to_do (set ranks h rank) now < left_to_do ranks awake + 1
+pub placed-less : (ranks awake now : List ℕ) (h rank : ℕ) → h < length ranks → slice_index ranks h ≡ 0 → 0 < rank
+    → length now ≤ length awake + 2 → left_to_do (set ranks h rank) now < left_to_do ranks awake + 1
 placed-less ranks awake now h rank l z r n = let e = zeros-set ranks h rank l z r in omega arith
 
 pub range-more : (a n x : ℕ) → a + n ≡ x → range_with_len a (n + 1) ≡ range_with_len a n ++ x ∷ []

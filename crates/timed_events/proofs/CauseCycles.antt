@@ -41,7 +41,9 @@ pub record IsPath (events : List Event) (heads : List ℕ) (path : List Hop) (se
   pub last : (d : Hop) → 0 < length path → IsFrom events (slice_index heads at) (get_or path (length path - 1) d).message
   pub back : (q : ℕ) (d : Hop) → 0 < slice_index seen q → (slice_index seen q ≤ length path) × ((get_or path (slice_index seen q - 1) d).event ≡ slice_index heads q)
 
-pub path-start : (events : List Event) (heads seen : List ℕ) (path : List Hop) (at : ℕ) → path ≡ [] → seen ≡ replicate MAX_PROCESSORS 0 → at < MAX_PROCESSORS → slice_index heads at < length events → IsPath events heads path seen at
+pub path-start : (events : List Event) (heads seen : List ℕ) (path : List Hop) (at : ℕ) → path ≡ []
+    → seen ≡ replicate MAX_PROCESSORS 0 → at < MAX_PROCESSORS → slice_index heads at < length events
+    → IsPath events heads path seen at
 path-start events heads seen path at f e l s = subst (λ hops. IsPath events heads hops seen at) (sym f) (record {
   wide = ap length e ∙ length-replicate {A = ℕ} MAX_PROCESSORS 0;
   inside = l;
@@ -52,7 +54,9 @@ path-start events heads seen path at f e l s = subst (λ hops. IsPath events hea
   back = λ q d b. absurd (let z = ap (λ xs. slice_index xs q) e ∙ zero-each MAX_PROCESSORS q in omega arith);
 })
 
-module _ (events : List Event) (heads met waits ranks order awake seen : List ℕ) (path : List Hop) (at : ℕ) (o : AreOfProcessors events) (w : IsWalked events heads met waits ranks order awake) (a : AreWaiting events heads waits ranks) (p : IsPath events heads path seen at) where
+module _ (events : List Event) (heads met waits ranks order awake seen : List ℕ) (path : List Hop) (at : ℕ)
+    (o : AreOfProcessors events) (w : IsWalked events heads met waits ranks order awake)
+    (a : AreWaiting events heads waits ranks) (p : IsPath events heads path seen at) where
   abbrev s : ℕ
   s = slice_index waits at
 
@@ -72,14 +76,23 @@ module _ (events : List Event) (heads met waits ranks order awake seen : List �
   taken k d (inl b) l = subst (λ h. IsSentTo events h.event h.message) (sym (pushed-other path hop d k b)) (p.taken k d b)
   taken k d (inr b) l = let n = length_push path hop in subst (λ h. IsSentTo events h.event h.message) (sym (pushed-same path hop d k (omega arith))) waiting.sent
 
-  next : (k : ℕ) (d : Hop) → (k + 1 < length path) ⊎ (length path ≤ k + 1) → k + 1 < length (path ++ hop ∷ []) → IsFrom events (get_or (path ++ hop ∷ []) (k + 1) d).event (get_or (path ++ hop ∷ []) k d).message
-  next k d (inl b) l = subst (λ h. IsFrom events h.event (get_or (path ++ hop ∷ []) k d).message) (sym (pushed-other path hop d (k + 1) b)) (subst (λ h. IsFrom events (get_or path (k + 1) d).event h.message) (sym (pushed-other path hop d k (omega arith))) (p.next k d b))
+  next : (k : ℕ) (d : Hop) → (k + 1 < length path) ⊎ (length path ≤ k + 1) → k + 1 < length (path ++ hop ∷ [])
+      → IsFrom events (get_or (path ++ hop ∷ []) (k + 1) d).event (get_or (path ++ hop ∷ []) k d).message
+  next k d (inl b) l = subst (λ h. IsFrom events h.event (get_or (path ++ hop ∷ []) k d).message)
+      (sym (pushed-other path hop d (k + 1) b))
+      (subst (λ h. IsFrom events (get_or path (k + 1) d).event h.message)
+      (sym (pushed-other path hop d k (omega arith))) (p.next k d b))
   next k d (inr b) l =
       let n = length_push path hop in
       let e : length path - 1 ≡ k = omega arith in
-      subst (λ h. IsFrom events h.event (get_or (path ++ hop ∷ []) k d).message) (sym (pushed-same path hop d (k + 1) (omega arith))) (subst (λ h. IsFrom events (slice_index heads at) h.message) (sym (pushed-other path hop d k (omega arith))) (subst (λ i. IsFrom events (slice_index heads at) (get_or path i d).message) e (p.last d (omega arith))))
+      subst (λ h. IsFrom events h.event (get_or (path ++ hop ∷ []) k d).message)
+      (sym (pushed-same path hop d (k + 1) (omega arith)))
+      (subst (λ h. IsFrom events (slice_index heads at) h.message) (sym (pushed-other path hop d k (omega arith)))
+      (subst (λ i. IsFrom events (slice_index heads at) (get_or path i d).message) e (p.last d (omega arith))))
 
-  back : (q : ℕ) (d : Hop) → (q ≡ at) ⊎ ¬ (q ≡ at) → 0 < slice_index (set seen at (length path + 1)) q → (slice_index (set seen at (length path + 1)) q ≤ length (path ++ hop ∷ [])) × ((get_or (path ++ hop ∷ []) (slice_index (set seen at (length path + 1)) q - 1) d).event ≡ slice_index heads q)
+  back : (q : ℕ) (d : Hop) → (q ≡ at) ⊎ ¬ (q ≡ at) → 0 < slice_index (set seen at (length path + 1)) q
+      → (slice_index (set seen at (length path + 1)) q ≤ length (path ++ hop ∷ []))
+      × ((get_or (path ++ hop ∷ []) (slice_index (set seen at (length path + 1)) q - 1) d).event ≡ slice_index heads q)
   back q d (inl e) b =
       let n = length_push path hop in
       let r = ap (slice_index (set seen at (length path + 1))) e ∙ get_or-set_same seen at (length path + 1) 0 (let x = p.wide in let y = p.inside in omega arith) in
@@ -104,15 +117,31 @@ module _ (events : List Event) (heads met waits ranks order awake seen : List �
   }
 
   -- one hop more, as the code goes it
-  pub path-step : (event message rank to : ℕ) (grown : List Hop) → event ≡ slice_index heads at → message ≡ s → rank ≡ length path + 1 → to ≡ index_at events message → grown ≡ path ++ record { event = event; message = message } ∷ [] → IsPath events heads grown (set seen at rank) to
-  path-step event message rank to grown e f g t h = subst (λ x. IsPath events heads x (set seen at rank) to) (sym h) (subst (λ x. IsPath events heads (path ++ record { event = x; message = message } ∷ []) (set seen at rank) to) (sym e) (subst (λ x. IsPath events heads (path ++ record { event = slice_index heads at; message = x } ∷ []) (set seen at rank) to) (sym f) (subst (λ x. IsPath events heads (path ++ hop ∷ []) (set seen at x) to) (sym g) (subst (λ x. IsPath events heads (path ++ hop ∷ []) (set seen at (length path + 1)) x) (sym (t ∙ ap (index_at events) f)) path-more))))
+  pub path-step : (event message rank to : ℕ) (grown : List Hop) → event ≡ slice_index heads at → message ≡ s
+      → rank ≡ length path + 1 → to ≡ index_at events message → grown ≡ path
+      ++ record { event = event; message = message } ∷ [] → IsPath events heads grown (set seen at rank) to
+  path-step event message rank to grown e f g t h =
+      subst (λ x. IsPath events heads x (set seen at rank) to) (sym h)
+      (subst (λ x. IsPath events heads (path ++ record { event = x; message = message } ∷ []) (set seen at rank) to)
+      (sym e)
+      (subst (λ x. IsPath events heads (path ++ record { event = slice_index heads at; message = x } ∷ [])
+      (set seen at rank) to) (sym f)
+      (subst (λ x. IsPath events heads (path ++ hop ∷ []) (set seen at x) to) (sym g)
+      (subst (λ x. IsPath events heads (path ++ hop ∷ []) (set seen at (length path + 1)) x)
+      (sym (t ∙ ap (index_at events) f)) path-more))))
 
 -- if the walk comes back, the rest of its path is a cycle
-pub path-cycle : (events : List Event) (heads seen : List ℕ) (path hops : List Hop) (at from : ℕ) → IsPath events heads path seen at → 0 < slice_index seen at → from ≡ slice_index seen at - 1 → hops ≡ drop from path → IsCauseCycle events hops
+pub path-cycle : (events : List Event) (heads seen : List ℕ) (path hops : List Hop) (at from : ℕ)
+    → IsPath events heads path seen at → 0 < slice_index seen at → from ≡ slice_index seen at - 1
+    → hops ≡ drop from path → IsCauseCycle events hops
 path-cycle events heads seen path hops at from p b e f = subst (λ xs. IsCauseCycle events xs) (sym f) (record {
   some = (let x = long in let y = within in omega arith);
   taken = λ k d l. (let x = long in subst (λ h. IsSentTo events h.event h.message) (sym (dropped from k (from + k) path d refl)) (p.taken (from + k) d (omega arith)));
-  next = λ k d l. (let x = long in let m : from + (k + 1) ≡ (from + k) + 1 = omega arith in subst (λ h. IsFrom events h.event (get_or (drop from path) k d).message) (sym (dropped from (k + 1) ((from + k) + 1) path d m)) (subst (λ h. IsFrom events (get_or path ((from + k) + 1) d).event h.message) (sym (dropped from k (from + k) path d refl)) (p.next (from + k) d (omega arith))));
+  next = λ k d l. (let x = long in let m : from + (k + 1) ≡ (from + k) + 1 = omega arith in
+      subst (λ h. IsFrom events h.event (get_or (drop from path) k d).message)
+      (sym (dropped from (k + 1) ((from + k) + 1) path d m))
+      (subst (λ h. IsFrom events (get_or path ((from + k) + 1) d).event h.message)
+      (sym (dropped from k (from + k) path d refl)) (p.next (from + k) d (omega arith))));
   closed = λ d. (
       let x = long in
       let y = within in

@@ -14,7 +14,10 @@ use Rattle.timed_events.proofs.IdleSilences.{latest-short, short-latest, noted-a
 use Rattle.timed_events.proofs.IdleWalks.{AreInOrder, latest-end}
 use Rattle.timed_events.proofs.SortedEvents.{place-found, places-inside}
 
-module _ (n : ℕ) (events : List Event) (ticks order : List ℕ) (limit last : ℕ) (lasts : List ℕ) (idles : List IdleTick) (o : AreInOrder events ticks order) (meant : AreMeant events n) (most : n ≤ MAX_PROCESSORS) (within : (i : ℕ) → i < length events → slice_index ticks i ≤ last) (h : IsWalkedTo events ticks order limit (length order) lasts idles) where
+module _ (n : ℕ) (events : List Event) (ticks order : List ℕ) (limit last : ℕ) (lasts : List ℕ) (idles : List IdleTick)
+    (o : AreInOrder events ticks order) (meant : AreMeant events n) (most : n ≤ MAX_PROCESSORS)
+    (within : (i : ℕ) → i < length events → slice_index ticks i ≤ last)
+    (h : IsWalkedTo events ticks order limit (length order) lasts idles) where
   inside : (m : ℕ) → m < length order → slice_index order m < length events
   inside m l = (places-inside (length events) order o.ordered.places).1 m l
 
@@ -57,7 +60,9 @@ module _ (n : ℕ) (events : List Event) (ticks order : List ℕ) (limit last : 
     rising = h.rising;
   }
 
-module _ (n : ℕ) (events : List Event) (ticks lasts : List ℕ) (last limit ended since : ℕ) (idles : List IdleTick) (l : ended < n) (s : since ≡ slice_index lasts ended) (h : HaveEnded n events ticks lasts last limit ended idles) where
+module _ (n : ℕ) (events : List Event) (ticks lasts : List ℕ) (last limit ended since : ℕ) (idles : List IdleTick)
+    (l : ended < n) (s : since ≡ slice_index lasts ended)
+    (h : HaveEnded n events ticks lasts last limit ended idles) where
   latest : IsLatestBefore events ticks (ended + 1) (last + 1) since
   latest = subst (λ u. IsLatestBefore events ticks (ended + 1) (last + 1) u) (sym s) (h.latest ended l)
 
@@ -68,7 +73,8 @@ module _ (n : ℕ) (events : List Event) (ticks lasts : List ℕ) (last limit en
     end = record { silence = latest-short events ticks limit (ended + 1) (last + 1) since last latest refl a b; ends = inl refl };
   }
 
-  at-end : (p : ℕ) → (p < ended) ⊎ (ended ≤ p) → p < ended + 1 → IsShortSilence events ticks limit (p + 1) last → Contains (noted idles ended since last limit) (record { processor = p + 1; tick = last })
+  at-end : (p : ℕ) → (p < ended) ⊎ (ended ≤ p) → p < ended + 1 → IsShortSilence events ticks limit (p + 1) last
+      → Contains (noted idles ended since last limit) (record { processor = p + 1; tick = last })
   at-end p (inl below) b q = noted-kept idles ended since last limit _ (h.at_end p below q)
   at-end p (inr above) b q =
       let e : ended + 1 ≡ p + 1 = omega arith in
@@ -86,12 +92,16 @@ module _ (n : ℕ) (events : List Event) (ticks lasts : List ℕ) (last limit en
     each = noted-all idles ended since last limit (IsIdleTick n events ticks last limit) h.each new-idle;
     before = λ p y q f. noted-kept idles ended since last limit _ (h.before p y q f);
     at_end = λ p b q. at-end p (cases_lt p ended) b q;
-    below = noted-all idles ended since last limit (λ x. moment_of x.tick x.processor < moment_of last (ended + 1 + 1)) (All-weaker (λ x. moment_of x.tick x.processor < moment_of last (ended + 1)) (λ x. moment_of x.tick x.processor < moment_of last (ended + 1 + 1)) lower idles h.below) (λ a b. omega arith);
+    below = noted-all idles ended since last limit (λ x. moment_of x.tick x.processor < moment_of last (ended + 1 + 1))
+        (All-weaker (λ x. moment_of x.tick x.processor < moment_of last (ended + 1))
+        (λ x. moment_of x.tick x.processor < moment_of last (ended + 1 + 1)) lower idles h.below)
+        (λ a b. omega arith);
     rising = noted-rising idles ended since last limit h.rising (λ a b. h.below);
   }
 
 -- after the last processor
-pub ended-all : (n : ℕ) (events : List Event) (ticks lasts : List ℕ) (last limit : ℕ) (idles : List IdleTick) → HaveEnded n events ticks lasts last limit n idles → AreIdle n events ticks last limit idles
+pub ended-all : (n : ℕ) (events : List Event) (ticks lasts : List ℕ) (last limit : ℕ) (idles : List IdleTick)
+    → HaveEnded n events ticks lasts last limit n idles → AreIdle n events ticks last limit idles
 ended-all n events ticks lasts last limit idles h = record { each = h.each; all = λ p y a b e. go p y a b e.silence e.ends; rising = h.rising } where
   go : (p y : ℕ) → 1 ≤ p → p ≤ n → IsShortSilence events ticks limit p y → (y ≡ last) ⊎ HasEventIn events ticks p (y + 1) → Contains idles (record { processor = p; tick = y })
   go p y a b s (inr has) = h.before p y s has

@@ -1,5 +1,6 @@
 -- Events with receives of nothing behind them make a trace.
-use Rattle.std.proofs.Common.{ℕ, ◌≡◌, ◌+◌, ◌-◌, ◌<◌, ◌≤◌, ◌⊎◌, inl, inr, Bool, true, false, cond, ◌||◌, List, [], ◌∷◌, ◌++◌, length, take, get_or, Some, None, zero, suc, refl, sym, ap, ap₂, ◌∙◌, subst, arith}
+use Rattle.std.proofs.Common.{ℕ, ◌≡◌, ◌+◌, ◌-◌, ◌<◌, ◌≤◌, ◌⊎◌, inl, inr, Bool, true, false, cond, ◌||◌, List, [], ◌∷◌}
+use Rattle.std.proofs.Common.{◌++◌, length, take, get_or, Some, None, zero, suc, refl, sym, ap, ap₂, ◌∙◌, subst, arith}
 use Rattle.std.specs.Prelude.{slice_get, slice_index, slice_index_or, nat_lt}
 use Rattle.std.specs.List.{All, list_any}
 use Rattle.std.specs.Option.{option_map_or}
@@ -17,7 +18,9 @@ use Rattle.timed_events.specs.declared.events.EventAct.TheVariants.{Send, Receiv
 use Rattle.timed_events.specs.declared.events.EventError.{EventError}
 use Rattle.timed_events.specs.declared.idle_ticks.IdleTick.{IdleTick}
 use Rattle.timed_events.specs.Firsts.{any_below}
-use Rattle.timed_events.specs.Checks.{sends_to, received_in, is_message, processor_at, messages_at, is_for, received_before, was_received, late_hint, message_refusal, messages_refusal, moment_of, moment_at, GoesWithin, AreMeant, IsMeantAt, HaveOwnMoments}
+use Rattle.timed_events.specs.Checks.{sends_to, received_in, is_message, processor_at, messages_at, is_for}
+use Rattle.timed_events.specs.Checks.{received_before, was_received, late_hint, message_refusal, messages_refusal}
+use Rattle.timed_events.specs.Checks.{moment_of, moment_at, GoesWithin, AreMeant, IsMeantAt, HaveOwnMoments}
 use Rattle.timed_events.specs.IdleTicks.{HasEventIn, IsIdleTick, AreIdle, IsFree, IsOfNothing, IsIdleReceive, AreReceives, AreRising, moments_of, ticks_of}
 use Rattle.timed_events.specs.IdleTraces.{IsGrown}
 use Rattle.timed_events.specs.TickedEvents.{AreFit}
@@ -37,7 +40,8 @@ get-right (x ∷ xs) ys zero j e = absurd (omega arith)
 get-right (x ∷ xs) ys (suc i) j e = get-right xs ys i j (omega arith)
 
 -- the receive of an idle tick
-received-at : (idles : List IdleTick) (added : List Event) (j : ℕ) (d : IdleTick) → AreReceives idles added → j < length idles → (e : Event) × (slice_get added j ≡ Some e) × IsIdleReceive (get_or idles j d) e
+received-at : (idles : List IdleTick) (added : List Event) (j : ℕ) (d : IdleTick) → AreReceives idles added
+    → j < length idles → (e : Event) × (slice_get added j ≡ Some e) × IsIdleReceive (get_or idles j d) e
 received-at [] added j d r l = absurd (omega arith)
 received-at (x ∷ idles) [] j d r l = absurd r
 received-at (x ∷ idles) (e ∷ added) zero d r l = (e, refl, r.0)
@@ -52,9 +56,14 @@ nothing-goes n (Send to) h = absurd h
 nothing-goes n (Receive messages) h = tt
 
 -- a message may be received
-message-passes : (events : List Event) (ticks : List ℕ) (r : ℕ → Bool) (i k s : ℕ) → is_for events s (processor_at events i) ≡ true → r s ≡ false → slice_index ticks s < slice_index ticks i → message_refusal events ticks r i k (Some s) ≡ None
+message-passes : (events : List Event) (ticks : List ℕ) (r : ℕ → Bool) (i k s : ℕ)
+    → is_for events s (processor_at events i) ≡ true → r s ≡ false → slice_index ticks s < slice_index ticks i
+    → message_refusal events ticks r i k (Some s) ≡ None
 message-passes events ticks r i k s f n l = go (is_for events s (processor_at events i)) f (r s) n (nat_lt (slice_index ticks s) (slice_index ticks i)) (lt-ltb (slice_index ticks s) (slice_index ticks i) l) where
-  go : (u : Bool) → u ≡ true → (v : Bool) → v ≡ false → (w : Bool) → w ≡ true → cond u (cond v (Some (EventError.ReceivedBefore i k)) (cond w None (Some (EventError.NotLater i k (late_hint events s i))))) (Some (EventError.WrongReceiver i k)) ≡ None
+  go : (u : Bool) → u ≡ true → (v : Bool) → v ≡ false → (w : Bool) → w ≡ true
+      → cond u (cond v (Some (EventError.ReceivedBefore i k))
+      (cond w None (Some (EventError.NotLater i k (late_hint events s i)))))
+      (Some (EventError.WrongReceiver i k)) ≡ None
   go false p v q w t = absurd (cc)
   go true p true q w t = absurd (cc)
   go true p false q false t = absurd (cc)
@@ -68,7 +77,9 @@ received-same : (xs ys : List Event) (i s : ℕ) → ((j : ℕ) → j < i → me
 unfolding received_before
 received-same xs ys i s h = any-same (λ j. list_any (is_message s) (messages_at xs j)) (λ j. list_any (is_message s) (messages_at ys j)) i (λ j l. ap (λ ms. list_any (is_message s) ms) (h j l))
 
-module _ (n : ℕ) (events added : List Event) (ticks : List ℕ) (last : ℕ) (idles : List IdleTick) (most : n ≤ MAX_PROCESSORS) (meant : AreMeant events n) (fit : AreFit events ticks last) (free : All (IsFree n events ticks last) idles) (rising : AreRising idles) (r : AreReceives idles added) where
+module _ (n : ℕ) (events added : List Event) (ticks : List ℕ) (last : ℕ) (idles : List IdleTick)
+    (most : n ≤ MAX_PROCESSORS) (meant : AreMeant events n) (fit : AreFit events ticks last)
+    (free : All (IsFree n events ticks last) idles) (rising : AreRising idles) (r : AreReceives idles added) where
   abbrev all : List Event
   all = events ++ added
 
@@ -149,7 +160,9 @@ module _ (n : ℕ) (events added : List Event) (ticks : List ℕ) (last : ℕ) (
       let f = is-free b m in
       let f0 = f.least in
       let f1 = f.most in
-      let at : moment_of (slice_index ticks j) (processor_at events j) ≡ moment_of ((get_or idles b nobody).tick) ((get_or idles b nobody).processor) = sym (old-moment j l) ∙ same ∙ ap₂ moment_of (new-tick i b e m) (new-processor i b e m) in
+      let at : moment_of (slice_index ticks j) (processor_at events j) ≡ moment_of ((get_or idles b nobody).tick)
+      ((get_or idles b nobody).processor) = sym (old-moment j l) ∙ same
+      ∙ ap₂ moment_of (new-tick i b e m) (new-processor i b e m) in
       let parts = moment-parts (slice_index ticks j) ((get_or idles b nobody).tick) (processor_at events j) ((get_or idles b nobody).processor) (within-processors j l) (f0, omega arith) at in
       f.free (record { place = j; inside = l; own = parts.1; at = parts.0 })
 
@@ -221,7 +234,8 @@ idle-free n events ticks last limit f x h = record {
   go (inl e) = omega arith
   go (inr has) = let w = f.within has.place has.inside in let e = has.at in omega arith
 
-pub all-free : (n : ℕ) (events : List Event) (ticks : List ℕ) (last limit : ℕ) (idles : List IdleTick) → AreFit events ticks last → AreIdle n events ticks last limit idles → All (IsFree n events ticks last) idles
+pub all-free : (n : ℕ) (events : List Event) (ticks : List ℕ) (last limit : ℕ) (idles : List IdleTick)
+    → AreFit events ticks last → AreIdle n events ticks last limit idles → All (IsFree n events ticks last) idles
 all-free n events ticks last limit idles f h = All-weaker (IsIdleTick n events ticks last limit) (IsFree n events ticks last) (idle-free n events ticks last limit f) idles h.each
 
 zip-push : (idles : List IdleTick) (added : List Event) (x : IdleTick) (e : Event) → AreReceives idles added → IsIdleReceive x e → AreReceives (idles ++ x ∷ []) (added ++ e ∷ [])
@@ -231,7 +245,9 @@ zip-push (a ∷ idles) [] x e h r = absurd h
 zip-push (a ∷ idles) (b ∷ added) x e h r = (h.0, zip-push idles added x e h.1 r)
 
 -- one receive more
-pub grown-next : (events new : List Event) (idles : List IdleTick) (k : ℕ) (d : IdleTick) (e : Event) → k < length idles → IsGrown events (take k idles) new → IsIdleReceive (get_or idles k d) e → IsGrown events (take (k + 1) idles) (new ++ e ∷ [])
+pub grown-next : (events new : List Event) (idles : List IdleTick) (k : ℕ) (d : IdleTick) (e : Event) → k < length idles
+    → IsGrown events (take k idles) new → IsIdleReceive (get_or idles k d) e
+    → IsGrown events (take (k + 1) idles) (new ++ e ∷ [])
 grown-next events new idles k d e l g r = record {
   added = g.added ++ e ∷ [];
   receives = subst (λ xs. AreReceives xs (g.added ++ e ∷ [])) (sym more) (zip-push (take k idles) g.added (get_or idles k d) e g.receives r);
@@ -240,7 +256,9 @@ grown-next events new idles k d e l g r = record {
   more : take (k + 1) idles ≡ take k idles ++ get_or idles k d ∷ []
   more = take_more idles k d l
 
-module _ (n : ℕ) (events new : List Event) (ticks all : List ℕ) (last : ℕ) (idles : List IdleTick) (most : n ≤ MAX_PROCESSORS) (meant : AreMeant events n) (fit : AreFit events ticks last) (free : All (IsFree n events ticks last) idles) (rising : AreRising idles) (g : IsGrown events idles new) where
+module _ (n : ℕ) (events new : List Event) (ticks all : List ℕ) (last : ℕ) (idles : List IdleTick)
+    (most : n ≤ MAX_PROCESSORS) (meant : AreMeant events n) (fit : AreFit events ticks last)
+    (free : All (IsFree n events ticks last) idles) (rising : AreRising idles) (g : IsGrown events idles new) where
   pub meant-grown : AreMeant new n
   meant-grown = subst (λ xs. AreMeant xs n) (sym g.grown) (meant-all n events g.added ticks last idles most meant fit free rising g.receives)
 

@@ -28,7 +28,9 @@ module _ (events : List Event) (ticks order : List ℕ) (o : AreInOrder events t
   inside m l = (places-inside (length events) order o.ordered.places).1 m l
 
   -- of two events of one processor the one that comes first is in an earlier tick
-  earlier : (m k p : ℕ) → m < k → k < length order → processor_at events (slice_index order m) ≡ p → processor_at events (slice_index order k) ≡ p → slice_index ticks (slice_index order m) < slice_index ticks (slice_index order k)
+  earlier : (m k p : ℕ) → m < k → k < length order → processor_at events (slice_index order m) ≡ p
+      → processor_at events (slice_index order k) ≡ p
+      → slice_index ticks (slice_index order m) < slice_index ticks (slice_index order k)
   earlier m k p b l e f = let r = o.ordered.rising m k b l in omega arith
 
   -- the processor whose last tick this is
@@ -49,7 +51,8 @@ module _ (events : List Event) (ticks order : List ℕ) (o : AreInOrder events t
   module _ (limit k : ℕ) (lasts : List ℕ) (idles : List IdleTick) (h : IsWalkedTo events ticks order limit k lasts idles) where
     from-last : (index : ℕ) → k ≤ length order → (slice_index lasts index ≡ 0) ⊎ HasEventIn events ticks (index + 1) (slice_index lasts index)
     from-last index l = go (h.source index) where
-      go : (slice_index lasts index ≡ 0) ⊎ IsLastAmong events ticks order k index (slice_index lasts index) → (slice_index lasts index ≡ 0) ⊎ HasEventIn events ticks (index + 1) (slice_index lasts index)
+      go : (slice_index lasts index ≡ 0) ⊎ IsLastAmong events ticks order k index (slice_index lasts index)
+          → (slice_index lasts index ≡ 0) ⊎ HasEventIn events ticks (index + 1) (slice_index lasts index)
       go (inl z) = inl z
       go (inr r) = inr (last-has k index (slice_index lasts index) l r)
 
@@ -62,11 +65,14 @@ module _ (events : List Event) (ticks order : List ℕ) (o : AreInOrder events t
         omega arith
 
     -- the last tick of the processor of the event at k, before it
-    latest-at : (index : ℕ) → k < length order → processor_at events (slice_index order k) ≡ index + 1 → IsLatestBefore events ticks (index + 1) (slice_index ticks (slice_index order k)) (slice_index lasts index)
+    latest-at : (index : ℕ) → k < length order → processor_at events (slice_index order k) ≡ index + 1
+        → IsLatestBefore events ticks (index + 1) (slice_index ticks (slice_index order k)) (slice_index lasts index)
     latest-at index l e = record {
       from = from-last index (omega arith);
       below = under (h.source index);
-      silent = λ z a b has. (let f = place-found (length events) order has.place o.ordered.places has.inside in quiet z f.0 a b f.1 (ap (processor_at events) f.2 ∙ has.own) (ap (slice_index ticks) f.2 ∙ has.at) (cases_lt f.0 k) (cases_lt k f.0));
+      silent = λ z a b has. (let f = place-found (length events) order has.place o.ordered.places has.inside in
+          quiet z f.0 a b f.1 (ap (processor_at events) f.2 ∙ has.own) (ap (slice_index ticks) f.2 ∙ has.at)
+          (cases_lt f.0 k) (cases_lt k f.0));
     } where
       under : (slice_index lasts index ≡ 0) ⊎ IsLastAmong events ticks order k index (slice_index lasts index) → slice_index lasts index < slice_index ticks (slice_index order k)
       under (inl z) = let f = o.first (slice_index order k) (inside k l) in omega arith
@@ -75,7 +81,9 @@ module _ (events : List Event) (ticks order : List ℕ) (o : AreInOrder events t
           let d = r.is in
           omega arith
 
-      quiet : (z m : ℕ) → slice_index lasts index < z → z < slice_index ticks (slice_index order k) → m < length order → processor_at events (slice_index order m) ≡ index + 1 → slice_index ticks (slice_index order m) ≡ z → (m < k) ⊎ (k ≤ m) → (k < m) ⊎ (m ≤ k) → ⊥
+      quiet : (z m : ℕ) → slice_index lasts index < z → z < slice_index ticks (slice_index order k) → m < length order
+          → processor_at events (slice_index order m) ≡ index + 1 → slice_index ticks (slice_index order m) ≡ z
+          → (m < k) ⊎ (k ≤ m) → (k < m) ⊎ (m ≤ k) → ⊥
       quiet z m a b c p t (inl below) d = let n = no-later m index below p in omega arith
       quiet z m a b c p t (inr above) (inl more) = let n = earlier k m (index + 1) more c e p in omega arith
       quiet z m a b c p t (inr above) (inr least) =
@@ -133,7 +141,10 @@ module _ (events : List Event) (ticks order : List ℕ) (o : AreInOrder events t
           let f = from-one in
           omega arith
 
-      all-noted : (m y : ℕ) → (m < k) ⊎ (k ≤ m) → m < k + 1 → slice_index ticks (slice_index order m) ≡ y + 1 → IsShortSilence events ticks limit (processor_at events (slice_index order m)) y → Contains (noted idles index since (tick - 1) limit) (record { processor = processor_at events (slice_index order m); tick = y })
+      all-noted : (m y : ℕ) → (m < k) ⊎ (k ≤ m) → m < k + 1 → slice_index ticks (slice_index order m) ≡ y + 1
+          → IsShortSilence events ticks limit (processor_at events (slice_index order m)) y
+          → Contains (noted idles index since (tick - 1) limit)
+          (record { processor = processor_at events (slice_index order m); tick = y })
       all-noted m y (inl below) b e q = noted-kept idles index since (tick - 1) limit _ (h.all m y below e q)
       all-noted m y (inr beyond) b e q =
           let same : m ≡ k = omega arith in
@@ -147,7 +158,10 @@ module _ (events : List Event) (ticks order : List ℕ) (o : AreInOrder events t
           let n = noted-new idles index since (tick - 1) limit (omega arith) (omega arith) in
           subst (λ (x : IdleTick). Contains (noted idles index since (tick - 1) limit) x) (ap₂ (λ (v w : ℕ). let x : IdleTick = record { processor = v; tick = w } in x) (sym pm) yt) n
 
-      after-next : (m : ℕ) → (m < k) ⊎ (k ≤ m) → (index_at events (slice_index order m) ≡ index) ⊎ ¬ (index_at events (slice_index order m) ≡ index) → m < k + 1 → slice_index ticks (slice_index order m) ≤ slice_index (set lasts index tick) (index_at events (slice_index order m))
+      after-next : (m : ℕ) → (m < k) ⊎ (k ≤ m) → (index_at events (slice_index order m) ≡ index)
+          ⊎ ¬ (index_at events (slice_index order m) ≡ index) → m < k + 1
+          → slice_index ticks (slice_index order m) ≤ slice_index (set lasts index tick)
+          (index_at events (slice_index order m))
       after-next m (inl below) (inl e) b =
           let v = ap (slice_index (set lasts index tick)) e in
           let w = get_or-set_same lasts index tick 0 (let x = low in let y = h.wide in omega arith) in
@@ -166,7 +180,9 @@ module _ (events : List Event) (ticks order : List ℕ) (o : AreInOrder events t
           let w = get_or-set_same lasts index tick 0 (let x = low in let y = h.wide in omega arith) in
           omega arith
 
-      source-next : (i : ℕ) → (i ≡ index) ⊎ ¬ (i ≡ index) → (slice_index lasts i ≡ 0) ⊎ IsLastAmong events ticks order k i (slice_index lasts i) → (slice_index (set lasts index tick) i ≡ 0) ⊎ IsLastAmong events ticks order (k + 1) i (slice_index (set lasts index tick) i)
+      source-next : (i : ℕ) → (i ≡ index) ⊎ ¬ (i ≡ index) → (slice_index lasts i ≡ 0)
+          ⊎ IsLastAmong events ticks order k i (slice_index lasts i) → (slice_index (set lasts index tick) i ≡ 0)
+          ⊎ IsLastAmong events ticks order (k + 1) i (slice_index (set lasts index tick) i)
       source-next i (inl e) c =
           let v = ap (slice_index (set lasts index tick)) e in
           let w = get_or-set_same lasts index tick 0 (let x = low in let y = h.wide in omega arith) in
@@ -180,13 +196,18 @@ module _ (events : List Event) (ticks order : List ℕ) (o : AreInOrder events t
         wide = length-set lasts index tick ∙ h.wide;
         after = λ m b. after-next m (cases_lt m k) (cases_eq (index_at events (slice_index order m)) index) b;
         source = λ i. source-next i (cases_eq i index) (h.source i);
-        each = noted-all idles index since (tick - 1) limit (IsNoted events ticks order limit (k + 1)) (All-weaker (IsNoted events ticks order limit k) (IsNoted events ticks order limit (k + 1)) more-noted idles h.each) new-noted;
+        each = noted-all idles index since (tick - 1) limit (IsNoted events ticks order limit (k + 1))
+            (All-weaker (IsNoted events ticks order limit k) (IsNoted events ticks order limit (k + 1)) more-noted idles
+            h.each) new-noted;
         all = λ m y b e q. all-noted m y (cases_lt m k) b e q;
-        rising = noted-rising idles index since (tick - 1) limit h.rising (λ a b. All-weaker (IsNoted events ticks order limit k) (λ x. moment_of x.tick x.processor < moment_of (tick - 1) (index + 1)) above idles h.each);
+        rising = noted-rising idles index since (tick - 1) limit h.rising
+            (λ a b. All-weaker (IsNoted events ticks order limit k)
+            (λ x. moment_of x.tick x.processor < moment_of (tick - 1) (index + 1)) above idles h.each);
       }
 
 -- before the first event
-pub walked-start : (events : List Event) (ticks order : List ℕ) (limit : ℕ) (lasts : List ℕ) (idles : List IdleTick) → lasts ≡ replicate MAX_PROCESSORS 0 → idles ≡ [] → IsWalkedTo events ticks order limit 0 lasts idles
+pub walked-start : (events : List Event) (ticks order : List ℕ) (limit : ℕ) (lasts : List ℕ) (idles : List IdleTick)
+    → lasts ≡ replicate MAX_PROCESSORS 0 → idles ≡ [] → IsWalkedTo events ticks order limit 0 lasts idles
 walked-start events ticks order limit lasts idles e f = record {
   wide = ap length e ∙ length-replicate {A = ℕ} MAX_PROCESSORS 0;
   after = λ m b. absurd (omega arith);

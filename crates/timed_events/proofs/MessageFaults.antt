@@ -32,13 +32,19 @@ unfolding first_fault
 faulty-event events i e l h m = first_of-found (message_faults events) i (length events) e l h m
 
 -- nothing is against any message of an event
-fault-none : (events : List Event) (i k : ℕ) → first_fault events ≡ None → i < length events → k < length (messages_at events i) → message_fault events (was_received events i k) i k (slice_index_or (messages_at events i) k None) ≡ None
+fault-none : (events : List Event) (i k : ℕ) → first_fault events ≡ None → i < length events
+    → k < length (messages_at events i)
+    → message_fault events (was_received events i k) i k (slice_index_or (messages_at events i) k None) ≡ None
 unfolding first_fault message_faults
-fault-none events i k h l b = first_of-each (λ k. message_fault events (was_received events i k) i k (slice_index_or (messages_at events i) k None)) (length (messages_at events i)) k (first_of-each (message_faults events) (length events) i h l) b
+fault-none events i k h l b = first_of-each
+    (λ k. message_fault events (was_received events i k) i k (slice_index_or (messages_at events i) k None))
+    (length (messages_at events i)) k (first_of-each (message_faults events) (length events) i h l) b
 
 fault-for : (events : List Event) (r : ℕ → Bool) (i k s : ℕ) → message_fault events r i k (Some s) ≡ None → is_for events s (processor_at events i) ≡ true
 fault-for events r i k s h = go (is_for events s (processor_at events i)) refl h where
-  go : (u : Bool) → is_for events s (processor_at events i) ≡ u → cond u (cond (r s) (Some (ReceivedBefore i k)) None) (Some (WrongReceiver i k)) ≡ None → is_for events s (processor_at events i) ≡ true
+  go : (u : Bool) → is_for events s (processor_at events i) ≡ u
+      → cond u (cond (r s) (Some (ReceivedBefore i k)) None) (Some (WrongReceiver i k)) ≡ None
+      → is_for events s (processor_at events i) ≡ true
   go true e t = e
   go false e t = absurd (cc)
 
@@ -49,12 +55,18 @@ received-by events h i s l t =
     fault-for events (was_received events i f.0) i f.0 s (subst (λ m. message_fault events (was_received events i f.0) i f.0 m ≡ None) f.2 (fault-none events i f.0 h l f.1))
 
 -- a message that is received later than it was sent
-passes-later : (events : List Event) (ticks : List ℕ) (r : ℕ → Bool) (i k : ℕ) (m : Option ℕ) → message_fault events r i k m ≡ None → ((s : ℕ) → m ≡ Some s → s < length events → slice_index ticks s < slice_index ticks i) → message_refusal events ticks r i k m ≡ None
+passes-later : (events : List Event) (ticks : List ℕ) (r : ℕ → Bool) (i k : ℕ) (m : Option ℕ)
+    → message_fault events r i k m ≡ None
+    → ((s : ℕ) → m ≡ Some s → s < length events → slice_index ticks s < slice_index ticks i)
+    → message_refusal events ticks r i k m ≡ None
 passes-later events ticks r i k None h f = absurd (cc)
 passes-later events ticks r i k (Some s) h f =
     let b = is_for-inside events s (processor_at events i) (fault-for events r i k s h) in
     go (is_for events s (processor_at events i)) (r s) (nat_lt (slice_index ticks s) (slice_index ticks i)) (lt-ltb (slice_index ticks s) (slice_index ticks i) (f s refl b)) h where
-      go : (u v z : Bool) → z ≡ true → cond u (cond v (Some (ReceivedBefore i k)) None) (Some (WrongReceiver i k)) ≡ None → cond u (cond v (Some (ReceivedBefore i k)) (cond z None (Some (NotLater i k (late_hint events s i))))) (Some (WrongReceiver i k)) ≡ None
+      go : (u v z : Bool) → z ≡ true
+          → cond u (cond v (Some (ReceivedBefore i k)) None) (Some (WrongReceiver i k)) ≡ None
+          → cond u (cond v (Some (ReceivedBefore i k)) (cond z None (Some (NotLater i k (late_hint events s i)))))
+          (Some (WrongReceiver i k)) ≡ None
       go false v z t e = absurd (cc)
       go true true z t e = absurd (cc)
       go true false true t e = refl
@@ -62,4 +74,11 @@ passes-later events ticks r i k (Some s) h f =
 
 -- no event is refused in the ticks to which they are spread
 pub passes-spread : (events : List Event) (own ticks : List ℕ) → first_fault events ≡ None → AreOfProcessors events → AreLeast events own ticks → events_refusal events ticks ≡ None
-passes-spread events own ticks p o h = own-passed events ticks (λ i l. messages-none events ticks i (λ k b. passes-later events ticks (was_received events i k) i k (slice_index_or (messages_at events i) k None) (fault-none events i k p l b) (λ s e inside. (h.each i l).after_sent s (record { inside = inside; taken = names-message (messages_at events i) k s b e })))) (least-moments events own ticks o h)
+passes-spread events own ticks p o h =
+    own-passed events ticks
+    (λ i l. messages-none events ticks i
+    (λ k b. passes-later events ticks (was_received events i k) i k (slice_index_or (messages_at events i) k None)
+    (fault-none events i k p l b)
+    (λ s e inside. (h.each i l).after_sent s
+    (record { inside = inside; taken = names-message (messages_at events i) k s b e }))))
+    (least-moments events own ticks o h)

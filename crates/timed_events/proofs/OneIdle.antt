@@ -53,7 +53,9 @@ same-first x y xs ys g h u v = go (u.each x zero (omega arith)) where
   go (zero, l, e) = sym e
   go (suc k, l, e) = let m = least-first y x ys xs g v in let r = h.up x zero (suc k) (omega arith) l in let f = ap moment e in absurd (omega arith)
 
-tail-found : (x y d : IdleTick) (xs ys : List IdleTick) (j : ℕ) → AreAscending (x ∷ xs) → x ≡ y → j < length xs → (k : ℕ) × (k < length (y ∷ ys)) × (get_or (y ∷ ys) k d ≡ get_or xs j d) → (k : ℕ) × (k < length ys) × (get_or ys k d ≡ get_or xs j d)
+tail-found : (x y d : IdleTick) (xs ys : List IdleTick) (j : ℕ) → AreAscending (x ∷ xs) → x ≡ y → j < length xs
+    → (k : ℕ) × (k < length (y ∷ ys)) × (get_or (y ∷ ys) k d ≡ get_or xs j d)
+    → (k : ℕ) × (k < length ys) × (get_or ys k d ≡ get_or xs j d)
 tail-found x y d xs ys j h e l (zero, m, f) = let u = h.up d zero (suc j) (omega arith) (omega arith) in let g = ap moment f in let i = ap moment e in absurd (omega arith)
 tail-found x y d xs ys j h e l (suc k, m, f) = (k, omega arith, f)
 
@@ -170,11 +172,17 @@ same-trace n xs ys ticks last trace h t = record {
   at : (i : ℕ) → moment_at xs ticks i ≡ moment_at ys ticks i
   at i = ap (moment_of (slice_index ticks i)) (same-processor xs ys i h)
 
-filled-once : (n : ℕ) (events new more : List Event) (ticks : List ℕ) (last : ℕ) (idles : List IdleTick) (a b : Recorded) → IsFilled n events new ticks last idles a → IsFilled n events more ticks last idles b → a ≡ b
-filled-once n events new more ticks last idles a b s t = IsTraceOf-unique n (events ++ t.added) (ticks ++ ticks_of idles) last a b (same-trace n (events ++ s.added) (events ++ t.added) (ticks ++ ticks_of idles) last a (same-all events s.added t.added (same-added idles s.added t.added s.receives t.receives)) s.trace) t.trace
+filled-once : (n : ℕ) (events new more : List Event) (ticks : List ℕ) (last : ℕ) (idles : List IdleTick)
+    (a b : Recorded) → IsFilled n events new ticks last idles a → IsFilled n events more ticks last idles b → a ≡ b
+filled-once n events new more ticks last idles a b s t =
+    IsTraceOf-unique n (events ++ t.added) (ticks ++ ticks_of idles) last a b
+    (same-trace n (events ++ s.added) (events ++ t.added) (ticks ++ ticks_of idles) last a
+    (same-all events s.added t.added (same-added idles s.added t.added s.receives t.receives)) s.trace) t.trace
 
 -- events with times have one trace with receives of nothing in short silences
-pub IsIdleTimed-unique : (spread : Bool) (n : ℕ) (events : List Event) (clock : Clock) (limit : ℕ) (a b : IdleTrace) (new more : List Event) → IsIdleTimed spread n events clock limit a new → IsIdleTimed spread n events clock limit b more → a ≡ b
+pub IsIdleTimed-unique : (spread : Bool) (n : ℕ) (events : List Event) (clock : Clock) (limit : ℕ) (a b : IdleTrace)
+    (new more : List Event) → IsIdleTimed spread n events clock limit a new
+    → IsIdleTimed spread n events clock limit b more → a ≡ b
 IsIdleTimed-unique spread n events clock limit a b new more s t =
     let ticks = AreTicks-unique spread events clock t.ticks s.ticks s.passed t.are s.are in
     let idle = subst (λ xs. AreIdle n events xs (last_of events clock xs) limit t.idles) ticks t.idle in
@@ -190,7 +198,9 @@ IsIdleTimed-unique spread n events clock limit a b new more s t =
           ∙ ap (λ (k : ℕ). let z : IdleTrace = record { trace = b.trace; moved = b.moved; added = k } in z) k
 
 -- the steps of the trace are those of the events and of the receives behind them at these places, in this order
-pub steps-filled : (spread : Bool) (n : ℕ) (events : List Event) (clock : Clock) (limit : ℕ) (timed : IdleTrace) (new : List Event) (places : List ℕ) → IsIdleTimed spread n events clock limit timed new → AreFilledPlaces spread n events clock limit new places → HasStepsAt n new places timed.trace
+pub steps-filled : (spread : Bool) (n : ℕ) (events : List Event) (clock : Clock) (limit : ℕ) (timed : IdleTrace)
+    (new : List Event) (places : List ℕ) → IsIdleTimed spread n events clock limit timed new
+    → AreFilledPlaces spread n events clock limit new places → HasStepsAt n new places timed.trace
 steps-filled spread n events clock limit timed new places t p =
     let ticks = AreTicks-unique spread events clock p.ticks t.ticks t.passed p.are t.are in
     let last = last_of events clock t.ticks in

@@ -44,10 +44,15 @@ module _ (at : ℕ) (hops : List Hop) (inside : at ≤ length hops) where
         let s = turned-some k (let n = turned-long in omega arith) in
         subst (λ h. IsSentTo events h.event h.message) (sym (s.2 d)) (c.taken s.0 d s.1)
 
-    from-to : (j k i m : ℕ) (d : Hop) → get_or (turned at hops) j d ≡ get_or hops i d → get_or (turned at hops) k d ≡ get_or hops m d → IsFrom events (get_or hops i d).event (get_or hops m d).message → IsFrom events (get_or (turned at hops) j d).event (get_or (turned at hops) k d).message
+    from-to : (j k i m : ℕ) (d : Hop) → get_or (turned at hops) j d ≡ get_or hops i d
+        → get_or (turned at hops) k d ≡ get_or hops m d
+        → IsFrom events (get_or hops i d).event (get_or hops m d).message
+        → IsFrom events (get_or (turned at hops) j d).event (get_or (turned at hops) k d).message
     from-to j k i m d e f h = subst (λ x. IsFrom events x.event (get_or (turned at hops) k d).message) (sym e) (subst (λ y. IsFrom events (get_or hops i d).event y.message) (sym f) h)
 
-    next-by : (k : ℕ) (d : Hop) → k + 1 < length hops → (at + k + 1 < length hops) ⊎ (length hops ≤ at + k + 1) → (at + k + 1 ≡ length hops) ⊎ ¬ (at + k + 1 ≡ length hops) → IsFrom events (get_or (turned at hops) (k + 1) d).event (get_or (turned at hops) k d).message
+    next-by : (k : ℕ) (d : Hop) → k + 1 < length hops → (at + k + 1 < length hops) ⊎ (length hops ≤ at + k + 1)
+        → (at + k + 1 ≡ length hops) ⊎ ¬ (at + k + 1 ≡ length hops)
+        → IsFrom events (get_or (turned at hops) (k + 1) d).event (get_or (turned at hops) k d).message
     next-by k d l (inl b) e = from-to (k + 1) k (at + k + 1) (at + k) d (turned-left (k + 1) (at + k + 1) d (omega arith) b) (turned-left k (at + k) d refl (omega arith)) (c.next (at + k) d b)
     next-by k d l (inr b) (inl e) = from-to (k + 1) k 0 (length hops - 1) d (turned-right (k + 1) 0 d (omega arith) (omega arith)) (turned-left k (length hops - 1) d (omega arith) (omega arith)) (c.closed d)
     next-by k d l (inr b) (inr n) =
@@ -55,11 +60,18 @@ module _ (at : ℕ) (hops : List Hop) (inside : at ≤ length hops) where
         from-to (k + 1) k (i + 1) i d (turned-right (k + 1) (i + 1) d (omega arith) (omega arith)) (turned-right k i d (omega arith) (omega arith)) (c.next i d (omega arith))
 
     closed-by : (d : Hop) → (at < length hops) ⊎ (length hops ≤ at) → (at ≡ 0) ⊎ ¬ (at ≡ 0) → IsFrom events (get_or (turned at hops) 0 d).event (get_or (turned at hops) (length hops - 1) d).message
-    closed-by d (inr b) z = let s = c.some in from-to 0 (length hops - 1) 0 (length hops - 1) d (turned-right 0 0 d (omega arith) (omega arith)) (turned-right (length hops - 1) (length hops - 1) d (omega arith) (omega arith)) (c.closed d)
-    closed-by d (inl b) (inl z) = let s = c.some in from-to 0 (length hops - 1) 0 (length hops - 1) d (turned-left 0 0 d (omega arith) (omega arith)) (turned-left (length hops - 1) (length hops - 1) d (omega arith) (omega arith)) (c.closed d)
+    closed-by d (inr b) z = let s = c.some in
+        from-to 0 (length hops - 1) 0 (length hops - 1) d (turned-right 0 0 d (omega arith) (omega arith))
+        (turned-right (length hops - 1) (length hops - 1) d (omega arith) (omega arith)) (c.closed d)
+    closed-by d (inl b) (inl z) = let s = c.some in
+        from-to 0 (length hops - 1) 0 (length hops - 1) d (turned-left 0 0 d (omega arith) (omega arith))
+        (turned-left (length hops - 1) (length hops - 1) d (omega arith) (omega arith)) (c.closed d)
     closed-by d (inl b) (inr z) =
         let i : at - 1 + 1 ≡ at = omega arith in
-        from-to 0 (length hops - 1) at (at - 1) d (turned-left 0 at d (omega arith) b) (turned-right (length hops - 1) (at - 1) d (omega arith) (omega arith)) (subst (λ j. IsFrom events (get_or hops j d).event (get_or hops (at - 1) d).message) i (c.next (at - 1) d (omega arith)))
+        from-to 0 (length hops - 1) at (at - 1) d (turned-left 0 at d (omega arith) b)
+        (turned-right (length hops - 1) (at - 1) d (omega arith) (omega arith))
+        (subst (λ j. IsFrom events (get_or hops j d).event (get_or hops (at - 1) d).message) i
+        (c.next (at - 1) d (omega arith)))
 
     turned-is : IsCauseCycle events (turned at hops)
     turned-is = record {
@@ -92,7 +104,9 @@ pub turned-none : (A : Type 0) (cycle hops now : List Hop) → hops ≡ cycle �
 turned-none A cycle hops now e f t l = let n = turned-count hops now t in let m = ap length e in f (omega arith)
 
 -- turned to its least hop, it begins there
-pub turned-least : (hops now : List Hop) (at : ℕ) → at ≤ length hops → now ≡ turned at hops → ((k : ℕ) (d : Hop) → k < length hops → (at < length hops) × ((get_or hops at d).event ≤ (get_or hops k d).event)) → BeginsAtLeast now
+pub turned-least : (hops now : List Hop) (at : ℕ) → at ≤ length hops → now ≡ turned at hops
+    → ((k : ℕ) (d : Hop) → k < length hops → (at < length hops) × ((get_or hops at d).event ≤ (get_or hops k d).event))
+    → BeginsAtLeast now
 turned-least hops now at l e least = subst (λ xs. BeginsAtLeast xs) (sym e) (λ k d b. (
     let n = turned-long at hops l in
     let s = turned-some at hops l k (omega arith) in

@@ -9,7 +9,8 @@ use Rattle.timed_events.specs.Causes.{IsFrom, IsSentTo}
 pub record IsCauseCycle (events : List Event) (hops : List Hop) : Type 0 where
   pub some : 0 < length hops
   pub taken : (k : ℕ) (d : Hop) → k < length hops → IsSentTo events (get_or hops k d).event (get_or hops k d).message
-  pub next : (k : ℕ) (d : Hop) → k + 1 < length hops → IsFrom events (get_or hops (k + 1) d).event (get_or hops k d).message
+  pub next : (k : ℕ) (d : Hop) → k + 1 < length hops
+      → IsFrom events (get_or hops (k + 1) d).event (get_or hops k d).message
   pub closed : (d : Hop) → IsFrom events (get_or hops 0 d).event (get_or hops (length hops - 1) d).message
 
 -- no hop has an event before that of the first hop, by their places

@@ -1,5 +1,6 @@
 -- The causes of events, and orders of events that keep them, whatever their times (own).
-use Rattle.std.specs.Prelude.{ℕ, ◌≡◌, ◌<◌, ◌⊎◌, List, length, Bool, IsTrue, not, ◌&&◌, ◌||◌, nat_lt, int_lt, slice_index}
+use Rattle.std.specs.Prelude.{ℕ, ◌≡◌, ◌<◌, ◌⊎◌, List, length, Bool, IsTrue}
+use Rattle.std.specs.Prelude.{not, ◌&&◌, ◌||◌, nat_lt, int_lt, slice_index}
 use Rattle.timed_events.specs.declared.events.Event.{Event}
 use Rattle.std.specs.List.{list_any, range_with_len}
 use Rattle.std.specs.List.Sorted.{IsPermutation}
@@ -7,7 +8,8 @@ use Rattle.timed_events.specs.Checks.{time_at, processor_at, messages_at, is_mes
 
 -- whether event j comes before event i: by their times, and at one time by their places
 abbrev pub is_earlier : List Event → ℕ → ℕ → Bool
-is_earlier events j i = int_lt (time_at events j) (time_at events i) || (not (int_lt (time_at events i) (time_at events j)) && nat_lt j i)
+is_earlier events j i = int_lt (time_at events j) (time_at events i) ||
+    (not (int_lt (time_at events i) (time_at events j)) && nat_lt j i)
 
 -- whether event i received the message of event s
 abbrev pub takes : List Event → ℕ → ℕ → Bool
@@ -16,7 +18,8 @@ takes events i s = list_any (is_message s) (messages_at events i)
 -- The list has each place of the events once, each event before those that come after it.
 pub record IsTimeOrder (events : List Event) (order : List ℕ) : Type 0 where
   pub places : IsPermutation (range_with_len 0 (length events)) order
-  pub rising : (j k : ℕ) → j < k → k < length order → IsTrue (is_earlier events (slice_index order j) (slice_index order k))
+  pub rising : (j k : ℕ) → j < k → k < length order
+      → IsTrue (is_earlier events (slice_index order j) (slice_index order k))
 
 -- event j is of the processor of event i, and comes before it
 pub record IsOwnBefore (events : List Event) (i j : ℕ) : Type 0 where
@@ -46,7 +49,8 @@ IsCause events i j = IsOwnBefore events i j ⊎ IsSentTo events i j
 pub record IsCausalPart (events : List Event) (part : List ℕ) : Type 0 where
   pub inside : (k : ℕ) → k < length part → slice_index part k < length events
   pub apart : (j k : ℕ) → j < length part → k < length part → slice_index part j ≡ slice_index part k → j ≡ k
-  pub causes : (k i : ℕ) → k < length part → IsCause events (slice_index part k) i → (j : ℕ) × (j < k) × (slice_index part j ≡ i)
+  pub causes : (k i : ℕ) → k < length part → IsCause events (slice_index part k) i
+      → (j : ℕ) × (j < k) × (slice_index part j ≡ i)
 
 -- Such a list of all events.
 pub record IsCausalOrder (events : List Event) (order : List ℕ) : Type 0 where

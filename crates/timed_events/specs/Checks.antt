@@ -1,6 +1,7 @@
 -- What makes events a trace: each message is received by the one to whom it was sent, once, in a later tick. No
 -- processor has two events in a tick (own).
-use Rattle.std.specs.Prelude.{ℕ, ◌≡◌, ◌+◌, ◌*◌, ◌-◌, ◌≤◌, ◌<◌, List, [], length, take, Option, Some, None, Bool, false, ◌==◌, ◌||◌, ◌&&◌, not, nat_lt, int_lt, pos, slice_get, slice_index_or, if◌then◌else◌, ℤ}
+use Rattle.std.specs.Prelude.{ℕ, ◌≡◌, ◌+◌, ◌*◌, ◌-◌, ◌≤◌, ◌<◌, List, [], length, take, Option, Some, None, Bool, false}
+use Rattle.std.specs.Prelude.{◌==◌, ◌||◌, ◌&&◌, not, nat_lt, int_lt, pos, slice_get, slice_index_or, if◌then◌else◌, ℤ}
 use Rattle.std.specs.List.{list_any}
 use Rattle.std.specs.Option.{option_or, option_map_or}
 use Rattle.std.specs.Prelude.{option_map}
@@ -11,7 +12,8 @@ use Rattle.timed_events.specs.declared.events.EventAct.TheVariants.{Send, Receiv
 use Rattle.timed_events.specs.declared.events.Hint.{Hint}
 use Rattle.timed_events.specs.declared.events.Hint.TheVariants.{ShorterTick, Spread}
 use Rattle.timed_events.specs.declared.events.EventError.{EventError}
-use Rattle.timed_events.specs.declared.events.EventError.TheVariants.{NeverSent, WrongReceiver, ReceivedBefore, NotLater, SecondEvent, Memory}
+use Rattle.timed_events.specs.declared.events.EventError.TheVariants.{NeverSent, WrongReceiver, ReceivedBefore}
+use Rattle.timed_events.specs.declared.events.EventError.TheVariants.{NotLater, SecondEvent, Memory}
 use Rattle.timed_events.specs.Firsts.{first_of, any_below}
 
 -- whether it is a Send to p
@@ -72,7 +74,9 @@ message_refusal events ticks received i k (Some s) =
 
 -- the first reason against the messages of event i
 unfoldable pub messages_refusal : List Event → List ℕ → ℕ → Option EventError
-messages_refusal events ticks i = first_of (λ k. message_refusal events ticks (was_received events i k) i k (slice_index_or (messages_at events i) k None)) (length (messages_at events i))
+messages_refusal events ticks i = first_of
+    (λ k. message_refusal events ticks (was_received events i k) i k (slice_index_or (messages_at events i) k None))
+    (length (messages_at events i))
 
 -- the reason against a message whatever the ticks, by a test of which were received before
 abbrev pub message_fault : List Event → (ℕ → Bool) → ℕ → ℕ → Option ℕ → Option EventError
@@ -85,7 +89,9 @@ message_fault events received i k (Some s) =
 
 -- the first such reason against the messages of event i
 unfoldable pub message_faults : List Event → ℕ → Option EventError
-message_faults events i = first_of (λ k. message_fault events (was_received events i k) i k (slice_index_or (messages_at events i) k None)) (length (messages_at events i))
+message_faults events i = first_of
+    (λ k. message_fault events (was_received events i k) i k (slice_index_or (messages_at events i) k None))
+    (length (messages_at events i))
 
 -- the first such reason against the events, in their order
 unfoldable pub first_fault : List Event → Option EventError
@@ -100,7 +106,8 @@ moment_at events ticks i = moment_of (slice_index_or ticks i 0) (processor_at ev
 
 -- each event is of a processor of some configuration
 abbrev pub AreOfProcessors : List Event → Type 0
-AreOfProcessors events = (i : ℕ) → i < length events → (1 ≤ processor_at events i) × (processor_at events i ≤ MAX_PROCESSORS)
+AreOfProcessors events = (i : ℕ) → i < length events → (1 ≤ processor_at events i)
+    × (processor_at events i ≤ MAX_PROCESSORS)
 
 -- a Send goes to one of n processors
 abbrev pub GoesWithin : ℕ → EventAct → Type 0
@@ -119,7 +126,8 @@ AreMeant events n = (i : ℕ) → i < length events → IsMeantAt events n i
 
 -- no two events have one moment
 abbrev pub HaveOwnMoments : List Event → List ℕ → Type 0
-HaveOwnMoments events ticks = (j i : ℕ) → j < i → i < length events → ¬ (moment_at events ticks j ≡ moment_at events ticks i)
+HaveOwnMoments events ticks = (j i : ℕ) → j < i → i < length events
+    → ¬ (moment_at events ticks j ≡ moment_at events ticks i)
 
 -- the first event before i at this moment
 unfoldable pub earlier_at : List Event → List ℕ → ℕ → ℕ → Option ℕ
@@ -128,12 +136,14 @@ earlier_at events ticks i moment = first_of (λ j. if moment_at events ticks j =
 -- what would set two events of one processor apart
 abbrev pub apart_hint : List Event → ℕ → ℕ → Option Hint
 apart_hint events j i =
-    if int_lt (time_at events j) (time_at events i) || int_lt (time_at events i) (time_at events j) then Some ShorterTick
+    if int_lt (time_at events j) (time_at events i) || int_lt (time_at events i)
+    (time_at events j) then Some ShorterTick
     else Some Spread
 
 -- the reason against a second event in a tick
 unfoldable pub second_refusal : List Event → List ℕ → ℕ → Option EventError
-second_refusal events ticks i = option_map (λ j. SecondEvent i (slice_index_or ticks i 0) (apart_hint events j i)) (earlier_at events ticks i (moment_at events ticks i))
+second_refusal events ticks i = option_map (λ j. SecondEvent i (slice_index_or ticks i 0) (apart_hint events j i))
+    (earlier_at events ticks i (moment_at events ticks i))
 
 -- the first reason against event i
 abbrev pub event_refusal : List Event → List ℕ → ℕ → Option EventError

@@ -14,7 +14,8 @@ pub record HasEventIn (events : List Event) (ticks : List ℕ) (p y : ℕ) : Typ
   pub own : processor_at events place ≡ p
   pub at : slice_index ticks place ≡ y
 
--- Processor p has no event in the ticks after `since` up to y, which are at least one and at most `limit`. It has an event
+-- Processor p has no event in the ticks after `since` up to y, which are at least one and at most `limit`. It has an
+-- event
 -- in tick `since`, or that is 0.
 pub record IsShortSilence (events : List Event) (ticks : List ℕ) (limit p y : ℕ) : Type 0 where
   pub since : ℕ
@@ -48,12 +49,15 @@ moments_of idles = map (λ x. moment_of x.tick x.processor) idles
 
 -- each moment is above those before it
 abbrev pub AreRising : List IdleTick → Type 0
-AreRising idles = (j k : ℕ) → j < k → k < length idles → slice_index (moments_of idles) j < slice_index (moments_of idles) k
+AreRising idles = (j k : ℕ) → j < k → k < length idles
+    → slice_index (moments_of idles) j < slice_index (moments_of idles) k
 
 -- the list has each tick in which a short silence of one of n processors ends, once, in the order of their moments
-pub record AreIdle (n : ℕ) (events : List Event) (ticks : List ℕ) (last limit : ℕ) (idles : List IdleTick) : Type 0 where
+pub record AreIdle (n : ℕ) (events : List Event) (ticks : List ℕ) (last limit : ℕ)
+    (idles : List IdleTick) : Type 0 where
   pub each : All (IsIdleTick n events ticks last limit) idles
-  pub all : (p y : ℕ) → 1 ≤ p → p ≤ n → IsIdleEnd events ticks last limit p y → Contains idles (record { processor = p; tick = y })
+  pub all : (p y : ℕ) → 1 ≤ p → p ≤ n → IsIdleEnd events ticks last limit p y
+      → Contains idles (record { processor = p; tick = y })
   pub rising : AreRising idles
 
 -- it receives nothing

@@ -22,8 +22,10 @@ pub record IsGrown (events : List Event) (idles : List IdleTick) (new : List Eve
   pub receives : AreReceives idles added
   pub grown : new ≡ events ++ added
 
--- The new list has the events and, behind them, a receive of nothing in each of the idle ticks; the trace is that of all.
-pub record IsFilled (n : ℕ) (events new : List Event) (ticks : List ℕ) (last : ℕ) (idles : List IdleTick) (made : Recorded) : Type 0 where
+-- The new list has the events and, behind them, a receive of nothing in each of the idle ticks; the trace is that of
+-- all.
+pub record IsFilled (n : ℕ) (events new : List Event) (ticks : List ℕ) (last : ℕ) (idles : List IdleTick)
+    (made : Recorded) : Type 0 where
   pub added : List Event
   pub receives : AreReceives idles added
   pub grown : new ≡ events ++ added
@@ -32,7 +34,8 @@ pub record IsFilled (n : ℕ) (events new : List Event) (ticks : List ℕ) (last
 -- No event is refused. The trace has the events in their ticks, and a receive of nothing in the last tick of each
 -- silence of at most `limit` ticks. The new list has both. This is how the events moved, and how many receives were
 -- added.
-pub record IsIdleTimed (spread : Bool) (n : ℕ) (events : List Event) (clock : Clock) (limit : ℕ) (timed : IdleTrace) (new : List Event) : Type 0 where
+pub record IsIdleTimed (spread : Bool) (n : ℕ) (events : List Event) (clock : Clock) (limit : ℕ) (timed : IdleTrace)
+    (new : List Event) : Type 0 where
   pub passed : HavePassed spread events clock
   pub ticks : List ℕ
   pub are : AreTicks spread events clock ticks
@@ -44,7 +47,8 @@ pub record IsIdleTimed (spread : Bool) (n : ℕ) (events : List Event) (clock : 
 
 -- `filled` has the events and, behind them, a receive of nothing in the last tick of each silence of at most `limit`
 -- ticks; these are its places in the order of the trace's steps: by tick, and within a tick by processor
-pub record AreFilledPlaces (spread : Bool) (n : ℕ) (events : List Event) (clock : Clock) (limit : ℕ) (filled : List Event) (places : List ℕ) : Type 0 where
+pub record AreFilledPlaces (spread : Bool) (n : ℕ) (events : List Event) (clock : Clock) (limit : ℕ)
+    (filled : List Event) (places : List ℕ) : Type 0 where
   pub ticks : List ℕ
   pub are : AreTicks spread events clock ticks
   pub idles : List IdleTick
@@ -66,9 +70,11 @@ abbrev pub IsIdleRefusal : Bool → ℕ → List Event → Clock → ℕ → Idl
 IsIdleRefusal spread n events clock limit (Events why) = IsTimedRefusal spread events clock why
 IsIdleRefusal spread n events clock limit TooManySteps = AreTooMany spread n events clock limit
 
--- No event is refused; these are the ticks of the events and of the receives of nothing, of which there are no more than
+-- No event is refused; these are the ticks of the events and of the receives of nothing, of which there are no more
+-- than
 -- a trace may have steps.
-pub record IsFilling (spread : Bool) (n : ℕ) (events : List Event) (clock : Clock) (limit : ℕ) (filling : Filling) : Type 0 where
+pub record IsFilling (spread : Bool) (n : ℕ) (events : List Event) (clock : Clock) (limit : ℕ)
+    (filling : Filling) : Type 0 where
   pub ticked : AreTicked spread events clock filling.ticked
   pub idle : AreIdle n events filling.ticked.ticks.items filling.ticked.last limit filling.idles.items
   pub few : length events + length filling.idles.items ≤ MAX_STEPS

@@ -1,11 +1,13 @@
 //! An order of events that keeps their causes: the earlier events of their processors, and the Sends of what they
 //! received.
 
-ghost use Rattle.std.specs.Prelude.{◌≡◌, ◌<◌, ◌≤◌, ◌+◌, ◌∷◌, ◌++◌, ℕ, [], true, length, IfNone, IfOk, IfErr, IfSome, OnOk, slice_index};
+ghost use Rattle.std.specs.Prelude.{◌≡◌, ◌<◌, ◌≤◌, ◌+◌, ◌∷◌, ◌++◌, ℕ, [], true, length};
+ghost use Rattle.std.specs.Prelude.{IfNone, IfOk, IfErr, IfSome, OnOk, slice_index};
 ghost use Rattle.std.specs.List.{range_with_len};
 ghost use Rattle.timed_events.specs.Checks.{is_for, AreOfProcessors};
 ghost use Rattle.timed_events.specs.Causes.{IsCausalOrder, IsSentTo, IsTimeOrder};
-ghost use Rattle.timed_events.specs.CausalWalks.{left_to_do, AreFirsts, AreMet, AreNexts, AreRightlyReceived, IsIn, IsCycleRefusal, IsWaiting, IsWalked};
+ghost use Rattle.timed_events.specs.CausalWalks.{left_to_do, AreFirsts, AreMet, AreNexts, AreRightlyReceived};
+ghost use Rattle.timed_events.specs.CausalWalks.{IsIn, IsCycleRefusal, IsWaiting, IsWalked};
 
 use crate::events::{Event, EventAct, EventError};
 use crate::own_sequences::own_sequences;
@@ -62,7 +64,9 @@ pub(crate) fn walked(
     requires processors { AreOfProcessors events.now }
     requires ordered { IsTimeOrder events.now time_order.now }
     requires received { AreRightlyReceived events.now }
-    ensures walked { IfOk result (λ w. IsWalked events.now w.heads.items w.met.items w.waits.items w.ranks.items w.order.items w.awake.items) }
+    ensures walked { IfOk result
+        (λ w. IsWalked events.now w.heads.items w.met.items w.waits.items w.ranks.items
+        w.order.items w.awake.items) }
     ensures stopped { IfOk result (λ w. length w.awake.items ≡ 0) }
 {
     let sequences = own_sequences(alloc, events, time_order)?;
@@ -76,7 +80,8 @@ pub(crate) fn walked(
 /// The walk before the first event is placed.
 fn started(alloc: Global, events: &[Event], firsts: Vec<u32>) -> Result<Walk, AllocError>
     requires firsts { AreFirsts events.now firsts.items }
-    ensures { IfOk result (λ w. IsWalked events.now w.heads.items w.met.items w.waits.items w.ranks.items w.order.items w.awake.items) }
+    ensures { IfOk result (λ w. IsWalked events.now w.heads.items w.met.items w.waits.items
+        w.ranks.items w.order.items w.awake.items) }
 {
     let met = vec![in alloc; 0; MAX_PROCESSORS as usize]?;
     let waits = vec![in alloc; 0; MAX_PROCESSORS as usize]?;
@@ -116,9 +121,15 @@ fn look_at(
     requires nexts { AreNexts events.now nexts.now }
     requires received { AreRightlyReceived events.now }
     requires inside { processor < MAX_PROCESSORS }
-    requires walked { IsWalked events.now walk.old.heads.items walk.old.met.items walk.old.waits.items walk.old.ranks.items walk.old.order.items (walk.old.awake.items ++ processor ∷ []) }
-    ensures walked { OnOk result (IsWalked events.now walk.new.heads.items walk.new.met.items walk.new.waits.items walk.new.ranks.items walk.new.order.items walk.new.awake.items) }
-    ensures less { OnOk result (left_to_do walk.new.ranks.items walk.new.awake.items < left_to_do walk.old.ranks.items walk.old.awake.items + 1) }
+    requires walked { IsWalked events.now walk.old.heads.items walk.old.met.items
+        walk.old.waits.items walk.old.ranks.items walk.old.order.items
+        (walk.old.awake.items ++ processor ∷ []) }
+    ensures walked { OnOk result
+        (IsWalked events.now walk.new.heads.items walk.new.met.items walk.new.waits.items
+        walk.new.ranks.items walk.new.order.items walk.new.awake.items) }
+    ensures less { OnOk result
+        (left_to_do walk.new.ranks.items walk.new.awake.items < left_to_do walk.old.ranks.items
+        walk.old.awake.items + 1) }
 {
     let head = walk.heads[processor] as usize;
     if head >= events.len() {
@@ -167,8 +178,10 @@ fn unmet_from(events: &[Event], place: usize, from: usize, ranks: &[u32]) -> Unm
     requires ranks { length ranks.now ≡ length events.now }
     requires met { AreMet events.now ranks.now place from }
     ensures met { AreMet events.now ranks.now place result.met }
-    ensures waits { result.message < length events.now → IsWaiting events.now ranks.now place result.message }
-    ensures none { length events.now ≤ result.message → (s : ℕ) → IsSentTo events.now place s → 0 < slice_index ranks.now s }
+    ensures waits { result.message < length events.now
+        → IsWaiting events.now ranks.now place result.message }
+    ensures none { length events.now ≤ result.message → (s : ℕ) → IsSentTo events.now place s
+        → 0 < slice_index ranks.now s }
 {
     let messages = events[place].act.messages();
     for k in from..messages.len() {
@@ -188,8 +201,12 @@ fn unmet_from(events: &[Event], place: usize, from: usize, ranks: &[u32]) -> Unm
 fn wake(place: usize, to: u64, waits: &[u32], awake: &mut Vec<u8>) -> Result<(), AllocError>
     requires waits { length waits.now ≡ MAX_PROCESSORS }
     ensures kept { OnOk result ((q : ℕ) → IsIn q awake.old.items → IsIn q awake.new.items) }
-    ensures woken { OnOk result ((q : ℕ) → q < MAX_PROCESSORS → to ≡ q + 1 → slice_index waits.now q ≡ place → IsIn q awake.new.items) }
-    ensures inside { OnOk result (((k : ℕ) → k < length awake.old.items → slice_index awake.old.items k < MAX_PROCESSORS) → (k : ℕ) → k < length awake.new.items → slice_index awake.new.items k < MAX_PROCESSORS) }
+    ensures woken { OnOk result ((q : ℕ) → q < MAX_PROCESSORS → to ≡ q + 1
+        → slice_index waits.now q ≡ place → IsIn q awake.new.items) }
+    ensures inside { OnOk result
+        (((k : ℕ) → k < length awake.old.items → slice_index awake.old.items k < MAX_PROCESSORS)
+        → (k : ℕ) → k < length awake.new.items
+        → slice_index awake.new.items k < MAX_PROCESSORS) }
     ensures one { OnOk result (length awake.new.items ≤ length awake.old.items + 1) }
 {
     if to < 1 || MAX_PROCESSORS < to {
@@ -204,7 +221,8 @@ fn wake(place: usize, to: u64, waits: &[u32], awake: &mut Vec<u8>) -> Result<(),
 
 /// The first event that isn't placed.
 pub(crate) fn first_unplaced(ranks: &[u32]) -> Option<usize>
-    ensures some { IfSome result (λ i. (i < length ranks.now) × (slice_index ranks.now i ≡ 0) × ((j : ℕ) → j < i → 0 < slice_index ranks.now j)) }
+    ensures some { IfSome result (λ i. (i < length ranks.now) × (slice_index ranks.now i ≡ 0)
+        × ((j : ℕ) → j < i → 0 < slice_index ranks.now j)) }
     ensures none { IfNone result ((j : ℕ) → j < length ranks.now → 0 < slice_index ranks.now j) }
 {
     for (place, rank) in ranks.iter().enumerate() {

@@ -38,7 +38,8 @@ pub fn cycle_of_causes(alloc: Global, events: &[Event]) -> Result<Vec<Hop>, Allo
     requires passed { first_fault events.now ≡ None }
     ensures cycle { IfOk result (λ v. 0 < length v.items → IsCauseCycle events.now v.items) }
     ensures first { IfOk result (λ v. BeginsAtLeast v.items) }
-    ensures none { IfOk result (λ v. length v.items ≡ 0 → (order : List ℕ) × IsCausalOrder events.now order) }
+    ensures none { IfOk result (λ v. length v.items ≡ 0
+        → (order : List ℕ) × IsCausalOrder events.now order) }
 {
     let times = time_order_of(alloc, events)?;
     let cycle = cause_cycle(alloc, events, &times)?;
@@ -54,7 +55,8 @@ fn cause_cycle(alloc: Global, events: &[Event], time_order: &[u32]) -> Result<Ve
     requires ordered { IsTimeOrder events.now time_order.now }
     requires received { AreRightlyReceived events.now }
     ensures cycle { IfOk result (λ v. 0 < length v.items → IsCauseCycle events.now v.items) }
-    ensures none { IfOk result (λ v. length v.items ≡ 0 → (order : List ℕ) × IsCausalOrder events.now order) }
+    ensures none { IfOk result (λ v. length v.items ≡ 0
+        → (order : List ℕ) × IsCausalOrder events.now order) }
 {
     let walk = walked(alloc, events, time_order)?;
     match first_unplaced(&walk.ranks) {
@@ -71,8 +73,10 @@ fn cycle_from(
     processor: usize,
 ) -> Result<Vec<Hop>, AllocError>
     requires processors { AreOfProcessors events.now }
-    requires walked { IsWalked events.now walk.now.heads.items walk.now.met.items walk.now.waits.items walk.now.ranks.items walk.now.order.items walk.now.awake.items }
-    requires waiting { AreWaiting events.now walk.now.heads.items walk.now.waits.items walk.now.ranks.items }
+    requires walked { IsWalked events.now walk.now.heads.items walk.now.met.items
+        walk.now.waits.items walk.now.ranks.items walk.now.order.items walk.now.awake.items }
+    requires waiting { AreWaiting events.now walk.now.heads.items walk.now.waits.items
+        walk.now.ranks.items }
     requires inside { processor < MAX_PROCESSORS }
     requires left { slice_index walk.now.heads.items processor < length events.now }
     ensures { IfOk result (λ v. IsCauseCycle events.now v.items) }
@@ -101,7 +105,8 @@ fn rest_of(alloc: Global, hops: &[Hop], from: usize) -> Result<Vec<Hop>, AllocEr
 
 /// The same cycle, begun at the least of its events.
 fn begun_at_least(alloc: Global, hops: &[Hop]) -> Result<Vec<Hop>, AllocError>
-    ensures turned { IfOk result (λ v. (at : ℕ) × (at ≤ length hops.now) × (v.items ≡ drop at hops.now ++ take at hops.now)) }
+    ensures turned { IfOk result (λ v. (at : ℕ) × (at ≤ length hops.now)
+        × (v.items ≡ drop at hops.now ++ take at hops.now)) }
     ensures first { IfOk result (λ v. BeginsAtLeast v.items) }
 {
     let at = least_hop(hops);
@@ -113,7 +118,8 @@ fn begun_at_least(alloc: Global, hops: &[Hop]) -> Result<Vec<Hop>, AllocError>
 /// The hop of the least event; 0 if there are none.
 fn least_hop(hops: &[Hop]) -> usize
     ensures inside { result ≤ length hops.now }
-    ensures least { (k : ℕ) (d : Hop) → k < length hops.now → (result < length hops.now) × ((get_or hops.now result d).event ≤ (get_or hops.now k d).event) }
+    ensures least { (k : ℕ) (d : Hop) → k < length hops.now → (result < length hops.now)
+        × ((get_or hops.now result d).event ≤ (get_or hops.now k d).event) }
 {
     let mut least = 0;
     for k in 0..hops.len() {

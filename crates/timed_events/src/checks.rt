@@ -1,9 +1,13 @@
 //! What makes events a trace, tested event by event.
 
-ghost use Rattle.std.specs.Prelude.{◌≡◌, ◌<◌, ◌≤◌, ◌+◌, ◌||◌, ◌↔◌, ℕ, None, Some, false, length, map, IfOk, OnOk, OnErr, MatchResult, IsTrue, IsSome, is_some, nat_eq, slice_get, slice_index_or, All};
+ghost use Rattle.std.specs.Prelude.{◌≡◌, ◌<◌, ◌≤◌, ◌+◌, ◌||◌, ◌↔◌, ℕ, None, Some, false, length, map, IfOk, OnOk};
+ghost use Rattle.std.specs.Prelude.{OnErr, MatchResult, IsTrue, IsSome, is_some, nat_eq, slice_get, slice_index_or};
+ghost use Rattle.std.specs.Prelude.{All};
 ghost use Rattle.std.specs.HashSet.{contains};
 ghost use Rattle.timed_events.specs.Briefs.{brief_of};
-ghost use Rattle.timed_events.specs.Checks.{is_for, received_before, messages_at, message_refusal, messages_refusal, late_hint, apart_hint, moment_at, earlier_at, second_refusal, events_refusal, AreOfProcessors, AreMeant, IsMeantAt, IsEventRefusal};
+ghost use Rattle.timed_events.specs.Checks.{is_for, received_before, messages_at, message_refusal, messages_refusal};
+ghost use Rattle.timed_events.specs.Checks.{late_hint, apart_hint, moment_at, earlier_at, second_refusal};
+ghost use Rattle.timed_events.specs.Checks.{events_refusal, AreOfProcessors, AreMeant, IsMeantAt, IsEventRefusal};
 
 use crate::briefs::{Brief, briefs_of};
 use crate::events::{Event, EventAct, EventError, Hint};
@@ -18,7 +22,8 @@ use step_trace::MAX_PROCESSORS;
 pub fn check_events(alloc: Global, events: &[Event], ticks: &[u32]) -> Result<(), EventError>
     requires ticks { length ticks.now ≡ length events.now }
     requires processors { AreOfProcessors events.now }
-    ensures { MatchResult result (λ _. events_refusal events.now ticks.now ≡ None) (λ why. IsEventRefusal why (events_refusal events.now ticks.now)) }
+    ensures { MatchResult result (λ _. events_refusal events.now ticks.now ≡ None)
+        (λ why. IsEventRefusal why (events_refusal events.now ticks.now)) }
 {
     let briefs = briefs_of(alloc, events)?;
     let mut taken = vec![in alloc; false; events.len()]?;
@@ -73,10 +78,13 @@ pub(crate) fn take_messages(
     requires briefs { briefs.now ≡ map brief_of events.now }
     requires messages { messages.now ≡ messages_at events.now place }
     requires len { length taken.old.items ≡ length events.now }
-    requires taken { (s : ℕ) → s < length events.now → slice_index_or taken.old.items s false ≡ received_before events.now place s }
+    requires taken { (s : ℕ) → s < length events.now
+        → slice_index_or taken.old.items s false ≡ received_before events.now place s }
     ensures len { OnOk result (length taken.new.items ≡ length events.now) }
-    ensures taken { OnOk result ((s : ℕ) → s < length events.now → slice_index_or taken.new.items s false ≡ received_before events.now (place + 1) s) }
-    ensures refused { MatchResult result (λ _. messages_refusal events.now ticks.now place ≡ None) (λ why. messages_refusal events.now ticks.now place ≡ Some why) }
+    ensures taken { OnOk result ((s : ℕ) → s < length events.now
+        → slice_index_or taken.new.items s false ≡ received_before events.now (place + 1) s) }
+    ensures refused { MatchResult result (λ _. messages_refusal events.now ticks.now place ≡ None)
+        (λ why. messages_refusal events.now ticks.now place ≡ Some why) }
 {
     for (k, message) in messages.iter().enumerate() {
         let sent = sent_before(events, briefs, ticks, place, k, *message, taken)?;
@@ -101,7 +109,10 @@ fn sent_before(
     requires briefs { briefs.now ≡ map brief_of events.now }
     requires taken { length taken.now ≡ length events.now }
     ensures sent { IfOk result (λ s. (s < length events.now) × (message ≡ Some s)) }
-    ensures refused { MatchResult result (λ _. message_refusal events.now ticks.now (λ s. slice_index_or taken.now s false) place k message ≡ None) (λ why. message_refusal events.now ticks.now (λ s. slice_index_or taken.now s false) place k message ≡ Some why) }
+    ensures refused { MatchResult result
+        (λ _. message_refusal events.now ticks.now (λ s. slice_index_or taken.now s false) place k
+        message ≡ None) (λ why. message_refusal events.now ticks.now
+        (λ s. slice_index_or taken.now s false) place k message ≡ Some why) }
 {
     let Some(sent) = message else {
         return Err(EventError::NeverSent {
@@ -176,9 +187,12 @@ fn take_moment(
     requires inside { place < length events.now }
     requires ticks { length ticks.now ≡ length events.now }
     requires processors { AreOfProcessors events.now }
-    requires seen { (m : ℕ) → contains nat_eq seen.old m ≡ is_some (earlier_at events.now ticks.now place m) }
-    ensures seen { OnOk result ((m : ℕ) → contains nat_eq seen.new m ≡ is_some (earlier_at events.now ticks.now (place + 1) m)) }
-    ensures refused { MatchResult result (λ _. second_refusal events.now ticks.now place ≡ None) (λ why. IsEventRefusal why (second_refusal events.now ticks.now place)) }
+    requires seen { (m : ℕ) → contains nat_eq seen.old m ≡ is_some
+        (earlier_at events.now ticks.now place m) }
+    ensures seen { OnOk result ((m : ℕ)
+        → contains nat_eq seen.new m ≡ is_some (earlier_at events.now ticks.now (place + 1) m)) }
+    ensures refused { MatchResult result (λ _. second_refusal events.now ticks.now place ≡ None)
+        (λ why. IsEventRefusal why (second_refusal events.now ticks.now place)) }
 {
     let moment = moment_at(events, ticks, place);
     let Ok(new) = seen.insert(moment) else {
@@ -195,7 +209,8 @@ fn second_event(events: &[Event], ticks: &[u32], place: usize) -> EventError
     requires inside { place < length events.now }
     requires ticks { length ticks.now ≡ length events.now }
     requires processors { AreOfProcessors events.now }
-    requires second { IsSome (earlier_at events.now ticks.now place (moment_at events.now ticks.now place)) }
+    requires second { IsSome
+        (earlier_at events.now ticks.now place (moment_at events.now ticks.now place)) }
     ensures { second_refusal events.now ticks.now place ≡ Some result }
 {
     let moment = moment_at(events, ticks, place);

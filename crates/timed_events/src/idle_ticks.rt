@@ -1,6 +1,7 @@
 //! The ticks in which short silences of processors end.
 
-ghost use Rattle.std.specs.Prelude.{◌≡◌, ◌<◌, ◌≤◌, ◌+◌, ◌-◌, ◌++◌, ◌∷◌, ℕ, [], if◌then◌else◌, length, IfOk, OnOk, slice_index};
+ghost use Rattle.std.specs.Prelude.{◌≡◌, ◌<◌, ◌≤◌, ◌+◌, ◌-◌, ◌++◌, ◌∷◌, ℕ, [], if◌then◌else◌};
+ghost use Rattle.std.specs.Prelude.{length, IfOk, OnOk, slice_index};
 ghost use Rattle.timed_events.specs.Checks.{AreMeant, AreOfProcessors};
 ghost use Rattle.timed_events.specs.IdleTicks.{AreIdle};
 ghost use Rattle.timed_events.specs.IdleWalks.{IsWalkedTo, HaveEnded, noted};
@@ -73,7 +74,8 @@ fn idle_before_events(
     requires ticks { length ticks.now ≡ length events.now }
     requires first { (i : ℕ) → i < length events.now → 1 ≤ slice_index ticks.now i }
     requires ordered { IsOrder events.now ticks.now order.now }
-    ensures { IfOk result (λ w. IsWalkedTo events.now ticks.now order.now limit (length order.now) w.lasts.items w.idles.items) }
+    ensures { IfOk result (λ w. IsWalkedTo events.now ticks.now order.now limit
+        (length order.now) w.lasts.items w.idles.items) }
 {
     let mut lasts = vec![in alloc; 0; MAX_PROCESSORS as usize]?;
     let mut idles = Vec::new(alloc);
@@ -102,7 +104,8 @@ fn idle_at_end(
     requires most { n ≤ MAX_PROCESSORS }
     requires wide { length lasts.now ≡ MAX_PROCESSORS }
     requires begun { HaveEnded n events.now ticks.now lasts.now last limit 0 idles.old.items }
-    ensures { OnOk result (HaveEnded n events.now ticks.now lasts.now last limit n idles.new.items) }
+    ensures { OnOk result
+        (HaveEnded n events.now ticks.now lasts.now last limit n idles.new.items) }
 {
     for processor in 0..n as usize {
         note_silence(idles, processor, lasts[processor], last, limit)?;

@@ -6,7 +6,8 @@ ghost use Rattle.timed_events.specs.declared.events.EventError.TheVariants as re
 ghost use Rattle.timed_events.specs.declared.idle_traces.IdleError.TheVariants as idle;
 ghost use Rattle.timed_events.specs.Checks.{AreMeant};
 ghost use Rattle.timed_events.specs.IdleTicks.{AreRising, IsFree, IsIdleReceive, ticks_of};
-ghost use Rattle.timed_events.specs.IdleTraces.{AreFilledPlaces, IsFilling, IsFilled, IsGrown, IsIdleRefusal, IsIdleTimed};
+ghost use Rattle.timed_events.specs.IdleTraces.{AreFilledPlaces, IsFilling, IsFilled};
+ghost use Rattle.timed_events.specs.IdleTraces.{IsGrown, IsIdleRefusal, IsIdleTimed};
 ghost use Rattle.timed_events.specs.Orders.{IsOrder};
 ghost use Rattle.timed_events.specs.TickedEvents.{AreFit};
 ghost use Rattle.timed_events.specs.Times.{times_refusal};
@@ -96,7 +97,8 @@ pub fn filling_of(
     requires width { 0 < clock.now.width }
     ensures filling { IfOk result (IsFilling spread n events.now clock.now limit) }
     ensures refused { IfErr result (λ why. IsIdleRefusal spread n events.now clock.now limit why) }
-    ensures more { result ≡ Err (idle.Events refused.Memory) → times_refusal events.now clock.now ≡ None }
+    ensures more { result ≡ Err (idle.Events refused.Memory)
+        → times_refusal events.now clock.now ≡ None }
 {
     let ticked = event_ticks(alloc, n, events, clock, spread)?;
     let idles = idle_ticks(
@@ -134,8 +136,12 @@ pub fn idle_trace(
     requires some { 0 < length events.old.items }
     requires meant { AreMeant events.old.items n }
     requires filling { IsFilling spread n events.old.items clock.now limit filling }
-    ensures trace { IfOk result (λ placed. IsIdleTimed spread n events.old.items clock.now limit placed.timed events.new.items) }
-    ensures places { IfOk result (λ placed. AreFilledPlaces spread n events.old.items clock.now limit events.new.items placed.places.items) }
+    ensures trace { IfOk result
+        (λ placed. IsIdleTimed spread n events.old.items clock.now limit placed.timed
+        events.new.items) }
+    ensures places { IfOk result
+        (λ placed. AreFilledPlaces spread n events.old.items clock.now limit events.new.items
+        placed.places.items) }
     ensures unchanged { OnErr result (events.new.items ≡ events.old.items) }
 {
     let Filling { ticked, idles } = filling;
@@ -179,8 +185,10 @@ fn filled_trace(
     requires fit { AreFit events.old.items ticks.items last }
     requires free { All (IsFree n events.old.items ticks.items last) idles.now }
     requires rising { AreRising idles.now }
-    ensures trace { IfOk result (λ t. IsFilled n events.old.items events.new.items ticks.items last idles.now t.trace) }
-    ensures order { IfOk result (λ t. IsOrder events.new.items (ticks.items ++ ticks_of idles.now) t.order.items) }
+    ensures trace { IfOk result
+        (λ t. IsFilled n events.old.items events.new.items ticks.items last idles.now t.trace) }
+    ensures order { IfOk result
+        (λ t. IsOrder events.new.items (ticks.items ++ ticks_of idles.now) t.order.items) }
     ensures unchanged { OnErr result (events.new.items ≡ events.old.items) }
 {
     let ticks = with_idle_ticks(ticks, idles)?;

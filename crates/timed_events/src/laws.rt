@@ -20,10 +20,17 @@ ghost use Rattle.timed_events.specs.TimedTraces.{IsTraceOf};
 /// These are theorems over the definitions. The contract quantifies over all events, ticks and clocks. Calling it does
 /// nothing.
 pub fn trace_laws()
-    ensures one { (n : ℕ) (events : List Event) (ticks : List ℕ) (last : ℕ) (a b : Recorded) → IsTraceOf n events ticks last a → IsTraceOf n events ticks last b → a ≡ b }
-    ensures spread_once { (events : List Event) (clock : Clock) (a b : List ℕ) → HavePassed true events clock → AreSpread events clock a → AreSpread events clock b → a ≡ b }
-    ensures placed { (spread : Bool) (n : ℕ) (events : List Event) (clock : Clock) (timed : TimedTrace) (places : List ℕ) → IsTimed spread n events clock timed → AreStepPlaces spread events clock places → HasStepsAt n events places timed.trace }
-    ensures timed_once { (spread : Bool) (n : ℕ) (events : List Event) (clock : Clock) (a b : TimedTrace) → IsTimed spread n events clock a → IsTimed spread n events clock b → a ≡ b }
+    ensures one { (n : ℕ) (events : List Event) (ticks : List ℕ) (last : ℕ) (a b : Recorded)
+        → IsTraceOf n events ticks last a → IsTraceOf n events ticks last b → a ≡ b }
+    ensures spread_once { (events : List Event) (clock : Clock) (a b : List ℕ)
+        → HavePassed true events clock → AreSpread events clock a
+        → AreSpread events clock b → a ≡ b }
+    ensures placed { (spread : Bool) (n : ℕ) (events : List Event) (clock : Clock)
+        (timed : TimedTrace) (places : List ℕ) → IsTimed spread n events clock timed
+        → AreStepPlaces spread events clock places → HasStepsAt n events places timed.trace }
+    ensures timed_once { (spread : Bool) (n : ℕ) (events : List Event) (clock : Clock)
+        (a b : TimedTrace) → IsTimed spread n events clock a
+        → IsTimed spread n events clock b → a ≡ b }
 {}
 
 /// The laws of orders that keep causes. There is none if an event is in a cycle of causes or behind one (`behind`), and
@@ -32,10 +39,14 @@ pub fn trace_laws()
 ///
 /// Theorems over the definitions, as those of `trace_laws`.
 pub fn cause_laws()
-    ensures behind { (events : List Event) (i : ℕ) → IsFirstUnplaceable events i → (order : List ℕ) → ¬ IsCausalOrder events order }
-    ensures cycle { (events : List Event) (hops : List Hop) → IsCauseCycle events hops → (order : List ℕ) → ¬ IsCausalOrder events order }
-    ensures least_once { (events : List Event) (own order a b : List ℕ) → IsCausalOrder events order → AreLeast events own a → AreLeast events own b → a ≡ b }
-    ensures by_time { (events : List Event) (order : List ℕ) → IsTimeOrder events order → (IsCausalOrder events order ↔ AreSentBefore events) }
+    ensures behind { (events : List Event) (i : ℕ) → IsFirstUnplaceable events i → (order : List ℕ)
+        → ¬ IsCausalOrder events order }
+    ensures cycle { (events : List Event) (hops : List Hop) → IsCauseCycle events hops
+        → (order : List ℕ) → ¬ IsCausalOrder events order }
+    ensures least_once { (events : List Event) (own order a b : List ℕ) → IsCausalOrder events order
+        → AreLeast events own a → AreLeast events own b → a ≡ b }
+    ensures by_time { (events : List Event) (order : List ℕ) → IsTimeOrder events order
+        → (IsCausalOrder events order ↔ AreSentBefore events) }
 {}
 
 /// The laws of traces with receives of nothing in short silences. Events, clock and limit have one. The places of the
@@ -43,6 +54,12 @@ pub fn cause_laws()
 ///
 /// Theorems over the definitions, as those of `trace_laws`.
 pub fn idle_laws()
-    ensures idle_once { (spread : Bool) (n : ℕ) (events : List Event) (clock : Clock) (limit : ℕ) (a b : IdleTrace) (new more : List Event) → IsIdleTimed spread n events clock limit a new → IsIdleTimed spread n events clock limit b more → a ≡ b }
-    ensures filled { (spread : Bool) (n : ℕ) (events : List Event) (clock : Clock) (limit : ℕ) (timed : IdleTrace) (new : List Event) (places : List ℕ) → IsIdleTimed spread n events clock limit timed new → AreFilledPlaces spread n events clock limit new places → HasStepsAt n new places timed.trace }
+    ensures idle_once { (spread : Bool) (n : ℕ) (events : List Event) (clock : Clock) (limit : ℕ)
+        (a b : IdleTrace) (new more : List Event) → IsIdleTimed spread n events clock limit a new
+        → IsIdleTimed spread n events clock limit b more → a ≡ b }
+    ensures filled { (spread : Bool) (n : ℕ) (events : List Event) (clock : Clock) (limit : ℕ)
+        (timed : IdleTrace) (new : List Event) (places : List ℕ)
+        → IsIdleTimed spread n events clock limit timed new
+        → AreFilledPlaces spread n events clock limit new places
+        → HasStepsAt n new places timed.trace }
 {}

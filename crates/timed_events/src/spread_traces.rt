@@ -56,7 +56,8 @@ pub fn placed_trace(
     requires meant { AreMeant events.now n }
     requires ticked { AreTicked spread events.now clock.now ticked }
     ensures trace { IfOk result (λ placed. IsTimed spread n events.now clock.now placed.timed) }
-    ensures places { IfOk result (λ placed. AreStepPlaces spread events.now clock.now placed.places.items) }
+    ensures places { IfOk result
+        (λ placed. AreStepPlaces spread events.now clock.now placed.places.items) }
 {
     let EventTicks {
         ticks,
@@ -107,7 +108,8 @@ fn with_event(moved: Moved, place: usize, ticks: u64) -> Moved
     requires { moved.events < MAX_STEPS }
     ensures events { result.events ≡ moved.events + 1 }
     ensures ticks { result.ticks ≡ max moved.ticks ticks }
-    ensures farthest { result.farthest ≡ (if nat_lt moved.ticks ticks then Some place else moved.farthest) }
+    ensures farthest { result.farthest
+        ≡ (if nat_lt moved.ticks ticks then Some place else moved.farthest) }
 {
     let mut more = moved;
     more.events += 1;

@@ -79,7 +79,8 @@ fn events_in_time(
     ensures last { IfOk result (λ t. t.last ≡ last_tick events.now clock.now) }
     ensures moved { IfOk result (λ t. t.moved ≡ record { events = 0; ticks = 0; farthest = None }) }
     ensures order { IfOk result (λ t. IsOrder events.now t.ticks.items t.order.items) }
-    ensures refused { MatchResult result (λ _. timed_refusal events.now clock.now ≡ None) (λ why. IsEventRefusal why (timed_refusal events.now clock.now)) }
+    ensures refused { MatchResult result (λ _. timed_refusal events.now clock.now ≡ None)
+        (λ why. IsEventRefusal why (timed_refusal events.now clock.now)) }
     ensures more { result ≡ Err EventError.Memory → times_refusal events.now clock.now ≡ None }
 {
     let span = span_of(events, clock)?;

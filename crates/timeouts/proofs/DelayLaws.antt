@@ -58,7 +58,8 @@ untaken t p q n taken time w message known none = record {
 }
 
 -- if one does
-taken_at : (t : Recorded) (p q n : ℕ) (taken : List ℕ) → IsTimed t → IsWellFormed t.config t.steps → IsFrom t.steps p q n → KnowsTaken t q n taken → 0 < get_or taken n 0 → IsTakenBy t n (get_or taken n 0)
+taken_at : (t : Recorded) (p q n : ℕ) (taken : List ℕ) → IsTimed t → IsWellFormed t.config t.steps
+    → IsFrom t.steps p q n → KnowsTaken t q n taken → 0 < get_or taken n 0 → IsTakenBy t n (get_or taken n 0)
 taken_at t p q n taken time w message known some =
     let place = known.found n some in
     let takes = place.1 in
@@ -74,7 +75,8 @@ taken_at t p q n taken time w message known some =
           omega (arith, is, until);
     }
 
-IsTakenBy-known : (t : Recorded) (p q n : ℕ) (taken : List ℕ) → IsTimed t → IsWellFormed t.config t.steps → IsFrom t.steps p q n → KnowsTaken t q n taken → IsTakenBy t n (taken_by (t.last + 1) (get_or taken n 0))
+IsTakenBy-known : (t : Recorded) (p q n : ℕ) (taken : List ℕ) → IsTimed t → IsWellFormed t.config t.steps
+    → IsFrom t.steps p q n → KnowsTaken t q n taken → IsTakenBy t n (taken_by (t.last + 1) (get_or taken n 0))
 IsTakenBy-known t p q n taken time w message known = go (get_or taken n 0 == 0) refl where
   go : (b : Bool) → (get_or taken n 0 == 0) ≡ b → IsTakenBy t n (cond b (t.last + 1) (get_or taken n 0))
   go true e = untaken t p q n taken time w message known (eqb-true (get_or taken n 0) 0 e)
@@ -109,12 +111,16 @@ message_delay t p q n delay by message own k = record {
     | inr room ↦ (let soon = own.no_sooner (tick_of t n + e) room (h n (some n message) message room) in omega (arith, soon))
   ]
 
-pub IsLeastBound-message_delay : (t : Recorded) (p q n delay : ℕ) (taken : List ℕ) → IsTimed t → IsWellFormed t.config t.steps → KnowsTaken t q n taken → IsFrom t.steps p q n → IsLeastBound (λ e. TakesAfter t p q n e) delay
-    → IsLeastBound (λ e. TakesAfter t p q (n - 1) e) (max delay (taken_by (t.last + 1) (get_or taken n 0) - tick_of t n))
+pub IsLeastBound-message_delay : (t : Recorded) (p q n delay : ℕ) (taken : List ℕ) → IsTimed t
+    → IsWellFormed t.config t.steps → KnowsTaken t q n taken → IsFrom t.steps p q n
+    → IsLeastBound (λ e. TakesAfter t p q n e) delay → IsLeastBound (λ e. TakesAfter t p q (n - 1) e)
+    (max delay (taken_by (t.last + 1) (get_or taken n 0) - tick_of t n))
 IsLeastBound-message_delay t p q n delay taken time w known message k = message_delay t p q n delay (taken_by (t.last + 1) (get_or taken n 0)) message (IsTakenBy-known t p q n taken time w message known) k
 
 -- the messages after number done are those of tick g and later
-pub IsLeastBound-delay : (t : Recorded) (p q g done delay : ℕ) → IsTimed t → done ≤ length t.steps → tick_of t done < g → AreFrom t p q g done → IsLeastBound (λ e. TakesAfter t p q done e) delay → IsLeastBound (λ e. TakesWithin t p q g e) delay
+pub IsLeastBound-delay : (t : Recorded) (p q g done delay : ℕ) → IsTimed t → done ≤ length t.steps → tick_of t done < g
+    → AreFrom t p q g done → IsLeastBound (λ e. TakesAfter t p q done e) delay
+    → IsLeastBound (λ e. TakesWithin t p q g e) delay
 IsLeastBound-delay t p q g done delay time within before each k = record {
   positive = k.positive;
   holds = record { each = λ s message from room. k.holds s (place_below t time done s _ within message (omega (arith, before, from))) message room };

@@ -1,5 +1,7 @@
 -- Records that are accepted are the records of the trace that they give.
-use Rattle.std.proofs.Common.{ℕ, zero, suc, ◌≡◌, ◌≤◌, ◌+◌, ◌*◌, ◌==◌, ◌∙◌, List, [], ◌∷◌, ◌++◌, length, drop, Option, Some, None, Ok, Bool, true, false, ◌&&◌, ◌||◌, cond, refl, sym, ap, subst, arith, codes, decimal, append_assoc}
+use Rattle.std.proofs.Common.{ℕ, zero, suc, ◌≡◌, ◌≤◌, ◌+◌, ◌*◌, ◌==◌, ◌∙◌, List, [], ◌∷◌, ◌++◌, length, drop, Option}
+use Rattle.std.proofs.Common.{Some, None, Ok, Bool, true, false, ◌&&◌, ◌||◌, cond, refl, sym, ap, subst, arith, codes}
+use Rattle.std.proofs.Common.{decimal, append_assoc}
 use Rattle.std.specs.Prelude.{nat_lt, nat_le, is_none}
 use Rattle.std.specs.Str.{bytes_eq}
 use Rattle.std.specs.Option.{option_map}
@@ -28,7 +30,9 @@ use Rattle.trace_text.specs.declared.reading.Stage.TheVariants.{Opening, Sized, 
 use Rattle.trace_text.specs.declared.refusals.TextError.TheVariants as why
 use Rattle.trace_text.specs.TraceTexts.{version_field, HasTextsOf, header_record, init_record, op_text, arg_text, step_record, step_records, end_record, trace_records, IsTextTrace}
 use Rattle.trace_text.specs.Records.{field_of, number_of, after_records}
-use Rattle.trace_text.specs.TextRefusals.{numbers_of, ids_of, version_named, step_fields, proc_place, step_tick, ended, operation_of, act_of, is_size, header_stage, init_stage, step_of, pushed, step_stage, end_stage, next_stage, trace_at_end, trace_of_records}
+use Rattle.trace_text.specs.TextRefusals.{numbers_of, ids_of, version_named, step_fields, proc_place, step_tick, ended}
+use Rattle.trace_text.specs.TextRefusals.{operation_of, act_of, is_size, header_stage, init_stage, step_of, pushed}
+use Rattle.trace_text.specs.TextRefusals.{step_stage, end_stage, next_stage, trace_at_end, trace_of_records}
 use Rattle.trace_text.proofs.Numbers.{number_of-some, same-from_bytes_eq}
 use Rattle.trace_text.proofs.NumberLists.{numbers_of-some, ids_of-some}
 use Rattle.trace_text.proofs.StageInversions.{passed, both, neither, read_part, read_result, four_are, five_are, two_are, append_one, first_field}
@@ -133,7 +137,8 @@ HasTextsOf-none One c = IsOnePerTick-none c
 HasTextsOf-none Two c = tt
 
 -- the initial values
-from_init : (records : List (List (List ℕ))) (v : Version) (n t : ℕ) (fields : List (List ℕ)) (s : Stage) → LeadsTo records (Sized v n t) → init_stage v n t fields ≡ Ok s → LeadsTo (records ++ fields ∷ []) s
+from_init : (records : List (List (List ℕ))) (v : Version) (n t : ℕ) (fields : List (List ℕ)) (s : Stage)
+    → LeadsTo records (Sized v n t) → init_stage v n t fields ≡ Ok s → LeadsTo (records ++ fields ∷ []) s
 from_init records v n t fields s before h =
     let first = passed (bytes_eq (field_of fields 0) (codes "init")) _ _ s h in
     let values = read_part (numbers_of (drop 1 fields)) why.BadInit _ s first.1 in
@@ -215,7 +220,8 @@ from_fields v at fields y h =
     })
 
 -- the whole record of a step
-whole_record : (v : Version) (at tick : ℕ) (x : Step) (fields : List (List ℕ)) → (length fields == step_fields v) ≡ true → field_of fields 0 ≡ decimal at → IsRead v at tick x fields → fields ≡ step_record v at tick x
+whole_record : (v : Version) (at tick : ℕ) (x : Step) (fields : List (List ℕ)) → (length fields == step_fields v) ≡ true
+    → field_of fields 0 ≡ decimal at → IsRead v at tick x fields → fields ≡ step_record v at tick x
 unfolding IsTickOf
 whole_record One at tick x fields count first h =
     four_are fields (decimal at) (decimal x.proc) (op_text x.act) (arg_text x.act) (eqb-true (length fields) 4 count) first h.proc h.op h.arg
@@ -251,7 +257,8 @@ pushed-records v t tick x long =
     let last : tick_at (t.ticks ++ tick ∷ []) (length t.steps + 1) ≡ tick = subst (λ n. tick_at (t.ticks ++ tick ∷ []) n ≡ tick) place (tick_at-push_last t.ticks tick) in
     rw (step_records-more v (t.ticks ++ tick ∷ []) 1 t.steps x, e, last, step_records-later v t.ticks tick 1 t.steps (omega (arith, long))) refl
 
-HasTextsOf-push : (v : Version) (t : Recorded) (tick : ℕ) (x : Step) (fields : List (List ℕ)) → IsTrace t → HasTextsOf v t → IsTickOf v (length t.steps + 1) tick fields → HasTextsOf v (with_step t tick x)
+HasTextsOf-push : (v : Version) (t : Recorded) (tick : ℕ) (x : Step) (fields : List (List ℕ)) → IsTrace t
+    → HasTextsOf v t → IsTickOf v (length t.steps + 1) tick fields → HasTextsOf v (with_step t tick x)
 unfolding IsTickOf
 HasTextsOf-push One t tick x fields w one e =
     let same : t.last + 1 ≡ tick = let end = one.end in omega (arith, end, e) in
@@ -259,7 +266,8 @@ HasTextsOf-push One t tick x fields w one e =
 HasTextsOf-push Two t tick x fields w has e = tt
 
 -- a step
-from_step : (records : List (List (List ℕ))) (v : Version) (t : Recorded) (fields : List (List ℕ)) (s : Stage) → LeadsTo records (Recording v t) → step_stage v t fields ≡ Ok s → LeadsTo (records ++ fields ∷ []) s
+from_step : (records : List (List (List ℕ))) (v : Version) (t : Recorded) (fields : List (List ℕ)) (s : Stage)
+    → LeadsTo records (Recording v t) → step_stage v t fields ≡ Ok s → LeadsTo (records ++ fields ∷ []) s
 from_step records v t fields s before h =
     let count = passed (length fields == step_fields v) _ _ s h in
     let number = passed (bytes_eq (field_of fields 0) (decimal (length t.steps + 1))) _ _ s count.1 in
@@ -296,7 +304,9 @@ IsTrace-with_last t last w h =
     }
 
 -- the end
-from_end : (records : List (List (List ℕ))) (v : Version) (t : Recorded) (fields : List (List ℕ)) (s : Stage) → LeadsTo records (Recording v t) → field_of fields 0 ≡ codes "end" → end_stage v t fields ≡ Ok s → LeadsTo (records ++ fields ∷ []) s
+from_end : (records : List (List (List ℕ))) (v : Version) (t : Recorded) (fields : List (List ℕ)) (s : Stage)
+    → LeadsTo records (Recording v t) → field_of fields 0 ≡ codes "end" → end_stage v t fields ≡ Ok s
+    → LeadsTo (records ++ fields ∷ []) s
 from_end records v t fields s before name h =
     let two = passed (length fields == 2) _ _ s h in go v two.0 before two.1 where
       whole : (n : ℕ) → (length fields == 2) ≡ true → field_of fields 1 ≡ decimal n → fields ≡ end_record n

@@ -1,5 +1,7 @@
 -- What the reads and the writes of the byte loops add up to.
-use Rattle.std.proofs.Common.{◌≡◌, ◌∙◌, ◌++◌, ◌&&◌, nat_eq, ◌≤◌, ◌<◌, ℕ, List, [], Option, Some, None, IfSome, Bool, true, if◌then◌else◌, take, drop, ◌+◌, take_all, length, length-drop, length-append, ◌-◌, arith, append_assoc, ap, subst, sym, refl, rules}
+use Rattle.std.proofs.Common.{◌≡◌, ◌∙◌, ◌++◌, ◌&&◌, nat_eq, ◌≤◌, ◌<◌, ℕ, List, [], Option, Some, None, IfSome, Bool}
+use Rattle.std.proofs.Common.{true, if◌then◌else◌, take, drop, ◌+◌, take_all, length, length-drop, length-append, ◌-◌}
+use Rattle.std.proofs.Common.{arith, append_assoc, ap, subst, sym, refl, rules}
 use Rattle.std.proofs.Math.Seq.{take-add}
 use Rattle.std.proofs.lemmas.Bool.{ne_eqb}
 use Rattle.std.proofs.lemmas.List.{length-take-le, take_at}
@@ -35,7 +37,8 @@ read_more (Some xs) (Some ys) None text more h k = absurd k
 read_more (Some xs) (Some ys) (Some zs) text more h k = h ∙ rw k (sym (append_assoc text more zs))
 
 -- more bytes came than there was room for, so there were more than the limit
-pub too_many : (a b c : Option (List ℕ)) (text buf : List ℕ) (n limit : ℕ) → Consumes a b text → Consumes b c (take n buf) → n ≤ length buf → limit - length text < n → IfSome a (λ xs. limit < length xs)
+pub too_many : (a b c : Option (List ℕ)) (text buf : List ℕ) (n limit : ℕ) → Consumes a b text
+    → Consumes b c (take n buf) → n ≤ length buf → limit - length text < n → IfSome a (λ xs. limit < length xs)
 too_many None b c text buf n limit h k bound more = tt
 too_many (Some xs) None c text buf n limit h k bound more = absurd h
 too_many (Some xs) (Some ys) None text buf n limit h k bound more = absurd k
@@ -43,7 +46,8 @@ too_many (Some xs) (Some ys) (Some zs) text buf n limit h k bound more =
     omega (arith, simp length-append at (ap length h), simp length-append at (ap length k), length-take-le n buf bound)
 
 -- what was read is the text so far and the first n bytes of the buffer
-pub read_so_far : (a b c : Option (List ℕ)) (text buf : List ℕ) (n : ℕ) (P : ℕ → Type 0) → Consumes a b text → Consumes b c (take n buf) → n ≤ length buf → P (length text + n) → IfSome (bytes_read a c) P
+pub read_so_far : (a b c : Option (List ℕ)) (text buf : List ℕ) (n : ℕ) (P : ℕ → Type 0) → Consumes a b text
+    → Consumes b c (take n buf) → n ≤ length buf → P (length text + n) → IfSome (bytes_read a c) P
 read_so_far None b c text buf n P h k bound holds = tt
 read_so_far (Some xs) None c text buf n P h k bound holds = absurd h
 read_so_far (Some xs) (Some ys) None text buf n P h k bound holds = absurd k
@@ -53,7 +57,9 @@ read_so_far (Some xs) (Some ys) (Some zs) text buf n P h k bound holds =
     subst P (sym count) holds
 
 -- the text grows by what was read into the front of the buffer
-pub text_grows : (a b c : Option (List ℕ)) (text grown buf old whole : List ℕ) (n len : ℕ) (taken : Bool) → Consumes a b text → Consumes b c (take n buf) → length buf ≡ len → whole ≡ take len (buf ++ drop (length buf) old) → taken ≡ true → grown ≡ (if taken then text ++ take n whole else text) → Consumes a c grown
+pub text_grows : (a b c : Option (List ℕ)) (text grown buf old whole : List ℕ) (n len : ℕ) (taken : Bool)
+    → Consumes a b text → Consumes b c (take n buf) → length buf ≡ len → whole ≡ take len (buf ++ drop (length buf) old)
+    → taken ≡ true → grown ≡ (if taken then text ++ take n whole else text) → Consumes a c grown
 text_grows a b c text grown buf old whole n len taken h k e w t g =
     let same : whole ≡ buf = w ∙ take_at buf (drop (length buf) old) len e in
     let more : grown ≡ text ++ take n buf = rw (t, same) at g in

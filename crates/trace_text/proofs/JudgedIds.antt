@@ -195,4 +195,6 @@ under b c x y z w e = ap (λ r. cond b (cond c r z) w) e
 pub step-judged : (v : Version) (t : Recorded) (fields : List (List ℕ)) → judged_step_stage v t fields ≡ step_stage v t fields
 step-judged v t fields =
     under (length fields == step_fields v) (bytes_eq (field_of fields 0) (decimal (length t.steps + 1))) _ _ _ _
-    (step-by-judged v t (length t.steps + 1) (operation_of (field_of fields (proc_place v + 1))) (step_tick v (length t.steps + 1) fields) (number_of (field_of fields (proc_place v))) (field_of fields (proc_place v + 2)))
+    (step-by-judged v t (length t.steps + 1) (operation_of (field_of fields (proc_place v + 1)))
+    (step_tick v (length t.steps + 1) fields) (number_of (field_of fields (proc_place v)))
+    (field_of fields (proc_place v + 2)))

@@ -1,6 +1,8 @@
 -- The records that csv reads from the front of a text up to a record of too many fields lead where those of the whole
 -- text lead. This holds if such a record is refused for any text after it.
-use Rattle.std.proofs.Common.{◌≡◌, ◌≤◌, ◌<◌, ◌+◌, ℕ, zero, suc, List, [], ◌∷◌, ◌++◌, length, Option, Some, None, Bool, true, false, cond, Result, Ok, Err, refl, sym, ap, ◌∙◌, inl, inr, ◌⊎◌, ◌==◌, ◌||◌, arith, append_assoc, length-append, take, take_all}
+use Rattle.std.proofs.Common.{◌≡◌, ◌≤◌, ◌<◌, ◌+◌, ℕ, zero, suc, List, [], ◌∷◌, ◌++◌, length, Option, Some, None, Bool}
+use Rattle.std.proofs.Common.{true, false, cond, Result, Ok, Err, refl, sym, ap, ◌∙◌, inl, inr, ◌⊎◌, ◌==◌, ◌||◌, arith}
+use Rattle.std.proofs.Common.{append_assoc, length-append, take, take_all}
 use Rattle.std.specs.Prelude.{⊤, nat_lt}
 use native.Mathlib.Decide.{dec_lt}
 use Rattle.csv.specs.Machine.{Read, next_record, step, is_end, in_field, start_field, start_record, fields_after, field_after, ends_at_end, after_end}
@@ -142,8 +144,10 @@ alike-field n r fields rest count inside ih (inl within) = alike-within n r fiel
 alike-field n r fields rest count inside ih (inr long) =
     rw (over n long) (alike-long fields _ _ (rw count at long) (extends r fields [] rest inside) (extends r fields [] [] inside))
 
-alike-on : (n : ℕ) (s : State) (p : State × Action) (fields : List (List ℕ)) (field : List ℕ) (c : ℕ) (rest : List ℕ) → n ≡ length fields → n ≤ MAX_FIELDS → GoodStep s p
-    → ((m : ℕ) (r : State) (fs : List (List ℕ)) (f : List ℕ) → m ≡ length fs → m ≤ MAX_FIELDS → Alike (next_record default_config r fs f rest) (next_record default_config r fs f (front_from m r rest)))
+alike-on : (n : ℕ) (s : State) (p : State × Action) (fields : List (List ℕ)) (field : List ℕ) (c : ℕ) (rest : List ℕ)
+    → n ≡ length fields → n ≤ MAX_FIELDS → GoodStep s p
+    → ((m : ℕ) (r : State) (fs : List (List ℕ)) (f : List ℕ) → m ≡ length fs → m ≤ MAX_FIELDS
+    → Alike (next_record default_config r fs f rest) (next_record default_config r fs f (front_from m r rest)))
     → Alike (read_on p fields field c rest) (read_on p fields field c (front_on n p rest))
 alike-on n s (r, act.Skip) fields field c rest count within good ih = alike-within n r fields field rest within (ih n r fields field count within)
 alike-on n s (r, act.Copy) fields field c rest count within good ih = alike-within n r fields (field ++ (c ∷ [])) rest within (ih n r fields (field ++ (c ∷ [])) count within)

@@ -1,5 +1,7 @@
 -- Lists of numbers: those of the fields of a record, and those with one space between them.
-use Rattle.std.proofs.Common.{ℕ, zero, suc, ◌≡◌, ◌+◌, ◌-◌, ◌<◌, ◌≤◌, ◌^◌, ◌==◌, ◌∙◌, List, [], ◌∷◌, ◌++◌, length, map, take, drop, get_or, Option, Some, None, Bool, true, false, refl, sym, ap, arith, decimal, drop-cons}
+use Rattle.std.proofs.Common.{ℕ, zero, suc, ◌≡◌, ◌+◌, ◌-◌, ◌<◌, ◌≤◌, ◌^◌, ◌==◌, ◌∙◌, List, [], ◌∷◌, ◌++◌, length, map}
+use Rattle.std.proofs.Common.{take, drop, get_or, Option, Some, None, Bool, true, false, refl, sym, ap, arith, decimal}
+use Rattle.std.proofs.Common.{drop-cons}
 use Rattle.std.specs.Prelude.{All, IsTrue}
 use Rattle.std.specs.List.{slice_split, join_with_byte}
 use Rattle.std.specs.Option.{option_and_then, option_map}
@@ -21,7 +23,9 @@ use Rattle.trace_text.proofs.Numbers.{own, number_of-decimal, number_of-some}
 pub numbers_of-more : (fs : List (List ℕ)) (ns : List ℕ) (f : List ℕ) (n : ℕ) → numbers_of fs ≡ Some ns → number_of f ≡ Some n → numbers_of (fs ++ f ∷ []) ≡ Some (ns ++ n ∷ [])
 numbers_of-more [] ns f n h k = let e : [] ≡ ns = cc in rw (← e, k) refl
 numbers_of-more (g ∷ fs) ns f n h k = first (λ ms b. numbers_of-more fs ms f n b k) (number_of g) (numbers_of fs) refl refl h where
-  first : ((ms : List ℕ) → numbers_of fs ≡ Some ms → numbers_of (fs ++ f ∷ []) ≡ Some (ms ++ n ∷ [])) → (o : Option ℕ) (p : Option (List ℕ)) → number_of g ≡ o → numbers_of fs ≡ p → option_and_then (λ n. option_map (λ ns. n ∷ ns) p) o ≡ Some ns
+  first : ((ms : List ℕ) → numbers_of fs ≡ Some ms → numbers_of (fs ++ f ∷ []) ≡ Some (ms ++ n ∷ []))
+      → (o : Option ℕ) (p : Option (List ℕ)) → number_of g ≡ o → numbers_of fs ≡ p
+      → option_and_then (λ n. option_map (λ ns. n ∷ ns) p) o ≡ Some ns
       → numbers_of (g ∷ (fs ++ f ∷ [])) ≡ Some (ns ++ n ∷ [])
   first more None p a b c = cc c
   first more (Some m) None a b c = cc c
@@ -61,7 +65,9 @@ numbers_of-decimals (n ∷ ns) h = rw (number_of-decimal n (All-head (λ n. n < 
 pub numbers_of-some : (fs : List (List ℕ)) (ns : List ℕ) → numbers_of fs ≡ Some ns → (fs ≡ map decimal ns) × All (λ n. n < 2 ^ 64) ns
 numbers_of-some [] ns h = let e : [] ≡ ns = cc in rw (← e) (refl, All-nil (λ n. n < 2 ^ 64))
 numbers_of-some (f ∷ fs) ns h = first (λ ms b. numbers_of-some fs ms b) (number_of f) (numbers_of fs) refl refl h where
-  first : ((ms : List ℕ) → numbers_of fs ≡ Some ms → (fs ≡ map decimal ms) × All (λ n. n < 2 ^ 64) ms) → (o : Option ℕ) (p : Option (List ℕ)) → number_of f ≡ o → numbers_of fs ≡ p → option_and_then (λ n. option_map (λ ns. n ∷ ns) p) o ≡ Some ns
+  first : ((ms : List ℕ) → numbers_of fs ≡ Some ms → (fs ≡ map decimal ms) × All (λ n. n < 2 ^ 64) ms)
+      → (o : Option ℕ) (p : Option (List ℕ)) → number_of f ≡ o → numbers_of fs ≡ p
+      → option_and_then (λ n. option_map (λ ns. n ∷ ns) p) o ≡ Some ns
       → (f ∷ fs ≡ map decimal ns) × All (λ n. n < 2 ^ 64) ns
   first more None p a b c = cc c
   first more (Some m) None a b c = cc c
@@ -122,7 +128,8 @@ after_first-within : (fs : List (List ℕ)) (i : ℕ) → 1 ≤ i → i < length
 after_first-within [] i h l = absurd (omega (arith, l))
 after_first-within (f ∷ fs) i h l = let m : i < suc (length fs) = l in omega (arith, h, m)
 
-pub values-turn : (fs : List (List ℕ)) (i : ℕ) (ns items f : List ℕ) (n : ℕ) → 1 ≤ i → i < length fs → f ≡ field_of fs i → numbers_of (take (i - 1) (drop 1 fs)) ≡ Some ns → number_of f ≡ Some n → items ≡ ns ++ n ∷ []
+pub values-turn : (fs : List (List ℕ)) (i : ℕ) (ns items f : List ℕ) (n : ℕ) → 1 ≤ i → i < length fs → f ≡ field_of fs i
+    → numbers_of (take (i - 1) (drop 1 fs)) ≡ Some ns → number_of f ≡ Some n → items ≡ ns ++ n ∷ []
     → numbers_of (take (i + 1 - 1) (drop 1 fs)) ≡ Some items
 values-turn fs i ns items f n low high same before this e =
     let place : i + 1 - 1 ≡ suc (i - 1) = omega (arith, low) in

@@ -45,7 +45,8 @@ two_fields (a ∷ []) h = absurd (omega (arith, h))
 two_fields (a ∷ b ∷ []) h = refl
 two_fields (a ∷ b ∷ c ∷ more) h = let l : suc (suc (suc (length more))) ≡ 2 = h in absurd (omega (arith, l))
 
-pub four_are : (fields : List (List ℕ)) (a b c d : List ℕ) → length fields ≡ 4 → field_of fields 0 ≡ a → field_of fields 1 ≡ b → field_of fields 2 ≡ c → field_of fields 3 ≡ d → fields ≡ a ∷ b ∷ c ∷ d ∷ []
+pub four_are : (fields : List (List ℕ)) (a b c d : List ℕ) → length fields ≡ 4 → field_of fields 0 ≡ a
+    → field_of fields 1 ≡ b → field_of fields 2 ≡ c → field_of fields 3 ≡ d → fields ≡ a ∷ b ∷ c ∷ d ∷ []
 four_are fields a b c d l p q r s = let e = four_fields fields l in cc
 
 five_fields : (fields : List (List ℕ)) → length fields ≡ 5 → fields ≡ field_of fields 0 ∷ field_of fields 1 ∷ field_of fields 2 ∷ field_of fields 3 ∷ field_of fields 4 ∷ []

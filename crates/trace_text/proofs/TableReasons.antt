@@ -14,9 +14,14 @@ use Rattle.trace_text.specs.declared.versions.Version.TheVariants.{One, Two}
 use Rattle.trace_text.specs.declared.reading.Stage.{Stage}
 use Rattle.trace_text.specs.declared.reading.Stage.TheVariants.{Opening, Sized, Recording, Ended}
 use Rattle.trace_text.specs.declared.refusals.TextError.{TextError}
-use Rattle.trace_text.specs.declared.refusals.TextError.TheVariants.{TooLarge, Read, BadHeader, BadVersion, BadSize, BadInit, BadFields, WrongNumber, BadOp, BadNumber, BadStep, NoEnd, WrongEnd, AfterEnd, Memory}
+use Rattle.trace_text.specs.declared.refusals.TextError.TheVariants.{TooLarge, Read, BadHeader, BadVersion, BadSize}
+use Rattle.trace_text.specs.declared.refusals.TextError.TheVariants.{BadInit, BadFields, WrongNumber, BadOp, BadNumber}
+use Rattle.trace_text.specs.declared.refusals.TextError.TheVariants.{BadStep, NoEnd, WrongEnd, AfterEnd, Memory}
 use Rattle.trace_text.specs.Records.{field_of, number_of, after_records, ◌>>=◌}
-use Rattle.trace_text.specs.TextRefusals.{numbers_of, version_named, operation_of, act_of, step_fields, proc_place, step_tick, ended, is_size, size_stage, started, header_stage, init_stage, step_of, pushed, step_stage, end_stage, next_stage, trace_at_end, trace_of_records, is_memory}
+use Rattle.trace_text.specs.TextRefusals.{numbers_of, version_named, operation_of, act_of, step_fields, proc_place}
+use Rattle.trace_text.specs.TextRefusals.{step_tick, ended, is_size, size_stage, started, header_stage, init_stage}
+use Rattle.trace_text.specs.TextRefusals.{step_of, pushed, step_stage, end_stage, next_stage, trace_at_end}
+use Rattle.trace_text.specs.TextRefusals.{trace_of_records, is_memory}
 
 -- whether records may give the reason
 abbrev pub is_of_records : TextError → Bool
@@ -125,5 +130,6 @@ pub never-answered : (records : List (List (List ℕ))) (e f : TextError) → is
 never-answered records e f other unless h = never-of (trace_of_records records) e f (of_whole records) other unless h
 
 -- nor do records lead to it
-pub never-reached : (s : Stage) (records : List (List (List ℕ))) (e f : TextError) → is_of_records f ≡ false → is_memory f ≡ false → MatchBool (is_memory e) ⊤ (after_records next_stage s records ≡ Err e) → e ≢ f
+pub never-reached : (s : Stage) (records : List (List (List ℕ))) (e f : TextError) → is_of_records f ≡ false
+    → is_memory f ≡ false → MatchBool (is_memory e) ⊤ (after_records next_stage s records ≡ Err e) → e ≢ f
 never-reached s records e f other unless h = never-of (after_records next_stage s records) e f (of_all s records) other unless h

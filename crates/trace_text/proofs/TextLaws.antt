@@ -64,7 +64,8 @@ gives-refused text (Err e) l h =
     first-refusal (is_memory e) (trace_of_records (records_of_text text) ≡ Err e) (trace_of_text text ≡ Err e) (length text ≤ MAX_TEXT_BYTES) l (λ k. rw short k) h
 
 -- a reason that records don't give isn't answered
-pub gives-never : (text : List ℕ) (r : Result Recorded TextError) (f : TextError) → is_of_records f ≡ false → is_memory f ≡ false → Gives r (trace_of_records (records_of_text text)) → IfErr r (λ e. e ≢ f)
+pub gives-never : (text : List ℕ) (r : Result Recorded TextError) (f : TextError) → is_of_records f ≡ false
+    → is_memory f ≡ false → Gives r (trace_of_records (records_of_text text)) → IfErr r (λ e. e ≢ f)
 gives-never text (Ok t) f other unless h = tt
 gives-never text (Err e) f other unless h = never-answered (records_of_text text) e f other unless h
 

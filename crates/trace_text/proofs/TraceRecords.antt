@@ -1,5 +1,7 @@
 -- The records of a trace give that trace.
-use Rattle.std.proofs.Common.{ℕ, ◌≡◌, ◌+◌, ◌*◌, ◌<◌, ◌≤◌, ◌^◌, ◌∙◌, List, [], ◌∷◌, ◌++◌, length, Option, Some, None, Ok, true, false, refl, sym, ap, subst, arith, suc, length-append, codes, decimal, append_assoc, eq-eqb}
+use Rattle.std.proofs.Common.{ℕ, ◌≡◌, ◌+◌, ◌*◌, ◌<◌, ◌≤◌, ◌^◌, ◌∙◌, List, [], ◌∷◌, ◌++◌, length, Option, Some, None, Ok}
+use Rattle.std.proofs.Common.{true, false, refl, sym, ap, subst, arith, suc, length-append, codes, decimal}
+use Rattle.std.proofs.Common.{append_assoc, eq-eqb}
 use Rattle.std.specs.Prelude.{⊤, ◌==◌, All, Contains, IfSome, nat_lt, nat_le}
 use Rattle.std.specs.Str.{bytes_eq}
 use Rattle.std.specs.Char.{digit_value}
@@ -113,14 +115,27 @@ reads-step v t tick x s w a e =
     let end = f.high in
     let at : length t.steps + 1 < 2 ^ 64 = omega (arith, room) in
     let proc : x.proc < 2 ^ 64 = omega (arith, most, high) in
-    let ids = All-weaker (Contains (act_ids x.act)) (λ n. n < 2 ^ 64) (λ n d. let within = step_at_within t.steps n _ (f.fits.sent n d).1 in let l = within.1 in omega (arith, l, room)) (act_ids x.act) (All-contains_itself (act_ids x.act)) in
+    let ids = All-weaker (Contains (act_ids x.act)) (λ n. n < 2 ^ 64)
+    (λ n d. let within = step_at_within t.steps n _ (f.fits.sent n d).1 in let l = within.1 in
+    omega (arith, l, room)) (act_ids x.act) (All-contains_itself (act_ids x.act)) in
     let fields = reads-fields v (length t.steps + 1) tick x e (omega (arith, end)) proc (dest_small t.config (act_dest x.act) most f.fits.dest) ids in
-    rw (first-field v (length t.steps + 1) tick x, not_end (length t.steps + 1) at, all-fields v (length t.steps + 1) tick x, bytes_eq-same (decimal (length t.steps + 1)) (decimal (length t.steps + 1)) refl, fields, none_from_FitsIn t tick x f) refl
+    rw (
+      first-field v (length t.steps + 1) tick x,
+      not_end (length t.steps + 1) at,
+      all-fields v
+          (length t.steps + 1) tick x,
+      bytes_eq-same (decimal (length t.steps + 1))
+          (decimal (length t.steps + 1)) refl,
+      fields,
+      none_from_FitsIn t tick x f,
+    ) refl
 
 -- the steps are read
-reads-steps : (v : Version) (c : Setup) (done xs : List Step) (before ts : List ℕ) (rest : List (List (List ℕ))) → IsSetup c → length before ≡ length done → IsTrace (so_far c (done ++ xs) (before ++ ts))
+reads-steps : (v : Version) (c : Setup) (done xs : List Step) (before ts : List ℕ) (rest : List (List (List ℕ)))
+    → IsSetup c → length before ≡ length done → IsTrace (so_far c (done ++ xs) (before ++ ts))
     → ((k : ℕ) → k ≤ length (done ++ xs) → IsTickOf v k (tick_at (before ++ ts) k))
-    → after_records next_stage (Recording v (so_far c done before)) (step_records v (before ++ ts) (length done + 1) xs ++ rest)
+    → after_records next_stage (Recording v (so_far c done before))
+    (step_records v (before ++ ts) (length done + 1) xs ++ rest)
     ≡ after_records next_stage (Recording v (so_far c (done ++ xs) (before ++ ts))) rest
 reads-steps v c done [] before [] rest s long w each = rw (append-nil done, append-nil before) refl
 reads-steps v c done [] before (t ∷ ts) rest s long w each = absurd (let long_ticks = w.time.each in let a = length-append done [] in let b = length-append before (t ∷ ts) in omega (arith, long_ticks, a, b, long))

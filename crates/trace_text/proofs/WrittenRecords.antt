@@ -91,7 +91,9 @@ ArePlain-decimals (n ∷ ns) small = (IsPlain-decimal n (All-head (λ k. k < 2 ^
 
 -- the parts of a trace's text
 pub version_text-parts : (v : Version) (t : Recorded)
-    → (((record_line (header_record v t.config.n t.config.t) ++ record_line (init_record t.config.init)) ++ text_of_records (step_records v t.ticks 1 t.steps)) ++ record_line (end_record t.last)) ≡ version_text v t
+    → (((record_line (header_record v t.config.n t.config.t) ++ record_line (init_record t.config.init))
+    ++ text_of_records (step_records v t.ticks 1 t.steps)) ++ record_line (end_record t.last))
+    ≡ version_text v t
 version_text-parts v t =
     let header = record_line (header_record v t.config.n t.config.t) in
     let init = record_line (init_record t.config.init) in

@@ -18,7 +18,9 @@ use Rattle.step_trace.proofs.StepPositions.{step_at_within}
 use Rattle.trace_text.specs.declared.byte_loops.TheConstants.{MAX_TEXT_BYTES}
 use Rattle.trace_text.specs.Records.{record_line, text_of_records}
 use Rattle.trace_text.specs.RecordWriting.{IsPlain, ArePlain}
-use Rattle.trace_text.specs.TraceTexts.{IsTextTrace, HasTextsOf, StandsFor, version_field, header_record, init_record, step_record, step_records, end_record, op_text, arg_text, trace_records, version_text}
+use Rattle.trace_text.specs.TraceTexts.{IsTextTrace, HasTextsOf, StandsFor, version_field, header_record, init_record}
+use Rattle.trace_text.specs.TraceTexts.{step_record, step_records, end_record, op_text, arg_text, trace_records}
+use Rattle.trace_text.specs.TraceTexts.{version_text}
 use Rattle.trace_text.proofs.LineLengths.{bytes_of-decimals, length-ids, length-line, short-decimal}
 use Rattle.trace_text.proofs.LinesRead.{AreLines, AreLines-append, lines-read}
 use Rattle.trace_text.proofs.PlainFields.{IsPlain-decimal}

@@ -1,5 +1,6 @@
 -- What the failing devices have left and what they took.
-use Rattle.std.specs.Prelude.{ℕ, ◌-◌, ◌^◌, ◌&&◌, nat_eq, nat_lt, if◌then◌else◌, List, [], ◌∷◌, length, take, replicate, min, max, Option, Some, None, vec_len}
+use Rattle.std.specs.Prelude.{ℕ, ◌-◌, ◌^◌, ◌&&◌, nat_eq, nat_lt, if◌then◌else◌, List, [], ◌∷◌}
+use Rattle.std.specs.Prelude.{length, take, replicate, min, max, Option, Some, None, vec_len}
 use Rattle.std.specs.declared.io.ErrorKind.{ErrorKind}
 use Rattle.trace_text.specs.declared.failing_devices.AfterBytes.{AfterBytes}
 use Rattle.trace_text.specs.declared.failing_devices.AfterBytes.TheVariants.{End, Fail, Repeat}

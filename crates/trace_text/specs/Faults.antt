@@ -1,5 +1,6 @@
 -- What a counting reader or writer keeps, and what a call does to it.
-use Rattle.std.specs.Prelude.{◌⊎◌, ◌+◌, ◌-◌, ◌^◌, ◌<◌, ◌≤◌, ℕ, min, Bool, ◌&&◌, nat_eq, nat_lt, if◌then◌else◌, List, length, Result, Ok, Err}
+use Rattle.std.specs.Prelude.{◌⊎◌, ◌+◌, ◌-◌, ◌^◌, ◌<◌, ◌≤◌, ℕ, min, Bool, ◌&&◌, nat_eq}
+use Rattle.std.specs.Prelude.{nat_lt, if◌then◌else◌, List, length, Result, Ok, Err}
 use Rattle.trace_text.specs.declared.counting.Counting.{Counting}
 
 -- what is wrapped

@@ -1,6 +1,7 @@
 -- The ids by which a Receive is judged: all if they rise, else those up to the first that doesn't. Those after it
 -- change no answer.
-use Rattle.std.specs.Prelude.{ℕ, ◌≡◌, ◌+◌, List, [], ◌∷◌, length, Option, Result, Ok, Err, Bool, true, false, ◌==◌, nat_lt, if◌then◌else◌, decimal, option_map}
+use Rattle.std.specs.Prelude.{ℕ, ◌≡◌, ◌+◌, List, [], ◌∷◌, length, Option, Result, Ok, Err, Bool}
+use Rattle.std.specs.Prelude.{true, false, ◌==◌, nat_lt, if◌then◌else◌, decimal, option_map}
 use Rattle.std.specs.Str.{bytes_eq}
 use Rattle.std.specs.Option.{ok_or}
 use Rattle.step_trace.specs.declared.steps.Act.{Act}
@@ -48,13 +49,15 @@ judged_act_of op.EndRound arg = option_map (λ ids. Receive true (judged ids)) (
 -- and the argument
 abbrev pub judged_of : ℕ → Option ℕ → List ℕ → List ℕ → List ℕ → Result (ℕ × Step) TextError
 judged_of at tick operation proc arg =
-    ok_or (operation_of operation) (BadOp at) >>= λ o. ok_or tick (BadNumber at) >>= λ tick. ok_or (number_of proc) (BadNumber at)
+    ok_or (operation_of operation) (BadOp at) >>= λ o. ok_or tick (BadNumber at) >>= λ tick.
+    ok_or (number_of proc) (BadNumber at)
     >>= λ p. ok_or (judged_act_of o arg) (BadNumber at) >>= λ a. Ok (tick, record { proc = p; act = a })
 
 -- the same of a record
 abbrev pub judged_step_of : Version → ℕ → List (List ℕ) → Result (ℕ × Step) TextError
 judged_step_of v at fields =
-    judged_of at (step_tick v at fields) (field_of fields (proc_place v + 1)) (field_of fields (proc_place v)) (field_of fields (proc_place v + 2))
+    judged_of at (step_tick v at fields) (field_of fields (proc_place v + 1)) (field_of fields (proc_place v))
+    (field_of fields (proc_place v + 2))
 
 -- the same of the stage that a step's record leads to
 abbrev pub judged_step_stage : Version → Recorded → List (List ℕ) → Result Stage TextError

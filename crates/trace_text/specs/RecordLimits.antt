@@ -12,7 +12,8 @@ use Rattle.trace_text.specs.declared.record_limits.TheConstants.{MAX_FIELDS}
 
 -- a record that begins with more fields than there may be is refused alike, for any fields after them
 abbrev pub RefusesLong : {S E : Type 0} → (S → List (List ℕ) → Result S E) → Type 0
-RefusesLong {S} {E} next = (s : S) (front : List (List ℕ)) → MAX_FIELDS < length front → (e : E) × ((more : List (List ℕ)) → next s (front ++ more) ≡ Err e)
+RefusesLong {S} {E} next = (s : S) (front : List (List ℕ)) → MAX_FIELDS < length front
+    → (e : E) × ((more : List (List ℕ)) → next s (front ++ more) ≡ Err e)
 
 -- the state of csv's machine in a place
 abbrev pub state_of : Place → State

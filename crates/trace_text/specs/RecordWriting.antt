@@ -2,7 +2,8 @@
 use Rattle.std.specs.Prelude.{◌≡◌, ℕ, List, [], ◌∷◌, ◌++◌, true, false, Vec}
 use Rattle.std.specs.List.{list_any}
 use Rattle.std.specs.Global.{Global}
-use Rattle.csv.specs.Writing.{default_writer, needs_byte, fields_written, has_written, writer_setup, writer_under, writer_pending}
+use Rattle.csv.specs.Writing.{default_writer, needs_byte, fields_written, has_written}
+use Rattle.csv.specs.Writing.{writer_setup, writer_under, writer_pending}
 use Rattle.csv.specs.declared.writer.Writer.{Writer}
 use Rattle.csv.specs.declared.writer.WriterBuilder.{WriterBuilder}
 

@@ -1,5 +1,6 @@
 -- Texts of comma-separated records: their fields, and where records lead that are read one after the other.
-use Rattle.std.specs.Prelude.{ℕ, ◌≡◌, ◌^◌, List, [], ◌∷◌, ◌++◌, Option, Some, None, Result, Ok, Err, Bool, true, ◌&&◌, nat_lt, if◌then◌else◌, decimal, unwrap_or, MatchBool, ⊤}
+use Rattle.std.specs.Prelude.{ℕ, ◌≡◌, ◌^◌, List, [], ◌∷◌, ◌++◌, Option, Some, None, Result, Ok, Err, Bool}
+use Rattle.std.specs.Prelude.{true, ◌&&◌, nat_lt, if◌then◌else◌, decimal, unwrap_or, MatchBool, ⊤}
 use Rattle.std.specs.Str.{bytes_eq}
 use Rattle.std.specs.Str.Parse.{digits_value}
 use Rattle.std.specs.List.{join_with_byte, flat_map}
@@ -24,7 +25,8 @@ field_of fields i = unwrap_or (field_at fields i) []
 
 -- the number below 2^64 whose text this is, if there is one
 unfoldable pub number_of : List ℕ → Option ℕ
-number_of field = if nat_lt (digits_value 10 field) (2 ^ 64) && bytes_eq field (decimal (digits_value 10 field)) then Some (digits_value 10 field) else None
+number_of field = if nat_lt (digits_value 10 field) (2 ^ 64) && bytes_eq field
+    (decimal (digits_value 10 field)) then Some (digits_value 10 field) else None
 
 -- what was reached goes on, and a refusal stays
 infixl 10 ◌>>=◌

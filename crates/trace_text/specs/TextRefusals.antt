@@ -1,5 +1,7 @@
 -- The first refusal of a trace text, record by record.
-use Rattle.std.specs.Prelude.{ℕ, ◌≡◌, ◌+◌, ◌*◌, ◌≤◌, List, [], ◌∷◌, length, drop, Option, Some, None, Result, Ok, Err, Bool, true, false, ◌&&◌, ◌||◌, ◌==◌, nat_le, if◌then◌else◌, codes, decimal, option_map, MatchBool, ⊤, is_none, is_some, is_ok}
+use Rattle.std.specs.Prelude.{ℕ, ◌≡◌, ◌+◌, ◌*◌, ◌≤◌, List, [], ◌∷◌, length, drop, Option, Some, None, Result, Ok, Err}
+use Rattle.std.specs.Prelude.{Bool, true, false, ◌&&◌, ◌||◌, ◌==◌, nat_le, if◌then◌else◌, codes, decimal, option_map}
+use Rattle.std.specs.Prelude.{MatchBool, ⊤, is_none, is_some, is_ok}
 use Rattle.std.specs.Str.{bytes_eq}
 use Rattle.std.specs.List.{slice_split}
 use Rattle.std.specs.Option.{option_and_then, ok_or}
@@ -20,8 +22,11 @@ use Rattle.trace_text.specs.declared.versions.Version.TheVariants.{One, Two}
 use Rattle.trace_text.specs.declared.reading.Stage.{Stage}
 use Rattle.trace_text.specs.declared.reading.Stage.TheVariants.{Opening, Sized, Recording, Ended}
 use Rattle.trace_text.specs.declared.refusals.TextError.{TextError}
-use Rattle.trace_text.specs.declared.refusals.TextError.TheVariants.{TooLarge, BadHeader, BadVersion, BadSize, BadInit, BadFields, WrongNumber, BadOp, BadNumber, BadStep, NoEnd, WrongEnd, AfterEnd, Memory}
-use Rattle.trace_text.specs.Records.{◌>>=◌, GivesUnless, ReachesUnless, after_records, field_of, number_of, records_of_text}
+use Rattle.trace_text.specs.declared.refusals.TextError.TheVariants.{TooLarge, BadHeader, BadVersion, BadSize, BadInit}
+use Rattle.trace_text.specs.declared.refusals.TextError.TheVariants.{BadFields, WrongNumber, BadOp, BadNumber, BadStep}
+use Rattle.trace_text.specs.declared.refusals.TextError.TheVariants.{NoEnd, WrongEnd, AfterEnd, Memory}
+use Rattle.trace_text.specs.Records.{◌>>=◌, GivesUnless, ReachesUnless, after_records}
+use Rattle.trace_text.specs.Records.{field_of, number_of, records_of_text}
 
 -- the numbers whose texts these are, if each is one
 abbrev pub numbers_of : List (List ℕ) → Option (List ℕ)
@@ -70,7 +75,8 @@ abbrev pub sized : Version → ℕ → ℕ → Result Stage TextError
 sized v n t = if is_size n t then Ok (Sized v n t) else Err BadSize
 
 abbrev pub size_stage : Version → List (List ℕ) → Result Stage TextError
-size_stage v fields = ok_or (number_of (field_of fields 2)) BadSize >>= λ n. ok_or (number_of (field_of fields 3)) BadSize >>= λ t. sized v n t
+size_stage v fields = ok_or (number_of (field_of fields 2)) BadSize >>= λ n.
+    ok_or (number_of (field_of fields 3)) BadSize >>= λ t. sized v n t
 
 -- the header: four fields, the name, the version, and the size
 abbrev pub header_stage : List (List ℕ) → Result Stage TextError
@@ -82,7 +88,8 @@ header_stage fields =
 -- as many initial values as processors (N and t are within their limits by then)
 abbrev pub started : Version → ℕ → ℕ → List ℕ → Result Stage TextError
 started v n t values =
-    if is_none (config_refusal n t (length values)) then Ok (Recording v (record { config = record { n = n; t = t; init = values }; steps = []; ticks = []; last = 0 }))
+    if is_none (config_refusal n t (length values)) then Ok
+    (Recording v (record { config = record { n = n; t = t; init = values }; steps = []; ticks = []; last = 0 }))
     else Err BadInit
 
 abbrev pub values_stage : Version → ℕ → ℕ → List (List ℕ) → Result Stage TextError
@@ -90,7 +97,8 @@ values_stage v n t fields = ok_or (numbers_of fields) BadInit >>= λ values. sta
 
 -- the initial values: `init` and the numbers
 abbrev pub init_stage : Version → ℕ → ℕ → List (List ℕ) → Result Stage TextError
-init_stage v n t fields = if bytes_eq (field_of fields 0) (codes "init") then values_stage v n t (drop 1 fields) else Err BadInit
+init_stage v n t fields = if bytes_eq (field_of fields 0) (codes "init") then values_stage v n t
+    (drop 1 fields) else Err BadInit
 
 -- how many fields a step has
 abbrev pub step_fields : Version → ℕ
@@ -110,9 +118,11 @@ step_tick Two at fields = number_of (field_of fields 1)
 -- the operation of a step, then its tick, its processor and its argument
 abbrev pub step_of : Version → ℕ → List (List ℕ) → Result (ℕ × Step) TextError
 step_of v at fields =
-    ok_or (operation_of (field_of fields (proc_place v + 1))) (BadOp at) >>= λ o. ok_or (step_tick v at fields) (BadNumber at)
+    ok_or (operation_of (field_of fields (proc_place v + 1))) (BadOp at) >>= λ o.
+    ok_or (step_tick v at fields) (BadNumber at)
     >>= λ tick. ok_or (number_of (field_of fields (proc_place v))) (BadNumber at)
-    >>= λ p. ok_or (act_of o (field_of fields (proc_place v + 2))) (BadNumber at) >>= λ a. Ok (tick, record { proc = p; act = a })
+    >>= λ p. ok_or (act_of o (field_of fields (proc_place v + 2))) (BadNumber at) >>= λ a.
+    Ok (tick, record { proc = p; act = a })
 
 -- one more step in this tick, if the trace doesn't refuse it
 abbrev pub pushed : Version → Recorded → ℕ → Step → Option PushError → Result Stage TextError
@@ -126,23 +136,27 @@ push_stage v t fields = step_of v (length t.steps + 1) fields >>= λ x. pushed v
 abbrev pub step_stage : Version → Recorded → List (List ℕ) → Result Stage TextError
 step_stage v t fields =
     if length fields == step_fields v then
-    (if bytes_eq (field_of fields 0) (decimal (length t.steps + 1)) then push_stage v t fields else Err (WrongNumber (length t.steps + 1)))
+    (if bytes_eq (field_of fields 0) (decimal (length t.steps + 1)) then push_stage v t fields else Err
+    (WrongNumber (length t.steps + 1)))
     else Err (BadFields (length t.steps + 1))
 
 -- the end of a trace: in version 1 the text of the number of steps, in version 2 a tick in which the trace may end
 abbrev pub ended : Version → Recorded → List ℕ → Result Stage TextError
 ended One t field = if bytes_eq field (decimal (length t.steps)) then Ok (Ended t) else Err WrongEnd
-ended Two t field = ok_or (number_of field) WrongEnd >>= λ last. if may_end_in t last then Ok (Ended (with_last t last)) else Err WrongEnd
+ended Two t field = ok_or (number_of field) WrongEnd >>= λ last.
+    if may_end_in t last then Ok (Ended (with_last t last)) else Err WrongEnd
 
 -- the end: two fields
 abbrev pub end_stage : Version → Recorded → List (List ℕ) → Result Stage TextError
-end_stage v t fields = if length fields == 2 then ended v t (field_of fields 1) else Err (BadFields (length t.steps + 1))
+end_stage v t fields = if length fields == 2 then ended v t (field_of fields 1) else Err
+    (BadFields (length t.steps + 1))
 
 -- what one more record makes of a stage
 abbrev pub next_stage : Stage → List (List ℕ) → Result Stage TextError
 next_stage Opening fields = header_stage fields
 next_stage (Sized v n t) fields = init_stage v n t fields
-next_stage (Recording v t) fields = if bytes_eq (field_of fields 0) (codes "end") then end_stage v t fields else step_stage v t fields
+next_stage (Recording v t) fields = if bytes_eq (field_of fields 0)
+    (codes "end") then end_stage v t fields else step_stage v t fields
 next_stage (Ended t) fields = Err AfterEnd
 
 -- the answer for a stage at the end of the text
@@ -158,7 +172,8 @@ trace_of_records records = after_records next_stage Opening records >>= λ s. tr
 
 -- the trace of a text, or the first refusal
 abbrev pub trace_of_text : List ℕ → Result Recorded TextError
-trace_of_text text = if nat_le (length text) MAX_TEXT_BYTES then trace_of_records (records_of_text text) else Err TooLarge
+trace_of_text text = if nat_le (length text) MAX_TEXT_BYTES then trace_of_records
+    (records_of_text text) else Err TooLarge
 
 abbrev pub is_memory : TextError → Bool
 is_memory Memory = true
@@ -186,7 +201,8 @@ fields_keep (Some o) tick proc arg = is_some tick && is_some (number_of proc) &&
 -- the same of a step's record
 abbrev pub step_keeps : Version → ℕ → List (List ℕ) → Bool
 step_keeps v at fields =
-    fields_keep (operation_of (field_of fields (proc_place v + 1))) (step_tick v at fields) (field_of fields (proc_place v)) (field_of fields (proc_place v + 2))
+    fields_keep (operation_of (field_of fields (proc_place v + 1))) (step_tick v at fields)
+    (field_of fields (proc_place v)) (field_of fields (proc_place v + 2))
 
 -- whether a record has a step's fields and the step's number
 abbrev pub is_numbered : Version → ℕ → List (List ℕ) → Bool
@@ -194,7 +210,8 @@ is_numbered v at fields = (length fields == step_fields v) && bytes_eq (field_of
 
 -- whether something has to be kept for a step's record: its ids, or the step, if the trace takes it
 abbrev pub step_record_keeps : Version → Recorded → List (List ℕ) → Bool
-step_record_keeps v t fields = is_ok (step_stage v t fields) || (is_numbered v (length t.steps + 1) fields && step_keeps v (length t.steps + 1) fields)
+step_record_keeps v t fields = is_ok (step_stage v t fields) ||
+    (is_numbered v (length t.steps + 1) fields && step_keeps v (length t.steps + 1) fields)
 
 -- whether initial values have to be kept for a record
 abbrev pub init_keeps : List (List ℕ) → Bool
@@ -204,7 +221,8 @@ init_keeps fields = bytes_eq (field_of fields 0) (codes "init") && begins_with_n
 abbrev pub record_keeps : Stage → List (List ℕ) → Bool
 record_keeps Opening fields = false
 record_keeps (Sized v n t) fields = init_keeps fields
-record_keeps (Recording v t) fields = if bytes_eq (field_of fields 0) (codes "end") then false else step_record_keeps v t fields
+record_keeps (Recording v t) fields = if bytes_eq (field_of fields 0)
+    (codes "end") then false else step_record_keeps v t fields
 record_keeps (Ended t) fields = false
 
 -- the refusal is the first of the table, or out of memory in a text that isn't too large

@@ -1,5 +1,6 @@
 -- Trace text: the records of a trace in each version, and the texts that encode it.
-use Rattle.std.specs.Prelude.{ℕ, ◌≡◌, ◌+◌, ◌<◌, ◌^◌, List, [], ◌∷◌, ◌++◌, length, map, All, Bool, true, false, ◌&&◌, ◌==◌, if◌then◌else◌, ⊤, codes, decimal}
+use Rattle.std.specs.Prelude.{ℕ, ◌≡◌, ◌+◌, ◌<◌, ◌^◌, List, [], ◌∷◌, ◌++◌, length, map, All, Bool}
+use Rattle.std.specs.Prelude.{true, false, ◌&&◌, ◌==◌, if◌then◌else◌, ⊤, codes, decimal}
 use Rattle.std.specs.List.{join_with_byte}
 use Rattle.step_trace.specs.declared.steps.Act.{Act}
 use Rattle.step_trace.specs.declared.steps.Act.TheVariants.{Send, Receive}
@@ -51,7 +52,8 @@ end_record last = codes "end" ∷ decimal last ∷ []
 
 -- the records of a trace
 abbrev pub trace_records : Version → Recorded → List (List (List ℕ))
-trace_records v t = header_record v t.config.n t.config.t ∷ init_record t.config.init ∷ step_records v t.ticks 1 t.steps ++ end_record t.last ∷ []
+trace_records v t = header_record v t.config.n t.config.t ∷ init_record t.config.init ∷ step_records v t.ticks 1 t.steps
+    ++ end_record t.last ∷ []
 
 -- the traces that a version has texts of: version 1 those with one step in each tick, version 2 all
 abbrev pub HasTextsOf : Version → Recorded → Type 0

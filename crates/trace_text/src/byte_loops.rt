@@ -3,7 +3,8 @@
 ghost use Rattle.std.specs.Prelude.{◌≡◌, ◌+◌, ◌≤◌, IfOk, OnOk, IfErr, OnErr, IsOk, IsErrOf, IfSome, is_ok, vec_len};
 ghost use Rattle.std.specs.Io.KnownBytes.{Appends, IsAtEnd};
 ghost use Rattle.trace_text.specs.Faults.{inner_of, faults_of, idle_writes_of, reads_of, is_flushed, Rose};
-ghost use Rattle.trace_text.specs.ByteLoops.{IsReadRefusal, ReadRefusedFor, bytes_read, faults_after_reading, WroteFront, WasFaultless, MetOneFault};
+ghost use Rattle.trace_text.specs.ByteLoops.{IsReadRefusal, ReadRefusedFor, bytes_read, faults_after_reading};
+ghost use Rattle.trace_text.specs.ByteLoops.{WroteFront, WasFaultless, MetOneFault};
 
 use crate::counting::Counting;
 use crate::refusals::{TextError, WriteError};
@@ -30,13 +31,16 @@ pub fn read_all<R: Read>(alloc: Global, reader: &mut Counting<R>) -> Result<Vec<
     ensures end { OnOk result (IsAtEnd (R.remaining (inner_of reader.new))) }
     ensures limit { IfOk result (λ text. vec_len text ≤ MAX_TEXT_BYTES) }
     ensures refusals { IfErr result IsReadRefusal }
-    ensures cause { IfErr result (λ e. ReadRefusedFor e (faults_of reader.old) (faults_of reader.new)
+    ensures cause { IfErr result
+        (λ e. ReadRefusedFor e (faults_of reader.old) (faults_of reader.new)
         (R.remaining (inner_of reader.old))) }
     ensures within { IsErrOf result TextError.Memory
-        → IfSome (bytes_read (R.remaining (inner_of reader.old)) (R.remaining (inner_of reader.new)))
+        → IfSome (bytes_read (R.remaining (inner_of reader.old))
+        (R.remaining (inner_of reader.new)))
         (λ n. n ≤ MAX_TEXT_BYTES) }
     ensures more { IsErrOf result TextError.Memory
-        → IfSome (bytes_read (R.remaining (inner_of reader.old)) (R.remaining (inner_of reader.new)))
+        → IfSome (bytes_read (R.remaining (inner_of reader.old))
+        (R.remaining (inner_of reader.new)))
         (λ n. reads_of reader.new ≤ reads_of reader.old + n) }
     ensures reads { reads_of reader.new ≤ reads_of reader.old + (MAX_TEXT_BYTES + 2) }
     ensures faults { faults_of reader.new ≡ faults_after_reading result (faults_of reader.old) }

@@ -3,7 +3,8 @@
 ghost use Rattle.std.specs.Prelude.{◌≡◌, false, is_ok};
 ghost use Rattle.std.specs.Io.{ReadsAtMost, WritesAtMost};
 ghost use Rattle.std.specs.Io.KnownBytes.{ReadConsumes, WriteAppends, Keeps};
-ghost use Rattle.trace_text.specs.Faults.{inner_of, faults_of, idle_writes_of, is_flushed, reads_of, one_more, faults_after, idle_writes_after};
+ghost use Rattle.trace_text.specs.Faults.{inner_of, faults_of, idle_writes_of, is_flushed, reads_of};
+ghost use Rattle.trace_text.specs.Faults.{one_more, faults_after, idle_writes_after};
 
 use std::io;
 use std::io::{Read, Write};
@@ -56,7 +57,8 @@ impl<R: Read> Read for Counting<R> {
 
     fn read(&mut self, buf: &mut [u8]) -> io::Result<usize>
         ensures bound { ReadsAtMost result buf.new }
-        ensures bytes { ReadConsumes (R.remaining (inner_of self.old)) (R.remaining (inner_of self.new))
+        ensures bytes { ReadConsumes (R.remaining (inner_of self.old))
+            (R.remaining (inner_of self.new))
             result buf.new }
         ensures faults { faults_of self.new ≡ faults_after result (faults_of self.old) }
         ensures reads { reads_of self.new ≡ one_more (reads_of self.old) }
@@ -79,7 +81,8 @@ impl<W: Write> Write for Counting<W> {
 
     fn write(&mut self, buf: &[u8]) -> io::Result<usize>
         ensures bound { WritesAtMost result buf.now }
-        ensures bytes { WriteAppends (W.contents (inner_of self.old)) (W.contents (inner_of self.new))
+        ensures bytes { WriteAppends (W.contents (inner_of self.old))
+            (W.contents (inner_of self.new))
             result buf.now }
         ensures faults { faults_of self.new ≡ faults_after result (faults_of self.old) }
         ensures reads { reads_of self.new ≡ reads_of self.old }

@@ -1,12 +1,16 @@
 //! A reader and a writer for tests that fail at a chosen place, and count the calls that reach them.
 
-ghost use Rattle.std.specs.Prelude.{◌≡◌, ◌<◌, [], length, take, drop, None, Some, unwrap_or, IfOk, IfErr, OnOk, OnErr, MatchResult};
+ghost use Rattle.std.specs.Prelude.{◌≡◌, ◌<◌, [], length, take, drop, None, Some, unwrap_or};
+ghost use Rattle.std.specs.Prelude.{IfOk, IfErr, OnOk, OnErr, MatchResult};
 ghost use Rattle.std.specs.Io.{ReadsAtMost, WritesAtMost};
 ghost use Rattle.std.specs.Io.KnownBytes.{ReadConsumes, WriteAppends, Keeps};
 ghost use Rattle.std.specs.IoError.{error_kind};
 ghost use Rattle.std.specs.declared.io.ErrorKind.TheVariants.{OutOfMemory};
 ghost use Rattle.trace_text.specs.Faults.{one_more};
-ghost use Rattle.trace_text.specs.FailingDevices.{known_bytes, held_by, left_in, read_piece_of, read_count, next_bytes, after_of, read_fault, reads_made, taken_by, piece_of, failure_of, room_in, write_count, write_fault, flush_fault, writes_made, flushes_made};
+ghost use Rattle.trace_text.specs.FailingDevices.{known_bytes, held_by, left_in, read_piece_of, read_count, next_bytes};
+ghost use Rattle.trace_text.specs.FailingDevices.{after_of, read_fault, reads_made, taken_by, piece_of, failure_of};
+ghost use Rattle.trace_text.specs.FailingDevices.{room_in, write_count, write_fault, flush_fault, writes_made};
+ghost use Rattle.trace_text.specs.FailingDevices.{flushes_made};
 
 use crate::counting::raise;
 use std::alloc::Global;
@@ -173,7 +177,8 @@ impl Write for FailingWriter {
 
     fn write(&mut self, buf: &[u8]) -> io::Result<usize>
         ensures bound { WritesAtMost result buf.now }
-        ensures bytes { WriteAppends (Some (taken_by self.old)) (Some (taken_by self.new)) result buf.now }
+        ensures bytes { WriteAppends (Some (taken_by self.old))
+            (Some (taken_by self.new)) result buf.now }
         ensures count { IfOk result (λ n. n ≡ write_count self.old (length buf.now)) }
         ensures fails { OnOk result (write_fault self.old (length buf.now) ≡ None) }
         ensures fault { IfErr result (λ e.

@@ -1,12 +1,17 @@
 //! Reading of trace text, record by record. The first record that is refused decides.
 
-ghost use Rattle.std.specs.Prelude.{◌≡◌, ◌≢◌, ◌<◌, ◌≤◌, ◌↔◌, ◌+◌, ◌&&◌, ◌||◌, drop, IsErrOf, IfOk, OnOk, IfErr, MatchResult, length, option_map, is_ok, Ok, Err, IsTrue, decimal, false};
+ghost use Rattle.std.specs.Prelude.{◌≡◌, ◌≢◌, ◌<◌, ◌≤◌, ◌↔◌, ◌+◌, ◌&&◌, ◌||◌, drop, IsErrOf, IfOk, OnOk, IfErr};
+ghost use Rattle.std.specs.Prelude.{MatchResult, length, option_map, is_ok, Ok, Err, IsTrue, decimal, false};
 ghost use Rattle.std.specs.Str.{bytes_eq};
 ghost use Rattle.csv.specs.Records.{fields_of};
 ghost use Rattle.step_trace.specs.Traces.{Recorded};
 ghost use Rattle.trace_text.specs.Records.{WantsOnlyWhere, field_of, records_of_text};
 ghost use Rattle.trace_text.specs.TraceTexts.{StandsFor, IsTextTrace};
-ghost use Rattle.trace_text.specs.TextRefusals.{IsFirstRefusal, Gives, LeadsTo, is_memory, trace_of_records, trace_at_end, next_stage, header_stage, init_stage, step_stage, ids_of, ended, end_stage, record_keeps, init_keeps, step_record_keeps, step_keeps, fields_keep, operation_of, act_keeps, parts_of, begins_with_number};
+ghost use Rattle.trace_text.specs.TextRefusals.{IsFirstRefusal, Gives, LeadsTo, is_memory, trace_of_records};
+ghost use Rattle.trace_text.specs.TextRefusals.{trace_at_end, next_stage, header_stage, init_stage, step_stage, ids_of};
+ghost use Rattle.trace_text.specs.TextRefusals.{ended, end_stage, record_keeps, init_keeps, step_record_keeps};
+ghost use Rattle.trace_text.specs.TextRefusals.{step_keeps, fields_keep, operation_of, act_keeps, parts_of};
+ghost use Rattle.trace_text.specs.TextRefusals.{begins_with_number};
 ghost use Rattle.trace_text.specs.JudgedIds.{judged, judged_act_of, judged_of, judged_step_of};
 ghost use Rattle.trace_text.specs.LongRefusals.{refuses_long};
 ghost use Rattle.std.specs.Option.{ok_or};
@@ -114,7 +119,8 @@ impl TakeRecords for Stage {
 
 /// Ends the trace, if one is being recorded.
 fn end(stage: &mut Stage)
-    ensures { (v : Version) (t : Recorded) → stage.old ≡ Stage.Recording v t → stage.new ≡ Stage.Ended t }
+    ensures { (v : Version) (t : Recorded) → stage.old ≡ Stage.Recording v t
+        → stage.new ≡ Stage.Ended t }
 {
     if let Stage::Recording(_, trace) = mem::replace(stage, Stage::Opening) {
         *stage = Stage::Ended(trace);

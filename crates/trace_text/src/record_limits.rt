@@ -51,7 +51,8 @@ impl Progress {
 /// record. Most texts show at a glance that they have no long record, and then it is all.
 pub(crate) fn readable_len(text: &[u8]) -> usize
     ensures within { result ≤ length text.now }
-    ensures front { (result ≡ length text.now) ⊎ (strip_bom (take result text.now) ≡ front_from 0 st.StartRecord (strip_bom text.now)) }
+    ensures front { (result ≡ length text.now)
+        ⊎ (strip_bom (take result text.now) ≡ front_from 0 st.StartRecord (strip_bom text.now)) }
 {
     if may_have_long_records(text) {
         limited_len(text)
@@ -73,7 +74,8 @@ fn has_no_line_feed(page: &[u8]) -> bool {
 /// How many bytes there are up to the end of the first field that is one too many in its record, or in all.
 fn limited_len(text: &[u8]) -> usize
     ensures within { result ≤ length text.now }
-    ensures front { strip_bom (take result text.now) ≡ front_from 0 st.StartRecord (strip_bom text.now) }
+    ensures front { strip_bom (take result text.now) ≡ front_from 0 st.StartRecord
+        (strip_bom text.now) }
 {
     let mark = mark_len(text);
     mark + front_len(&text[mark..])
@@ -112,7 +114,8 @@ fn front_len(text: &[u8]) -> usize
 fn after(progress: Progress, byte: u8) -> Progress
     requires { progress.fields ≤ MAX_FIELDS }
     ensures place { state_of result.place ≡ (step default_config (state_of progress.place) byte).0 }
-    ensures fields { result.fields ≡ count_after (step default_config (state_of progress.place) byte).1 progress.fields }
+    ensures fields { result.fields ≡ count_after
+        (step default_config (state_of progress.place) byte).1 progress.fields }
 {
     match (progress.place, byte) {
         (Place::StartRecord | Place::AfterReturn, b'\r' | b'\n') => progress.at(Place::StartRecord),

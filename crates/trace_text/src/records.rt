@@ -4,7 +4,8 @@
 ghost use Rattle.std.specs.Prelude.{◌≡◌, ℕ, List, Bool, Result, IsTrue, decimal};
 ghost use Rattle.std.specs.Str.{bytes_eq};
 ghost use Rattle.csv.specs.Records.{fields_of};
-ghost use Rattle.trace_text.specs.Records.{ReachesUnless, WantsOnlyWhere, after_records, field_of, number_of, records_of_text};
+ghost use Rattle.trace_text.specs.Records.{ReachesUnless, WantsOnlyWhere, after_records};
+ghost use Rattle.trace_text.specs.Records.{field_of, number_of, records_of_text};
 ghost use Rattle.trace_text.specs.RecordLimits.{RefusesLong};
 
 use crate::record_limits::readable_len;

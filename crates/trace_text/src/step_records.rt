@@ -40,7 +40,8 @@ pub(crate) fn values(alloc: Global, fields: &ByteRecord) -> Result<Option<Vec<u6
 /// The numbers of a field that have one space between them, as far as they rise, and the first that doesn't; unless
 /// a part isn't a number. An empty field has none. Memory is taken for the first number and those after it.
 pub(crate) fn judged_ids(alloc: Global, field: &[u8]) -> Result<Option<Vec<u64>>, AllocError>
-    ensures numbers { IfOk result (λ o. option_map (λ v. v.items) o ≡ option_map judged (ids_of field.now)) }
+    ensures numbers { IfOk result
+        (λ o. option_map (λ v. v.items) o ≡ option_map judged (ids_of field.now)) }
     ensures more { IsErr result → IsTrue (begins_with_number (parts_of field.now)) }
 {
     let mut ids = Vec::new(alloc);
@@ -60,7 +61,8 @@ pub(crate) fn judged_ids(alloc: Global, field: &[u8]) -> Result<Option<Vec<u64>>
 /// Keeps one more id if those before it rise, and answers whether they rise with it.
 fn keep_id(ids: &mut Vec<u64>, rising: bool, id: u64) -> Result<bool, AllocError>
     ensures { IfOk result
-        (λ rises. (all : List ℕ) → AreKept all ids.old.items rising → AreKept (all ++ id ∷ []) ids.new.items rises) }
+        (λ rises. (all : List ℕ) → AreKept all ids.old.items rising
+        → AreKept (all ++ id ∷ []) ids.new.items rises) }
 {
     if !rising {
         return Ok(false);

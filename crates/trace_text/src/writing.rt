@@ -1,6 +1,7 @@
 //! Writing of trace text: the whole text first, then its bytes.
 
-ghost use Rattle.std.specs.Prelude.{◌≡◌, ◌<◌, ◌^◌, [], ◌++◌, ◌↔◌, IfOk, OnOk, IfErr, IsTrue, All, length, map, decimal, string_bytes};
+ghost use Rattle.std.specs.Prelude.{◌≡◌, ◌<◌, ◌^◌, [], ◌++◌, ◌↔◌, IfOk, OnOk, IfErr};
+ghost use Rattle.std.specs.Prelude.{IsTrue, All, length, map, decimal, string_bytes};
 ghost use Rattle.std.specs.List.{join_with_byte};
 ghost use Rattle.csv.specs.Records.{fields_of};
 ghost use Rattle.step_trace.specs.Ticks.{IsOnePerTick};
@@ -9,7 +10,9 @@ ghost use Rattle.trace_text.specs.Faults.{is_flushed};
 ghost use Rattle.trace_text.specs.Records.{record_line, text_of_records};
 ghost use Rattle.trace_text.specs.RecordWriting.{IsReady, IsPlain, ArePlain, written};
 ghost use Rattle.trace_text.specs.TextWriting.{Wrote, WrotePart, IsWriteCause};
-ghost use Rattle.trace_text.specs.TraceTexts.{IsTextTrace, StandsFor, is_one_per_tick, trace_text, trace_text_2, version_text, version_field, header_record, init_record, step_record, step_records, end_record, op_text, arg_text};
+ghost use Rattle.trace_text.specs.TraceTexts.{IsTextTrace, StandsFor, is_one_per_tick, trace_text, trace_text_2};
+ghost use Rattle.trace_text.specs.TraceTexts.{version_text, version_field, header_record, init_record, step_record};
+ghost use Rattle.trace_text.specs.TraceTexts.{step_records, end_record, op_text, arg_text};
 
 use crate::byte_loops::{MAX_TEXT_BYTES, write_text};
 use crate::counting::Counting;
@@ -37,7 +40,8 @@ pub fn write_trace<W: Write>(
     ensures whole { OnOk result (Wrote W.contents writer.old writer.new (trace_text trace.now)) }
     ensures flushed { OnOk result (IsTrue (is_flushed writer.new)) }
     ensures faultless { OnOk result (WasFaultless writer.old writer.new) }
-    ensures part { IfErr result (WrotePart W.contents writer.old writer.new (trace_text trace.now)) }
+    ensures part { IfErr result
+        (WrotePart W.contents writer.old writer.new (trace_text trace.now)) }
     ensures cause { IfErr result (λ e. IsWriteCause e writer.old writer.new) }
     ensures version { IsTrue (is_one_per_tick trace.now) ↔ IsOnePerTick trace.now }
     ensures sound { IsTextTrace trace.now }
@@ -56,7 +60,8 @@ pub fn write_trace_2<W: Write>(
     ensures whole { OnOk result (Wrote W.contents writer.old writer.new (trace_text_2 trace.now)) }
     ensures flushed { OnOk result (IsTrue (is_flushed writer.new)) }
     ensures faultless { OnOk result (WasFaultless writer.old writer.new) }
-    ensures part { IfErr result (WrotePart W.contents writer.old writer.new (trace_text_2 trace.now)) }
+    ensures part { IfErr result
+        (WrotePart W.contents writer.old writer.new (trace_text_2 trace.now)) }
     ensures cause { IfErr result (λ e. IsWriteCause e writer.old writer.new) }
     ensures sound { IsTextTrace trace.now }
     ensures stands { StandsFor (trace_text_2 trace.now) trace.now }
@@ -83,10 +88,12 @@ fn write_version<W: Write>(
     trace: &Trace,
     writer: &mut Counting<W>,
 ) -> Result<(), WriteError>
-    ensures whole { OnOk result (Wrote W.contents writer.old writer.new (version_text version trace.now)) }
+    ensures whole { OnOk result
+        (Wrote W.contents writer.old writer.new (version_text version trace.now)) }
     ensures flushed { OnOk result (IsTrue (is_flushed writer.new)) }
     ensures faultless { OnOk result (WasFaultless writer.old writer.new) }
-    ensures part { IfErr result (WrotePart W.contents writer.old writer.new (version_text version trace.now)) }
+    ensures part { IfErr result
+        (WrotePart W.contents writer.old writer.new (version_text version trace.now)) }
     ensures cause { IfErr result (λ e. IsWriteCause e writer.old writer.new) }
     ensures sound { IsTextTrace trace.now }
 {

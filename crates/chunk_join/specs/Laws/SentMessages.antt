@@ -1,5 +1,6 @@
 -- The messages of a part and what becomes of them, joined.
-use Rattle.std.proofs.Common.{ℕ, ◌≡◌, ◌<◌, ◌≤◌, ◌++◌, List, inl, inr, Option, Some, None, map, find, Contains, refl, sym, ap, subst, subst₂, ◌⊎◌, arith}
+use Rattle.std.proofs.Common.{ℕ, ◌≡◌, ◌<◌, ◌≤◌, ◌++◌, List, inl, inr, Option, Some, None, map}
+use Rattle.std.proofs.Common.{find, Contains, refl, sym, ap, subst, subst₂, ◌⊎◌, arith}
 use Rattle.std.proofs.lemmas.Bool.{cases_lt}
 use Rattle.std.proofs.lemmas.List.Elements.{Contains-append_left, Contains-append_right, Contains-append_cases}
 use Rattle.step_trace.specs.Traces.{Recorded}
@@ -12,44 +13,64 @@ use Rattle.chunk_join.specs.Summaries.{Summary, IsSummary, IsListing, IsSent, Se
 use Rattle.chunk_join.specs.Parts.{settle, settled_by, takes_of}
 use Rattle.chunk_join.specs.Laws.Listings.{Rises-append, Rises-map}
 use Rattle.chunk_join.specs.Laws.TakenIds.{before_take}
-use Rattle.chunk_join.specs.Laws.SettledFates.{KnowsTakes, IsKnown, earlier_fate, with_fate, settle-fate, IsSent-settled}
+use Rattle.chunk_join.specs.Laws.SettledFates.{KnowsTakes, IsKnown, earlier_fate, with_fate}
+use Rattle.chunk_join.specs.Laws.SettledFates.{settle-fate, IsSent-settled}
 
 -- the right part's list has all that takes a message of the left part after the seam
-pub KnowsTakes-right : (set : ℕ) (t : Recorded) (i s j : ℕ) (l r : Summary) (m : Message) → i ≤ s → IsSummary set t i s l → IsSummary set t s j r → IsSent set t i s m → KnowsTakes set t s j r.taken l.last m
+pub KnowsTakes-right : (set : ℕ) (t : Recorded) (i s j : ℕ) (l r : Summary) (m : Message) → i ≤ s
+    → IsSummary set t i s l → IsSummary set t s j r → IsSent set t i s m → KnowsTakes set t s j r.taken l.last m
 KnowsTakes-right set t i s j l r m low a b sent = record {
   sound = λ y c. (let k = b.taken.sound y c in (k.own, k.until));
-  complete = λ y own until same. (b.taken.complete y (record { own = own; until = until; earlier = omega (arith, sent.until, same) }));
+  complete = λ y own until same.
+      (b.taken.complete y (record { own = own; until = until; earlier = omega (arith, sent.until, same) }));
   before = λ y own. ((i, omega (arith, sent.after), before_take set t i s l y low a own));
 }
 
-pub IsKnown-left : (set : ℕ) (t : Recorded) (i s j : ℕ) (m : Message) → s ≤ j → IsSent set t i s m → IsKnown set t i s j m
-IsKnown-left set t i s j m high k = record { message = k.message; place = k.place; after = k.after; until = omega (arith, k.until, high); fate = k.fate }
+pub IsKnown-left : (set : ℕ) (t : Recorded) (i s j : ℕ) (m : Message) → s ≤ j → IsSent set t i s m
+    → IsKnown set t i s j m
+IsKnown-left set t i s j m high k =
+    record {
+      message = k.message;
+      place = k.place;
+      after = k.after;
+      until = omega (arith, k.until, high);
+      fate = k.fate;
+    }
 
 -- what is sent after the seam is a message of the right part, and the other way
-IsSent-right : (set : ℕ) (t : Recorded) (i s j : ℕ) (m : Message) → s < m.sent.tick → IsSent set t i j m → IsSent set t s j m
-IsSent-right set t i s j m late k = record { message = k.message; place = k.place; after = late; until = k.until; fate = k.fate }
+IsSent-right : (set : ℕ) (t : Recorded) (i s j : ℕ) (m : Message) → s < m.sent.tick → IsSent set t i j m
+    → IsSent set t s j m
+IsSent-right set t i s j m late k =
+    record { message = k.message; place = k.place; after = late; until = k.until; fate = k.fate }
 
 IsSent-whole : (set : ℕ) (t : Recorded) (i s j : ℕ) (m : Message) → i ≤ s → IsSent set t s j m → IsSent set t i j m
-IsSent-whole set t i s j m low k = record { message = k.message; place = k.place; after = omega (arith, k.after, low); until = k.until; fate = k.fate }
+IsSent-whole set t i s j m low k =
+    record { message = k.message; place = k.place; after = omega (arith, k.after, low); until = k.until; fate = k.fate }
 
 -- a message keeps its Send
 pub settled_sent : (last : List (Option Place)) (m : Message) (o : Option Take) → (settled_by last m o).sent ≡ m.sent
 settled_sent last m None = refl
 settled_sent last m (Some x) = refl
 
-pub settle_keeps_order : (taken : List Take) (last : List (Option Place)) (x y : Message) → SentBefore x y → SentBefore (settle taken last x) (settle taken last y)
+pub settle_keeps_order : (taken : List Take) (last : List (Option Place)) (x y : Message) → SentBefore x y
+    → SentBefore (settle taken last x) (settle taken last y)
 settle_keeps_order taken last x y h =
-    subst₂ (λ (p q : Place). (p.tick < q.tick) ⊎ ((p.tick ≡ q.tick) × (p.no < q.no))) (sym (settled_sent last x (find (takes_of x) taken))) (sym (settled_sent last y (find (takes_of y) taken))) h
+    subst₂ (λ (p q : Place). (p.tick < q.tick) ⊎ ((p.tick ≡ q.tick) × (p.no < q.no)))
+    (sym (settled_sent last x (find (takes_of x) taken))) (sym (settled_sent last y (find (takes_of y) taken))) h
 
 -- the messages of both parts together
-pub joined_sent : (set : ℕ) (t : Recorded) → IsTrace t → (i s j : ℕ) (l r : Summary) → i ≤ s → s ≤ j → IsSummary set t i s l → IsSummary set t s j r
+pub joined_sent : (set : ℕ) (t : Recorded) → IsTrace t → (i s j : ℕ) (l r : Summary) → i ≤ s → s ≤ j
+    → IsSummary set t i s l → IsSummary set t s j r
     → IsListing SentBefore (IsSent set t i j) (map (settle r.taken l.last) l.sent ++ r.sent)
 joined_sent set t sound i s j l r low high a b = record {
-  rising = Rises-append SentBefore settled r.sent (Rises-map SentBefore (settle r.taken l.last) l.sent (λ x y p q h. settle_keeps_order r.taken l.last x y h) a.sent.rising) b.sent.rising across;
+  rising = Rises-append SentBefore settled r.sent
+      (Rises-map SentBefore (settle r.taken l.last) l.sent (λ x y p q h. settle_keeps_order r.taken l.last x y h)
+      a.sent.rising) b.sent.rising across;
   sound = λ x k. elim (Contains-append_cases settled r.sent x k) [
     | inl p ↦ (let y = Contains-from_map (settle r.taken l.last) l.sent x p in
         let sent = a.sent.sound y.0 y.1 in
-        let z = IsSent-settled set t sound i s j r.taken l.last y.0 high (KnowsTakes-right set t i s j l r y.0 low a b sent) (IsKnown-left set t i s j y.0 high sent) in
+        let z = IsSent-settled set t sound i s j r.taken l.last y.0 high
+        (KnowsTakes-right set t i s j l r y.0 low a b sent) (IsKnown-left set t i s j y.0 high sent) in
         subst (λ v. IsSent set t i j v) y.2 z)
     | inr p ↦ IsSent-whole set t i s j x low (b.sent.sound x p)
   ];
@@ -66,8 +87,10 @@ joined_sent set t sound i s j l r low high a b = record {
   left_listed x k early =
       let f = earlier_fate t sound x.sent x.to s j x.fate high k.fate in
       let m = with_fate x f.0 in
-      let own : IsSent set t i s m = record { message = k.message; place = k.place; after = k.after; until = early; fate = f.1 } in
-      let same = settle-fate set t sound i s j r.taken l.last m high (KnowsTakes-right set t i s j l r m low a b own) (IsKnown-left set t i s j m high own) x.fate k.fate in
+      let own : IsSent set t i s m =
+      record { message = k.message; place = k.place; after = k.after; until = early; fate = f.1 } in
+      let same = settle-fate set t sound i s j r.taken l.last m high (KnowsTakes-right set t i s j l r m low a b own)
+      (IsKnown-left set t i s j m high own) x.fate k.fate in
       subst (Contains settled) same (Contains-map (settle r.taken l.last) l.sent m (a.sent.complete m own))
 
   across : (x y : Message) → Contains settled x → Contains r.sent y → SentBefore x y

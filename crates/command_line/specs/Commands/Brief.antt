@@ -13,7 +13,8 @@ brief_app = command_app (codes "brief") (file_rule ∷ correct_rule ∷ tick_rul
 
 -- the brief report of the file of this name, for the processors that this list names, up to this tick if there is one
 abbrev pub IsBrief : List ℕ → List ℕ → Option ℕ → Job → Type 0
-IsBrief name list until (job.Brief j) = (string_bytes j.file ≡ name) × IsCorrectIn list j.brief.correct × (j.brief.until ≡ until)
+IsBrief name list until (job.Brief j) = (string_bytes j.file ≡ name) × IsCorrectIn list j.brief.correct
+    × (j.brief.until ≡ until)
 IsBrief name list until _ = ⊥
 
 -- what the rows below `brief` give

@@ -8,11 +8,13 @@ use Rattle.command_line.specs.declared.jobs.Job.TheVariants as job
 use Rattle.command_line.specs.declared.line_errors.LineError.{LineError}
 use Rattle.command_line.specs.declared.line_errors.LineError.TheVariants as unread
 use Rattle.command_line.specs.Answers.{Given, ◌>>=◌, answers}
-use Rattle.command_line.specs.Arguments.{command_app, IsListFault, correct_rule, file_rule, positional_rule, tick_in, tick_rule}
+use Rattle.command_line.specs.Arguments.{command_app, IsListFault, correct_rule, file_rule}
+use Rattle.command_line.specs.Arguments.{positional_rule, tick_in, tick_rule}
 
 -- check FILE CERT --correct LIST --until TICK
 abbrev pub check_app : App
-check_app = command_app (codes "check") (file_rule ∷ positional_rule (codes "certificate") ∷ correct_rule ∷ tick_rule (codes "until") ∷ [])
+check_app = command_app (codes "check")
+    (file_rule ∷ positional_rule (codes "certificate") ∷ correct_rule ∷ tick_rule (codes "until") ∷ [])
 
 -- the line `check FILE CERT --correct LIST`, after the program's name
 abbrev pub check_line : Text → Text → Text → Text → List Text
@@ -26,7 +28,8 @@ AreBothStandardInput a b = (a ≡ codes "-") × (b ≡ codes "-")
 -- there is one
 abbrev pub IsCheck : List ℕ → List ℕ → List ℕ → Option ℕ → Job → Type 0
 IsCheck name certified list until (job.Check j) =
-    (string_bytes j.file ≡ name) × (string_bytes j.certificate ≡ certified) × IsCorrectIn list j.claim.correct × (j.claim.until ≡ until)
+    (string_bytes j.file ≡ name) × (string_bytes j.certificate ≡ certified) × IsCorrectIn list j.claim.correct
+    × (j.claim.until ≡ until)
     × (¬ AreBothStandardInput name certified)
 IsCheck name certified list until _ = ⊥
 
@@ -39,7 +42,8 @@ pub record IsOneInput (name certified list text : List ℕ) : Type 0 where
 
 -- the refusal of a text that is no list, or else of two files that are both standard input; or out of memory
 abbrev pub IsFilesFault : List ℕ → List ℕ → List ℕ → LineError → Type 0
-IsFilesFault name certified list (unread.Refused text) = IsListFault list (unread.Refused text) ⊎ IsOneInput name certified list (string_bytes text)
+IsFilesFault name certified list (unread.Refused text) = IsListFault list (unread.Refused text)
+    ⊎ IsOneInput name certified list (string_bytes text)
 IsFilesFault name certified list unread.Memory = Unit {0}
 
 -- what the rows below `check` give

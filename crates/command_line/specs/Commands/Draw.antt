@@ -12,7 +12,8 @@ use Rattle.command_line.specs.Commands.Page.{FitsTable, IsPageFault, unit_given}
 -- draw FILE --correct LIST --from TICK --to TICK --names LIST --lanes LIST --table STEPS --unit U
 abbrev pub draw_app : App
 draw_app = command_app (codes "draw") (file_rule ∷ correct_rule ∷ tick_rule (codes "from")
-    ∷ tick_rule (codes "to") ∷ optional_rule (codes "names") ∷ optional_rule (codes "lanes") ∷ optional_rule (codes "table") ∷ optional_rule (codes "unit") ∷ [])
+    ∷ tick_rule (codes "to") ∷ optional_rule (codes "names") ∷ optional_rule (codes "lanes")
+    ∷ optional_rule (codes "table") ∷ optional_rule (codes "unit") ∷ [])
 
 -- the line `draw FILE --correct LIST`, after the program's name
 abbrev pub draw_line : Text → Text → Text → List Text
@@ -20,7 +21,8 @@ draw_line name file list = name ∷ codes "draw" ∷ file ∷ codes "--correct" 
 
 -- the picture of the file of this name, for the processors that this list names, with these ticks, names and lanes, the
 -- table in the file of that name, and the unit of its times
-abbrev pub IsDraw : List ℕ → List ℕ → Option ℕ → Option ℕ → Option (List ℕ) → Option (List ℕ) → Option (List ℕ) → Option (List ℕ) → Job → Type 0
+abbrev pub IsDraw : List ℕ → List ℕ → Option ℕ → Option ℕ → Option (List ℕ) → Option (List ℕ) → Option (List ℕ)
+    → Option (List ℕ) → Job → Type 0
 IsDraw name list from to names lanes table u (job.Draw j) =
     (string_bytes j.file ≡ name) × IsCorrectIn list j.drawing.correct × (j.drawing.from ≡ from) × (j.drawing.to ≡ to)
     × (option_map string_bytes j.drawing.names ≡ names) × (option_map string_bytes j.drawing.lanes ≡ lanes)
@@ -38,5 +40,6 @@ draw_given rows = do
   list ← first_of (codes "correct") rows
   from ← tick_in rows (codes "from")
   to ← tick_in rows (codes "to")
-  answers (IsDraw file list from to (first_of (codes "names") rows) (first_of (codes "lanes") rows) (first_of (codes "table") rows) (first_of (codes "unit") rows))
+  answers (IsDraw file list from to (first_of (codes "names") rows) (first_of (codes "lanes") rows)
+      (first_of (codes "table") rows) (first_of (codes "unit") rows))
       (IsDrawFault file list (first_of (codes "table") rows) (first_of (codes "unit") rows))

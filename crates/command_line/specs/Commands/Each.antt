@@ -9,11 +9,14 @@ use Rattle.command_line.specs.Arguments.{command_app, IsListFault, correct_rule,
 
 -- each FILE --correct LIST --at TICK --until TICK
 abbrev pub each_app : App
-each_app = command_app (codes "each") (file_rule ∷ correct_rule ∷ tick_rule (codes "at") ∷ tick_rule (codes "until") ∷ [])
+each_app = command_app (codes "each")
+    (file_rule ∷ correct_rule ∷ tick_rule (codes "at") ∷ tick_rule (codes "until") ∷ [])
 
--- the bounds of each processor and link of the file of this name, for the processors that this list names, with these ticks
+-- the bounds of each processor and link of the file of this name, for the processors that this list names, with these
+-- ticks
 abbrev pub IsEach : List ℕ → List ℕ → Option ℕ → Option ℕ → Job → Type 0
-IsEach name list at until (job.Each j) = (string_bytes j.file ≡ name) × IsCorrectIn list j.each.correct × (j.each.at ≡ at) × (j.each.until ≡ until)
+IsEach name list at until (job.Each j) = (string_bytes j.file ≡ name) × IsCorrectIn list j.each.correct
+    × (j.each.at ≡ at) × (j.each.until ≡ until)
 IsEach name list at until _ = ⊥
 
 -- what the rows below `each` give

@@ -1,5 +1,6 @@
 -- The command `judge`: what it takes, and the job that its words give.
-use Rattle.std.specs.Prelude.{ℕ, ◌≡◌, ◌⊎◌, Bool, true, false, ◌||◌, is_some, List, [], ◌∷◌, Option, Some, None, codes, option_map, string_bytes}
+use Rattle.std.specs.Prelude.{ℕ, ◌≡◌, ◌⊎◌, Bool, true, false, ◌||◌, is_some, List, [], ◌∷◌}
+use Rattle.std.specs.Prelude.{Option, Some, None, codes, option_map, string_bytes}
 use Rattle.clap.specs.Words.{App, Row, first_of}
 use Rattle.step_trace.specs.declared.correct_sets.Correct.{Correct}
 use Rattle.step_trace.specs.declared.correct_sets.Correct.TheVariants as correct
@@ -9,14 +10,18 @@ use Rattle.command_line.specs.declared.jobs.Job.TheVariants as job
 use Rattle.command_line.specs.declared.line_errors.LineError.{LineError}
 use Rattle.command_line.specs.declared.line_errors.LineError.TheVariants as unread
 use Rattle.command_line.specs.Answers.{Given, ◌>>=◌, answers}
-use Rattle.command_line.specs.Arguments.{IsListFault, IsMemory, command_app, file_rule, flag_in, flag_rule, option_rule, optional_positional_rule, optional_rule, tick_in, tick_rule}
+use Rattle.command_line.specs.Arguments.{IsListFault, IsMemory, command_app, file_rule, flag_in, flag_rule, option_rule}
+use Rattle.command_line.specs.Arguments.{optional_positional_rule, optional_rule, tick_in, tick_rule}
 use Rattle.command_line.specs.Commands.Check.{AreBothStandardInput}
 
 -- judge FILE DECISIONS --correct LIST --within FORMULA --start TICK --valid --whole --due K --factor --rows, or
 -- --replay in place of DECISIONS; or judge FILE --runs, without DECISIONS, --factor and --rows
 abbrev pub judge_app : App
-judge_app = command_app (codes "judge") (file_rule ∷ optional_positional_rule (codes "decisions") ∷ optional_rule (codes "correct") ∷ option_rule (codes "within")
-    ∷ tick_rule (codes "start") ∷ flag_rule (codes "valid") ∷ flag_rule (codes "whole") ∷ tick_rule (codes "due") ∷ flag_rule (codes "factor") ∷ flag_rule (codes "rows") ∷ flag_rule (codes "replay") ∷ flag_rule (codes "runs") ∷ [])
+judge_app = command_app (codes "judge") (file_rule ∷ optional_positional_rule (codes "decisions")
+    ∷ optional_rule (codes "correct") ∷ option_rule (codes "within")
+    ∷ tick_rule (codes "start") ∷ flag_rule (codes "valid") ∷ flag_rule (codes "whole") ∷ tick_rule (codes "due")
+    ∷ flag_rule (codes "factor") ∷ flag_rule (codes "rows") ∷ flag_rule (codes "replay")
+    ∷ flag_rule (codes "runs") ∷ [])
 
 -- the decisions are in the file of this name, and not both files are standard input; or there is none, with --replay
 abbrev pub AreDecisionsIn : List ℕ → Option (List ℕ) → Bool → Option (List ℕ) → Type 0
@@ -31,7 +36,8 @@ IsEitherRefusal _ = ⊥
 
 -- both files are standard input, which is refused in these words
 abbrev pub IsOneInputRefusal : List ℕ → List ℕ → LineError → Type 0
-IsOneInputRefusal name decided (unread.Refused text) = AreBothStandardInput name decided × (string_bytes text ≡ codes "synchrony: only one file can be -")
+IsOneInputRefusal name decided (unread.Refused text) = AreBothStandardInput name decided
+    × (string_bytes text ≡ codes "synchrony: only one file can be -")
 IsOneInputRefusal name decided _ = ⊥
 
 -- why there are no decisions; or out of memory
@@ -44,14 +50,18 @@ IsDecisionsFault name None true e = ⊥
 
 -- the refusal of a text that is no list, or else of the decisions; or out of memory
 abbrev pub IsJudgeFault : List ℕ → Option (List ℕ) → List ℕ → Bool → LineError → Type 0
-IsJudgeFault name decided list replay e = IsListFault list e ⊎ (((correct : Correct) × IsCorrectIn list correct) × IsDecisionsFault name decided replay e)
+IsJudgeFault name decided list replay e = IsListFault list e
+    ⊎ (((correct : Correct) × IsCorrectIn list correct) × IsDecisionsFault name decided replay e)
 
 -- the judgement of the decisions of the second file, or of the replay, for the processors of this list, within a
 -- formula, with these options
-abbrev pub IsJudge : List ℕ → Option (List ℕ) → List ℕ → List ℕ → Option ℕ → Bool → Bool → Option ℕ → Bool → Bool → Bool → Job → Type 0
+abbrev pub IsJudge : List ℕ → Option (List ℕ) → List ℕ → List ℕ → Option ℕ → Bool → Bool → Option ℕ → Bool → Bool → Bool
+    → Job → Type 0
 IsJudge name decided list within start valid whole due factor table replay (job.Judge j) =
-    (string_bytes j.file ≡ name) × AreDecisionsIn name decided replay (option_map string_bytes j.decisions) × IsCorrectIn list j.judging.correct × (string_bytes j.judging.within ≡ within)
-    × (j.judging.start ≡ start) × (j.judging.valid ≡ valid) × (j.judging.whole ≡ whole) × (j.judging.due ≡ due) × (j.judging.factor ≡ factor) × (j.judging.rows ≡ table)
+    (string_bytes j.file ≡ name) × AreDecisionsIn name decided replay (option_map string_bytes j.decisions)
+    × IsCorrectIn list j.judging.correct × (string_bytes j.judging.within ≡ within)
+    × (j.judging.start ≡ start) × (j.judging.valid ≡ valid) × (j.judging.whole ≡ whole) × (j.judging.due ≡ due)
+    × (j.judging.factor ≡ factor) × (j.judging.rows ≡ table)
     × (j.judging.replay ≡ replay)
 IsJudge name decided list within start valid whole due factor table replay _ = ⊥
 
@@ -64,7 +74,8 @@ IsSetOfRuns (Some list) found = IsCorrectIn list found
 abbrev pub IsRuns : List ℕ → Option (List ℕ) → List ℕ → Option ℕ → Bool → Bool → Option ℕ → Job → Type 0
 IsRuns name list within start valid whole due (job.JudgeRuns j) =
     (string_bytes j.list ≡ name) × IsSetOfRuns list j.judging.correct × (string_bytes j.judging.within ≡ within)
-    × (j.judging.start ≡ start) × (j.judging.valid ≡ valid) × (j.judging.whole ≡ whole) × (j.judging.due ≡ due) × (j.judging.factor ≡ false) × (j.judging.rows ≡ false)
+    × (j.judging.start ≡ start) × (j.judging.valid ≡ valid) × (j.judging.whole ≡ whole) × (j.judging.due ≡ due)
+    × (j.judging.factor ≡ false) × (j.judging.rows ≡ false)
     × (j.judging.replay ≡ false)
 IsRuns name list within start valid whole due _ = ⊥
 
@@ -79,18 +90,23 @@ is_for_one decided factor table replay = is_some decided || (factor || (table ||
 
 -- which is refused in these words
 abbrev pub IsForOneRefusal : LineError → Type 0
-IsForOneRefusal (unread.Refused text) = string_bytes text ≡ codes "synchrony: judge --runs takes no DECISIONS, --factor, --rows or --replay"
+IsForOneRefusal (unread.Refused text) =
+    string_bytes text ≡ codes "synchrony: judge --runs takes no DECISIONS, --factor, --rows or --replay"
 IsForOneRefusal _ = ⊥
 
 -- a run with no list of its correct processors is refused in these words
 abbrev pub IsNoListRefusal : LineError → Type 0
-IsNoListRefusal (unread.Refused text) = string_bytes text ≡ codes "synchrony: judge takes either --correct LIST or --runs"
+IsNoListRefusal (unread.Refused text) =
+    string_bytes text ≡ codes "synchrony: judge takes either --correct LIST or --runs"
 IsNoListRefusal _ = ⊥
 
 -- the judgement of one run, or of those of a list
-abbrev pub IsJudgeOf : Bool → List ℕ → Option (List ℕ) → Option (List ℕ) → List ℕ → Option ℕ → Bool → Bool → Option ℕ → Bool → Bool → Bool → Job → Type 0
-IsJudgeOf true name decided list within start valid whole due factor table replay j = (is_for_one decided factor table replay ≡ false) × IsRuns name list within start valid whole due j
-IsJudgeOf false name decided (Some list) within start valid whole due factor table replay j = IsJudge name decided list within start valid whole due factor table replay j
+abbrev pub IsJudgeOf : Bool → List ℕ → Option (List ℕ) → Option (List ℕ) → List ℕ → Option ℕ → Bool → Bool → Option ℕ
+    → Bool → Bool → Bool → Job → Type 0
+IsJudgeOf true name decided list within start valid whole due factor table replay j =
+    (is_for_one decided factor table replay ≡ false) × IsRuns name list within start valid whole due j
+IsJudgeOf false name decided (Some list) within start valid whole due factor table replay j =
+    IsJudge name decided list within start valid whole due factor table replay j
 IsJudgeOf false name decided None within start valid whole due factor table replay j = ⊥
 
 -- why the runs of a list aren't judged: an argument is for one run alone, or else their set is none; or out of memory
@@ -109,7 +125,8 @@ IsNoListFault e = IsNoListRefusal e
 
 -- why there is no judgement of the runs of a list, or of one run
 abbrev pub IsJudgeFaultOf : Bool → List ℕ → Option (List ℕ) → Option (List ℕ) → Bool → Bool → Bool → LineError → Type 0
-IsJudgeFaultOf true name decided list factor table replay e = IsRunsFaultOf (is_for_one decided factor table replay) list e
+IsJudgeFaultOf true name decided list factor table replay e =
+    IsRunsFaultOf (is_for_one decided factor table replay) list e
 IsJudgeFaultOf false name decided None factor table replay e = IsNoListFault e
 IsJudgeFaultOf false name decided (Some list) factor table replay e = IsJudgeFault name decided list replay e
 
@@ -126,5 +143,7 @@ judge_given rows = do
   table ← flag_in rows (codes "rows")
   replay ← flag_in rows (codes "replay")
   runs ← flag_in rows (codes "runs")
-  answers (IsJudgeOf runs file (first_of (codes "decisions") rows) (first_of (codes "correct") rows) within start valid whole due factor table replay)
-      (IsJudgeFaultOf runs file (first_of (codes "decisions") rows) (first_of (codes "correct") rows) factor table replay)
+  answers (IsJudgeOf runs file (first_of (codes "decisions") rows)
+      (first_of (codes "correct") rows) within start valid whole due factor table replay)
+      (IsJudgeFaultOf runs file (first_of (codes "decisions") rows)
+      (first_of (codes "correct") rows) factor table replay)

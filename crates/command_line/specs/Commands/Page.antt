@@ -1,5 +1,6 @@
 -- The command `page`: what it takes, and the job that its words give.
-use Rattle.std.specs.Prelude.{ℕ, ◌≡◌, ◌⊎◌, ◌++◌, if◌then◌else◌, List, [], ◌∷◌, Option, Some, None, codes, option_map, string_bytes}
+use Rattle.std.specs.Prelude.{ℕ, ◌≡◌, ◌⊎◌, ◌++◌, if◌then◌else◌, List, [], ◌∷◌, Option}
+use Rattle.std.specs.Prelude.{Some, None, codes, option_map, string_bytes}
 use Rattle.std.specs.Str.{bytes_eq}
 use Rattle.clap.specs.Words.{App, Row, first_of}
 use Rattle.step_trace.specs.declared.correct_sets.Correct.{Correct}
@@ -11,13 +12,15 @@ use Rattle.command_line.specs.declared.jobs.Job.TheVariants as job
 use Rattle.command_line.specs.declared.line_errors.LineError.{LineError}
 use Rattle.command_line.specs.declared.line_errors.LineError.TheVariants as unread
 use Rattle.command_line.specs.Answers.{Given, ◌>>=◌, answers}
-use Rattle.command_line.specs.Arguments.{command_app, IsListFault, correct_rule, file_rule, optional_rule, tick_in, tick_rule}
+use Rattle.command_line.specs.Arguments.{command_app, IsListFault, correct_rule, file_rule}
+use Rattle.command_line.specs.Arguments.{optional_rule, tick_in, tick_rule}
 use Rattle.command_line.specs.Commands.Check.{AreBothStandardInput}
 use Rattle.command_line.specs.Commands.Judge.{IsOneInputRefusal}
 
 -- page FILE --correct LIST --at TICK --names LIST --table STEPS --unit U
 abbrev pub page_app : App
-page_app = command_app (codes "page") (file_rule ∷ correct_rule ∷ tick_rule (codes "at") ∷ optional_rule (codes "names") ∷ optional_rule (codes "table") ∷ optional_rule (codes "unit") ∷ [])
+page_app = command_app (codes "page") (file_rule ∷ correct_rule ∷ tick_rule (codes "at") ∷ optional_rule (codes "names")
+    ∷ optional_rule (codes "table") ∷ optional_rule (codes "unit") ∷ [])
 
 -- a table comes without names, and not both files are standard input
 abbrev pub FitsTable : List ℕ → Option (List ℕ) → Option (List ℕ) → Type 0
@@ -50,7 +53,8 @@ IsUnitFault name unread.Memory = Unit {0}
 -- file, and the unit of its times
 abbrev pub IsPage : List ℕ → List ℕ → Option ℕ → Option (List ℕ) → Option (List ℕ) → Option (List ℕ) → Job → Type 0
 IsPage name list at names table u (job.Page j) =
-    (string_bytes j.file ≡ name) × IsCorrectIn list j.page.correct × (j.page.at ≡ at) × (option_map string_bytes j.page.names ≡ names)
+    (string_bytes j.file ≡ name) × IsCorrectIn list j.page.correct × (j.page.at ≡ at)
+    × (option_map string_bytes j.page.names ≡ names)
     × (option_map string_bytes j.table ≡ table) × FitsTable name names table × (unit_given u ≡ Some j.page.unit)
 IsPage name list at names table u _ = ⊥
 
@@ -69,7 +73,8 @@ IsTableFault name None (Some table) e = IsOneInputRefusal name table e
 -- the refusal of a text that is no list, or else of the table, or else of the unit; or out of memory
 abbrev pub IsPageFault : List ℕ → List ℕ → Option (List ℕ) → Option (List ℕ) → Option (List ℕ) → LineError → Type 0
 IsPageFault name list names table u e =
-    IsListFault list e ⊎ (((correct : Correct) × IsCorrectIn list correct) × (IsTableFault name names table e ⊎ (FitsTable name names table × IsUnitFault u e)))
+    IsListFault list e ⊎ (((correct : Correct) × IsCorrectIn list correct)
+    × (IsTableFault name names table e ⊎ (FitsTable name names table × IsUnitFault u e)))
 
 -- what the rows below `page` give
 abbrev pub page_given : List Row → Given → Type 0
@@ -77,5 +82,7 @@ page_given rows = do
   file ← first_of (codes "file") rows
   list ← first_of (codes "correct") rows
   at ← tick_in rows (codes "at")
-  answers (IsPage file list at (first_of (codes "names") rows) (first_of (codes "table") rows) (first_of (codes "unit") rows))
-      (IsPageFault file list (first_of (codes "names") rows) (first_of (codes "table") rows) (first_of (codes "unit") rows))
+  answers (IsPage file list at (first_of (codes "names") rows) (first_of (codes "table") rows)
+      (first_of (codes "unit") rows))
+      (IsPageFault file list (first_of (codes "names") rows) (first_of (codes "table") rows)
+      (first_of (codes "unit") rows))

@@ -1,5 +1,6 @@
 -- The command `simulate`: what it takes, and the job that its words give.
-use Rattle.std.specs.Prelude.{ℕ, ◌≡◌, ◌+◌, ◌-◌, ◌^◌, ◌≤◌, ◌⊎◌, ◌++◌, if◌then◌else◌, [], ◌∷◌, All, List, Option, Some, None, codes, length, nat_lt, string_bytes, unwrap_or, ⊤}
+use Rattle.std.specs.Prelude.{ℕ, ◌≡◌, ◌+◌, ◌-◌, ◌^◌, ◌≤◌, ◌⊎◌, ◌++◌, if◌then◌else◌, [], ◌∷◌, All, List}
+use Rattle.std.specs.Prelude.{Option, Some, None, codes, length, nat_lt, string_bytes, unwrap_or, ⊤}
 use Rattle.std.specs.Str.{bytes_eq}
 use Rattle.clap.specs.Words.{App, Row, Text, first_of}
 use Rattle.step_trace.specs.declared.traces.TheConstants.{MAX_STEPS}
@@ -17,16 +18,21 @@ use Rattle.command_line.specs.declared.jobs.simulate.TheConstants.{MAX_PATIENCE}
 use Rattle.command_line.specs.declared.line_errors.LineError.{LineError}
 use Rattle.command_line.specs.declared.line_errors.LineError.TheVariants as unread
 use Rattle.command_line.specs.Answers.{Given, ◌>>=◌, answers}
-use Rattle.command_line.specs.Arguments.{command_app, number_in, number_rule, option_rule, optional_number_in, optional_number_rule, optional_rule}
+use Rattle.command_line.specs.Arguments.{command_app, number_in, number_rule, option_rule, optional_number_in}
+use Rattle.command_line.specs.Arguments.{optional_number_rule, optional_rule}
 use Rattle.command_line.specs.CrashLists.{IsCrashList}
 use Rattle.command_line.specs.RunJobs.{IsConfigFault, IsConfigOf}
 
--- simulate --nodes N --faults T --values V1,..,VN --patience P --steps S --seed K --schedule NAME --gst G --delta D --phi F
+-- simulate --nodes N --faults T --values V1,..,VN --patience P --steps S --seed K --schedule NAME --gst G --delta D
+-- --phi F
 -- --crash P@TICK,.. --loss PERCENT
 abbrev pub simulate_app : App
-simulate_app = command_app (codes "simulate") (number_rule (codes "nodes") 0 (2 ^ 64 - 1) ∷ number_rule (codes "faults") 0 (2 ^ 64 - 1) ∷ option_rule (codes "values")
-    ∷ number_rule (codes "patience") 1 MAX_PATIENCE ∷ number_rule (codes "steps") 0 MAX_STEPS ∷ number_rule (codes "seed") 0 (2 ^ 64 - 1) ∷ optional_rule (codes "schedule")
-    ∷ optional_number_rule (codes "gst") 0 MAX_BOUND ∷ optional_number_rule (codes "delta") 1 MAX_BOUND ∷ optional_number_rule (codes "phi") 1 MAX_BOUND
+simulate_app = command_app (codes "simulate") (number_rule (codes "nodes") 0 (2 ^ 64 - 1)
+    ∷ number_rule (codes "faults") 0 (2 ^ 64 - 1) ∷ option_rule (codes "values")
+    ∷ number_rule (codes "patience") 1 MAX_PATIENCE ∷ number_rule (codes "steps") 0 MAX_STEPS
+    ∷ number_rule (codes "seed") 0 (2 ^ 64 - 1) ∷ optional_rule (codes "schedule")
+    ∷ optional_number_rule (codes "gst") 0 MAX_BOUND ∷ optional_number_rule (codes "delta") 1 MAX_BOUND
+    ∷ optional_number_rule (codes "phi") 1 MAX_BOUND
     ∷ optional_rule (codes "crash") ∷ optional_number_rule (codes "loss") 0 100 ∷ [])
 
 -- the schedule of this name; random without one
@@ -44,7 +50,8 @@ AreStated _ _ _ _ = ⊥
 
 -- the words in which a schedule of another name is refused
 abbrev pub bad_schedule_words : List ℕ
-bad_schedule_words = codes "synchrony: bad --schedule" ++ (10 ∷ codes "synchrony: --schedule takes turns, random or bursts")
+bad_schedule_words = codes "synchrony: bad --schedule"
+    ++ (10 ∷ codes "synchrony: --schedule takes turns, random or bursts")
 
 -- there is no schedule of this name; or out of memory
 abbrev pub IsScheduleFault : Option Text → LineError → Type 0
@@ -58,11 +65,13 @@ AreNamed (Some text) crashes = IsCrashList text crashes
 
 -- the words in which a list of crashes is refused that is none, or that doesn't fit the processors
 abbrev pub bad_crash_words : List ℕ
-bad_crash_words = codes "synchrony: bad --crash" ++ (10 ∷ codes "synchrony: --crash takes P@TICK with one comma between each two, each P once")
+bad_crash_words = codes "synchrony: bad --crash"
+    ++ (10 ∷ codes "synchrony: --crash takes P@TICK with one comma between each two, each P once")
 
 -- the text lists no crashes; or out of memory
 abbrev pub IsCrashListFault : Option Text → LineError → Type 0
-IsCrashListFault name (unread.Refused words) = ((crashes : List Crash) → ¬ AreNamed name crashes) × (string_bytes words ≡ bad_crash_words)
+IsCrashListFault name (unread.Refused words) = ((crashes : List Crash) → ¬ AreNamed name crashes)
+    × (string_bytes words ≡ bad_crash_words)
 IsCrashListFault name unread.Memory = ⊤
 
 -- no more crash than may be faulty
@@ -71,24 +80,29 @@ AreFew config crashes = config.n ≤ length (live config.n crashes) + config.t
 
 -- each is a crash of a processor, and there are as many as processors that crash, so no two of one
 abbrev pub AreOfEach : Setup → List Crash → Type 0
-AreOfEach config crashes = All (λ crash. IsProc config crash.proc) crashes × (length crashes + length (live config.n crashes) ≡ config.n)
+AreOfEach config crashes = All (λ crash. IsProc config crash.proc) crashes
+    × (length crashes + length (live config.n crashes) ≡ config.n)
 
 -- the words in which too many crashes are refused
 abbrev pub too_many_crashes_words : List ℕ
-too_many_crashes_words = codes "synchrony: bad --crash" ++ (10 ∷ codes "synchrony: more processors crash than may be faulty")
+too_many_crashes_words = codes "synchrony: bad --crash"
+    ++ (10 ∷ codes "synchrony: more processors crash than may be faulty")
 
 -- more crash than may be faulty, or else they aren't one of a processor each; or out of memory
 abbrev pub IsCrashFault : Setup → List Crash → LineError → Type 0
-IsCrashFault config crashes (unread.Refused words) = (¬ AreFew config crashes × (string_bytes words ≡ too_many_crashes_words))
+IsCrashFault config crashes (unread.Refused words) =
+    (¬ AreFew config crashes × (string_bytes words ≡ too_many_crashes_words))
     ⊎ (AreFew config crashes × ¬ AreOfEach config crashes × (string_bytes words ≡ bad_crash_words))
 IsCrashFault config crashes unread.Memory = ⊤
 
 -- the words in which bounds are refused of which one is missing, and a processor bound that no schedule keeps
 abbrev pub bad_bounds_words : List ℕ
-bad_bounds_words = codes "synchrony: bad --gst" ++ (10 ∷ codes "synchrony: --gst, --delta and --phi are given together or not at all")
+bad_bounds_words = codes "synchrony: bad --gst"
+    ++ (10 ∷ codes "synchrony: --gst, --delta and --phi are given together or not at all")
 
 abbrev pub bad_phi_words : List ℕ
-bad_phi_words = codes "synchrony: bad --phi" ++ (10 ∷ codes "synchrony: no schedule keeps it: it is below the number of live processors")
+bad_phi_words = codes "synchrony: bad --phi"
+    ++ (10 ∷ codes "synchrony: no schedule keeps it: it is below the number of live processors")
 
 -- the words in which these bounds are refused if so many processors are live; none if they aren't refused
 abbrev pub bounds_refusal : ℕ → Option ℕ → Option ℕ → Option ℕ → Option (List ℕ)
@@ -98,11 +112,13 @@ bounds_refusal lives _ _ _ = Some bad_bounds_words
 
 -- they are refused in these words; or out of memory
 abbrev pub IsBoundsFault : ℕ → Option ℕ → Option ℕ → Option ℕ → LineError → Type 0
-IsBoundsFault lives gst delta phi (unread.Refused words) = bounds_refusal lives gst delta phi ≡ Some (string_bytes words)
+IsBoundsFault lives gst delta phi (unread.Refused words) =
+    bounds_refusal lives gst delta phi ≡ Some (string_bytes words)
 IsBoundsFault lives gst delta phi unread.Memory = ⊤
 
 -- The job is the simulation of this configuration, with these numbers, this schedule, these bounds and these crashes.
-pub record IsSimulationOf (n t : ℕ) (values : List ℕ) (patience steps seed : ℕ) (name : Option Text) (gst delta phi : Option ℕ) (crash : Option Text) (loss : Option ℕ) (o : SimulationOptions) : Type 0 where
+pub record IsSimulationOf (n t : ℕ) (values : List ℕ) (patience steps seed : ℕ) (name : Option Text)
+    (gst delta phi : Option ℕ) (crash : Option Text) (loss : Option ℕ) (o : SimulationOptions) : Type 0 where
   pub config : IsConfigOf n t values o.config
   pub patience_is : o.patience ≡ patience
   pub steps_is : o.steps ≡ steps
@@ -113,8 +129,10 @@ pub record IsSimulationOf (n t : ℕ) (values : List ℕ) (patience steps seed :
   pub one_each : AreOfEach o.config o.crashes.items
   pub loss_is : o.loss ≡ unwrap_or loss 0
 
-abbrev pub IsSimulation : ℕ → ℕ → List ℕ → ℕ → ℕ → ℕ → Option Text → Option ℕ → Option ℕ → Option ℕ → Option Text → Option ℕ → Job → Type 0
-IsSimulation n t values patience steps seed name gst delta phi crash loss (job.Simulate o) = IsSimulationOf n t values patience steps seed name gst delta phi crash loss o
+abbrev pub IsSimulation : ℕ → ℕ → List ℕ → ℕ → ℕ → ℕ → Option Text → Option ℕ → Option ℕ → Option ℕ → Option Text
+    → Option ℕ → Job → Type 0
+IsSimulation n t values patience steps seed name gst delta phi crash loss (job.Simulate o) =
+    IsSimulationOf n t values patience steps seed name gst delta phi crash loss o
 IsSimulation n t values patience steps seed name gst delta phi crash loss _ = ⊥
 
 -- There is such a schedule, but the crashes are no list.
@@ -132,7 +150,8 @@ pub record IsOfNoConfig (n t : ℕ) (values : List ℕ) (name crash : Option Tex
   pub refused : IsConfigFault n t values why
 
 -- There is such a configuration too, but the bounds are refused for its live processors, or else the crashes are.
-pub record IsUnkept (n t : ℕ) (values : List ℕ) (name : Option Text) (gst delta phi : Option ℕ) (crash : Option Text) (why : LineError) : Type 0 where
+pub record IsUnkept (n t : ℕ) (values : List ℕ) (name : Option Text) (gst delta phi : Option ℕ) (crash : Option Text)
+    (why : LineError) : Type 0 where
   pub schedule : Schedule
   pub scheduled : schedule_of name ≡ Some schedule
   pub crashes : List Crash
@@ -144,8 +163,10 @@ pub record IsUnkept (n t : ℕ) (values : List ℕ) (name : Option Text) (gst de
 
 -- the first refusal: of the schedule, the list of crashes, the configuration, the bounds, or who crashes; or out of
 -- memory
-abbrev pub IsSimulationFault : ℕ → ℕ → List ℕ → Option Text → Option ℕ → Option ℕ → Option ℕ → Option Text → LineError → Type 0
-IsSimulationFault n t values name gst delta phi crash (unread.Refused words) = IsScheduleFault name (unread.Refused words)
+abbrev pub IsSimulationFault : ℕ → ℕ → List ℕ → Option Text → Option ℕ → Option ℕ → Option ℕ → Option Text
+    → LineError → Type 0
+IsSimulationFault n t values name gst delta phi crash (unread.Refused words) =
+    IsScheduleFault name (unread.Refused words)
     ⊎ (IsOfNoCrashes name crash (unread.Refused words) ⊎ (IsOfNoConfig n t values name crash (unread.Refused words)
     ⊎ IsUnkept n t values name gst delta phi crash (unread.Refused words)))
 IsSimulationFault n t values name gst delta phi crash unread.Memory = ⊤
@@ -163,5 +184,6 @@ simulate_given rows = do
   delta ← optional_number_in rows (codes "delta") 1 MAX_BOUND
   phi ← optional_number_in rows (codes "phi") 1 MAX_BOUND
   loss ← optional_number_in rows (codes "loss") 0 100
-  answers (IsSimulation n t values patience steps seed (first_of (codes "schedule") rows) gst delta phi (first_of (codes "crash") rows) loss)
+  answers (IsSimulation n t values patience steps seed (first_of (codes "schedule") rows) gst delta phi
+      (first_of (codes "crash") rows) loss)
       (IsSimulationFault n t values (first_of (codes "schedule") rows) gst delta phi (first_of (codes "crash") rows))

@@ -9,11 +9,13 @@ use Rattle.command_line.specs.declared.jobs.Job.{Job}
 use Rattle.command_line.specs.declared.jobs.Job.TheVariants as job
 use Rattle.command_line.specs.declared.line_errors.LineError.{LineError}
 use Rattle.command_line.specs.Answers.{Given, ◌>>=◌, answers}
-use Rattle.command_line.specs.Arguments.{command_app, IsListFaultOf, IsMemory, file_rule, number_in, number_rule, optional_number_in, optional_number_rule, optional_rule, tick_in, tick_rule}
+use Rattle.command_line.specs.Arguments.{command_app, IsListFaultOf, IsMemory, file_rule, number_in, number_rule}
+use Rattle.command_line.specs.Arguments.{optional_number_in, optional_number_rule, optional_rule, tick_in, tick_rule}
 
 -- timeouts FILE --from P --to LIST --every K --polls M --until TICK --at TICK
 abbrev pub timeouts_app : App
-timeouts_app = command_app (codes "timeouts") (file_rule ∷ number_rule (codes "from") 1 MAX_MEMBER ∷ optional_rule (codes "to") ∷ optional_number_rule (codes "every") 1 MAX_TURNS
+timeouts_app = command_app (codes "timeouts") (file_rule ∷ number_rule (codes "from") 1 MAX_MEMBER
+    ∷ optional_rule (codes "to") ∷ optional_number_rule (codes "every") 1 MAX_TURNS
     ∷ optional_number_rule (codes "polls") 1 MAX_TURNS ∷ tick_rule (codes "until") ∷ tick_rule (codes "at") ∷ [])
 
 -- the followers that a list names, if there is one
@@ -30,7 +32,8 @@ IsToFault (Some list) why = IsListFaultOf (codes "to") list why
 -- the timeouts of the followers that this list names, of this leader, with these numbers of steps and these ticks
 abbrev pub IsTimeouts : List ℕ → ℕ → Option (List ℕ) → Option ℕ → Option ℕ → Option ℕ → Option ℕ → Job → Type 0
 IsTimeouts name from list every polls until at (job.Timeouts j) =
-    (string_bytes j.file ≡ name) × (j.table.from ≡ from) × AreNamed list j.table.to × (j.table.every ≡ every) × (j.table.polls ≡ polls)
+    (string_bytes j.file ≡ name) × (j.table.from ≡ from) × AreNamed list j.table.to × (j.table.every ≡ every)
+    × (j.table.polls ≡ polls)
     × (j.table.until ≡ until) × (j.table.at ≡ at)
 IsTimeouts name from list every polls until at _ = ⊥
 
@@ -43,4 +46,5 @@ timeouts_given rows = do
   polls ← optional_number_in rows (codes "polls") 1 MAX_TURNS
   until ← tick_in rows (codes "until")
   at ← tick_in rows (codes "at")
-  answers (IsTimeouts file from (first_of (codes "to") rows) every polls until at) (IsToFault (first_of (codes "to") rows))
+  answers (IsTimeouts file from (first_of (codes "to") rows) every polls until at)
+      (IsToFault (first_of (codes "to") rows))

@@ -3,7 +3,10 @@
 ghost use Rattle.std.specs.Prelude.{◌≡◌, ◌↔◌, ◌≤◌, List, IfOk, IfErr, IfSome, IsTrue, codes, option_map, string_bytes};
 ghost use Rattle.clap.specs.Words.{Rule, first_of, found_of, rows_of};
 ghost use Rattle.step_trace.specs.CorrectSets.{IsCorrectIn};
-ghost use Rattle.command_line.specs.Arguments.{AreArguments, IsArgument, IsCommand, IsListFaultOf, IsUnknown, TellsList, command_app, correct_rule, file_rule, flag_in, flag_rule, number_in, optional_number_in, option_rule, optional_positional_rule, optional_rule, positional_rule, tick_in, tick_rule};
+ghost use Rattle.command_line.specs.Arguments.{AreArguments, IsArgument, IsCommand, IsListFaultOf, IsUnknown};
+ghost use Rattle.command_line.specs.Arguments.{TellsList, command_app, correct_rule, file_rule, flag_in, flag_rule};
+ghost use Rattle.command_line.specs.Arguments.{number_in, optional_number_in, option_rule, optional_positional_rule};
+ghost use Rattle.command_line.specs.Arguments.{optional_rule, positional_rule, tick_in, tick_rule};
 
 use crate::line_errors::LineError;
 use clap::builder::ValueParser;
@@ -23,7 +26,8 @@ pub fn new_command<'a>(
     help: &'a str,
     arguments: Vec<Arg<'a>>,
 ) -> Result<Command<'a>, AllocError>
-    ensures { (rules : List Rule) → AreArguments rules arguments.entry.items → IfOk result (IsCommand (command_app name.entry.now rules)) }
+    ensures { (rules : List Rule) → AreArguments rules arguments.entry.items
+        → IfOk result (IsCommand (command_app name.entry.now rules)) }
 {
     Command::new(alloc, name)
         .about(about)
@@ -123,7 +127,8 @@ pub fn flag_argument<'a>(alloc: Global, name: &'a str, help: &'a str) -> Arg<'a>
 
 /// The text of this name, if the matches have one.
 pub fn text<'a>(found: &ArgMatches<'a>, name: &str) -> Option<&'a str>
-    ensures { option_map (λ text. text.now) result ≡ first_of name.now (rows_of (found_of found.now)) }
+    ensures { option_map (λ text. text.now) result ≡ first_of name.now
+        (rows_of (found_of found.now)) }
 {
     found.get_str(name)
 }
@@ -185,7 +190,8 @@ pub fn flag(found: &ArgMatches<'_>, name: &str) -> Option<bool>
 
 /// A copy of a text, if there is one.
 pub fn kept(alloc: Global, text: Option<&str>) -> Result<Option<String>, AllocError>
-    ensures { IfOk result (λ kept. option_map string_bytes kept ≡ option_map (λ t. t.now) text.entry) }
+    ensures { IfOk result
+        (λ kept. option_map string_bytes kept ≡ option_map (λ t. t.now) text.entry) }
 {
     match text {
         Some(text) => Ok(Some(String::from_str(alloc, text)?)),

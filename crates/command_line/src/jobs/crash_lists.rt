@@ -13,8 +13,10 @@ use step_trace::{Config, read_number};
 /// The crashes that a text lists: P@TICK, two numbers as traces write them, with one comma between each two. None if
 /// the text is anything else. Memory is the only refusal.
 pub fn read_crashes(alloc: Global, text: &str) -> Result<Option<Vec<Crash>>, AllocError>
-    ensures crashes { IfOk result (λ read. IfSome read (λ crashes. IsCrashList text.now crashes.items)) }
-    ensures refused { IfOk result (λ read. IfNone read ((crashes : List Crash) → ¬ IsCrashList text.now crashes)) }
+    ensures crashes { IfOk result
+        (λ read. IfSome read (λ crashes. IsCrashList text.now crashes.items)) }
+    ensures refused { IfOk result
+        (λ read. IfNone read ((crashes : List Crash) → ¬ IsCrashList text.now crashes)) }
 {
     let mut crashes = Vec::new(alloc);
     for piece in text.split(',') {

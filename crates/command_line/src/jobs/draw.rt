@@ -94,8 +94,13 @@ fn draw(
     table: Option<&str>,
     unit: Option<&str>,
 ) -> Result<Job, LineError>
-    ensures job { IfOk result (IsDraw file.now list.now from to (option_map (λ n. n.now) names.entry) (option_map (λ n. n.now) lanes.entry) (option_map (λ t. t.now) table.entry) (option_map (λ u. u.now) unit.entry)) }
-    ensures refused { IfErr result (IsDrawFault file.now list.now (option_map (λ t. t.now) table.entry) (option_map (λ u. u.now) unit.entry)) }
+    ensures job { IfOk result
+        (IsDraw file.now list.now from to (option_map (λ n. n.now) names.entry)
+        (option_map (λ n. n.now) lanes.entry) (option_map (λ t. t.now) table.entry)
+        (option_map (λ u. u.now) unit.entry)) }
+    ensures refused { IfErr result
+        (IsDrawFault file.now list.now (option_map (λ t. t.now) table.entry)
+        (option_map (λ u. u.now) unit.entry)) }
 {
     let correct = correct_in(alloc, "correct", list)?;
     test_table(alloc, file, None, table)?;

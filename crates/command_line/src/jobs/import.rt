@@ -3,7 +3,8 @@
 ghost use Rattle.std.specs.Prelude.{◌≡◌, IfOk, IfErr, option_map};
 ghost use Rattle.clap.specs.Words.{found_of, rows_of};
 ghost use Rattle.command_line.specs.Arguments.{IsCommand, IsMemory};
-ghost use Rattle.command_line.specs.Commands.Import.{IsImport, IsImportFault, IsImportOf, IsOneLengthRefusal, form_of, import_app, import_given, is_for_one_length};
+ghost use Rattle.command_line.specs.Commands.Import.{IsImport, IsImportFault, IsImportOf, IsOneLengthRefusal};
+ghost use Rattle.command_line.specs.Commands.Import.{form_of, import_app, import_given, is_for_one_length};
 
 use crate::jobs::Job;
 use crate::jobs::arguments::{
@@ -116,8 +117,14 @@ fn import_of(
     merge: bool,
     table: bool,
 ) -> Result<Job, LineError>
-    ensures job { IfOk result (IsImportOf ticks log.now (option_map (λ t. t.now) nodes.entry) (option_map (λ t. t.now) unit.entry) (option_map (λ t. t.now) tick.entry) (option_map (λ t. t.now) until.entry) (option_map (λ t. t.now) from.entry) (option_map (λ t. t.now) idle.entry) spread align drop_lost merge table) }
-    ensures refused { IfErr result (IsImportFault ticks (option_map (λ t. t.now) tick.entry) (option_map (λ t. t.now) idle.entry) merge table) }
+    ensures job { IfOk result
+        (IsImportOf ticks log.now (option_map (λ t. t.now) nodes.entry)
+        (option_map (λ t. t.now) unit.entry) (option_map (λ t. t.now) tick.entry)
+        (option_map (λ t. t.now) until.entry) (option_map (λ t. t.now) from.entry)
+        (option_map (λ t. t.now) idle.entry) spread align drop_lost merge table) }
+    ensures refused { IfErr result
+        (IsImportFault ticks (option_map (λ t. t.now) tick.entry)
+        (option_map (λ t. t.now) idle.entry) merge table) }
 {
     if ticks {
         if is_for_one_length(tick, idle, merge, table) {
@@ -136,7 +143,8 @@ fn import_of(
 
 /// Whether something is asked for that goes with ticks of one length.
 fn is_for_one_length(tick: Option<&str>, idle: Option<&str>, merge: bool, table: bool) -> bool
-    ensures { result ≡ is_for_one_length (option_map (λ t. t.now) tick.entry) (option_map (λ t. t.now) idle.entry) merge table }
+    ensures { result ≡ is_for_one_length (option_map (λ t. t.now) tick.entry)
+        (option_map (λ t. t.now) idle.entry) merge table }
 {
     tick.is_some() || idle.is_some() || merge || table
 }
@@ -178,7 +186,11 @@ fn import(
     merge: bool,
     form: ImportForm,
 ) -> Result<Job, LineError>
-    ensures job { IfOk result (IsImport log.now (option_map (λ t. t.now) nodes.entry) (option_map (λ t. t.now) unit.entry) (option_map (λ t. t.now) tick.entry) (option_map (λ t. t.now) until.entry) (option_map (λ t. t.now) from.entry) (option_map (λ t. t.now) idle.entry) spread align drop_lost merge form) }
+    ensures job { IfOk result
+        (IsImport log.now (option_map (λ t. t.now) nodes.entry) (option_map (λ t. t.now) unit.entry)
+        (option_map (λ t. t.now) tick.entry) (option_map (λ t. t.now) until.entry)
+        (option_map (λ t. t.now) from.entry) (option_map (λ t. t.now) idle.entry) spread align
+        drop_lost merge form) }
     ensures refused { IfErr result IsMemory }
 {
     let file = String::from_str(alloc, log)?;

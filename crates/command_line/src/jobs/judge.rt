@@ -3,7 +3,9 @@
 ghost use Rattle.std.specs.Prelude.{◌≡◌, IfOk, IfErr, codes, option_map, string_bytes};
 ghost use Rattle.clap.specs.Words.{found_of, rows_of};
 ghost use Rattle.command_line.specs.Arguments.{IsArgument, IsCommand, tick_rule};
-ghost use Rattle.command_line.specs.Commands.Judge.{AreDecisionsIn, IsDecisionsFault, IsEitherRefusal, IsForOneRefusal, IsJudge, IsJudgeFault, IsJudgeOf, IsJudgeFaultOf, IsNoListRefusal, IsRuns, IsRunsFault, is_for_one, judge_app, judge_given};
+ghost use Rattle.command_line.specs.Commands.Judge.{AreDecisionsIn, IsDecisionsFault, IsEitherRefusal, IsForOneRefusal};
+ghost use Rattle.command_line.specs.Commands.Judge.{IsJudge, IsJudgeFault, IsJudgeOf, IsJudgeFaultOf, IsNoListRefusal};
+ghost use Rattle.command_line.specs.Commands.Judge.{IsRuns, IsRunsFault, is_for_one, judge_app, judge_given};
 
 use crate::jobs::Job;
 use crate::jobs::arguments::{
@@ -132,8 +134,11 @@ fn judge_of(
     rows: bool,
     replay: bool,
 ) -> Result<Job, LineError>
-    ensures job { IfOk result (IsJudgeOf runs file.now (option_map (λ d. d.now) decisions.entry) (option_map (λ l. l.now) list.entry) within.now start valid whole due factor rows replay) }
-    ensures refused { IfErr result (IsJudgeFaultOf runs file.now (option_map (λ d. d.now) decisions.entry) (option_map (λ l. l.now) list.entry) factor rows replay) }
+    ensures job { IfOk result (IsJudgeOf runs file.now (option_map (λ d. d.now) decisions.entry)
+        (option_map (λ l. l.now) list.entry) within.now start valid whole due factor rows replay) }
+    ensures refused { IfErr result
+        (IsJudgeFaultOf runs file.now (option_map (λ d. d.now) decisions.entry)
+        (option_map (λ l. l.now) list.entry) factor rows replay) }
 {
     if runs {
         if is_for_one(decisions, factor, rows, replay) {
@@ -189,7 +194,8 @@ fn judge_runs(
     whole: bool,
     due: Option<u64>,
 ) -> Result<Job, LineError>
-    ensures job { IfOk result (IsRuns file.now (option_map (λ l. l.now) list.entry) within.now start valid whole due) }
+    ensures job { IfOk result
+        (IsRuns file.now (option_map (λ l. l.now) list.entry) within.now start valid whole due) }
     ensures refused { IfErr result (IsRunsFault (option_map (λ l. l.now) list.entry)) }
 {
     let correct = match list {
@@ -226,8 +232,11 @@ fn judge(
     rows: bool,
     replay: bool,
 ) -> Result<Job, LineError>
-    ensures job { IfOk result (IsJudge file.now (option_map (λ d. d.now) decisions.entry) list.now within.now start valid whole due factor rows replay) }
-    ensures refused { IfErr result (IsJudgeFault file.now (option_map (λ d. d.now) decisions.entry) list.now replay) }
+    ensures job { IfOk result
+        (IsJudge file.now (option_map (λ d. d.now) decisions.entry) list.now within.now start valid
+        whole due factor rows replay) }
+    ensures refused { IfErr result
+        (IsJudgeFault file.now (option_map (λ d. d.now) decisions.entry) list.now replay) }
 {
     let correct = correct_in(alloc, "correct", list)?;
     let decisions = decisions_in(alloc, file, decisions, replay)?;
@@ -257,8 +266,11 @@ fn decisions_in(
     decisions: Option<&str>,
     replay: bool,
 ) -> Result<Option<String>, LineError>
-    ensures given { IfOk result (λ given. AreDecisionsIn file.now (option_map (λ d. d.now) decisions.entry) replay (option_map string_bytes given)) }
-    ensures refused { IfErr result (IsDecisionsFault file.now (option_map (λ d. d.now) decisions.entry) replay) }
+    ensures given { IfOk result
+        (λ given. AreDecisionsIn file.now (option_map (λ d. d.now) decisions.entry) replay
+        (option_map string_bytes given)) }
+    ensures refused { IfErr result
+        (IsDecisionsFault file.now (option_map (λ d. d.now) decisions.entry) replay) }
 {
     match decisions {
         None => {

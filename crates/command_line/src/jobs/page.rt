@@ -3,7 +3,8 @@
 ghost use Rattle.std.specs.Prelude.{◌≡◌, IfOk, IfErr, OnOk, Some, option_map};
 ghost use Rattle.clap.specs.Words.{found_of, rows_of};
 ghost use Rattle.command_line.specs.Arguments.{IsCommand};
-ghost use Rattle.command_line.specs.Commands.Page.{FitsTable, IsNamesRefusal, IsPage, IsPageFault, IsTableFault, IsUnitFault, page_app, page_given, unit_given};
+ghost use Rattle.command_line.specs.Commands.Page.{FitsTable, IsNamesRefusal, IsPage, IsPageFault, IsTableFault};
+ghost use Rattle.command_line.specs.Commands.Page.{IsUnitFault, page_app, page_given, unit_given};
 
 use crate::jobs::Job;
 use crate::jobs::arguments::{
@@ -84,8 +85,11 @@ fn page(
     table: Option<&str>,
     unit: Option<&str>,
 ) -> Result<Job, LineError>
-    ensures job { IfOk result (IsPage file.now list.now at (option_map (λ n. n.now) names.entry) (option_map (λ t. t.now) table.entry) (option_map (λ u. u.now) unit.entry)) }
-    ensures refused { IfErr result (IsPageFault file.now list.now (option_map (λ n. n.now) names.entry) (option_map (λ t. t.now) table.entry) (option_map (λ u. u.now) unit.entry)) }
+    ensures job { IfOk result (IsPage file.now list.now at (option_map (λ n. n.now) names.entry)
+        (option_map (λ t. t.now) table.entry) (option_map (λ u. u.now) unit.entry)) }
+    ensures refused { IfErr result
+        (IsPageFault file.now list.now (option_map (λ n. n.now) names.entry)
+        (option_map (λ t. t.now) table.entry) (option_map (λ u. u.now) unit.entry)) }
 {
     let correct = correct_in(alloc, "correct", list)?;
     test_table(alloc, file, names, table)?;
@@ -109,8 +113,11 @@ pub(crate) fn test_table(
     names: Option<&str>,
     table: Option<&str>,
 ) -> Result<(), LineError>
-    ensures fits { OnOk result (FitsTable file.now (option_map (λ n. n.now) names.entry) (option_map (λ t. t.now) table.entry)) }
-    ensures refused { IfErr result (IsTableFault file.now (option_map (λ n. n.now) names.entry) (option_map (λ t. t.now) table.entry)) }
+    ensures fits { OnOk result (FitsTable file.now (option_map (λ n. n.now) names.entry)
+        (option_map (λ t. t.now) table.entry)) }
+    ensures refused { IfErr result
+        (IsTableFault file.now (option_map (λ n. n.now) names.entry)
+        (option_map (λ t. t.now) table.entry)) }
 {
     let Some(table) = table else {
         return Ok(());
@@ -127,7 +134,8 @@ pub(crate) fn test_table(
 
 /// The unit of this name; none without a name.
 pub(crate) fn unit_in(alloc: Global, name: Option<&str>) -> Result<Option<TimeUnit>, LineError>
-    ensures unit { IfOk result (λ u. unit_given (option_map (λ text. text.now) name.entry) ≡ Some u) }
+    ensures unit { IfOk result
+        (λ u. unit_given (option_map (λ text. text.now) name.entry) ≡ Some u) }
     ensures refused { IfErr result (IsUnitFault (option_map (λ text. text.now) name.entry)) }
 {
     match name {

@@ -8,7 +8,9 @@ ghost use Rattle.step_trace.specs.declared.traces.TheConstants.{MAX_STEPS};
 ghost use Rattle.command_line.specs.declared.jobs.run.TheConstants.{MAX_PATIENCE};
 ghost use Rattle.command_line.specs.Arguments.{IsArgument, IsCommand, number_rule, optional_number_rule};
 ghost use Rattle.command_line.specs.Commands.Run.{run_app, run_given};
-ghost use Rattle.command_line.specs.RunJobs.{AreListed, IsConfigFault, IsConfigOf, IsEndFault, IsFollowFault, IsFollowed, IsLimitFault, IsPaceFault, IsRefusedIn, IsRunFault, IsRunJob, TellsConfig, end_of, pace_of, usual_patience};
+ghost use Rattle.command_line.specs.RunJobs.{AreListed, IsConfigFault, IsConfigOf, IsEndFault, IsFollowFault};
+ghost use Rattle.command_line.specs.RunJobs.{IsFollowed, IsLimitFault, IsPaceFault, IsRefusedIn, IsRunFault, IsRunJob};
+ghost use Rattle.command_line.specs.RunJobs.{TellsConfig, end_of, pace_of, usual_patience};
 
 use crate::jobs::Job;
 use crate::jobs::arguments::{
@@ -134,9 +136,11 @@ fn run(
     follow: Option<&str>,
 ) -> Result<Job, LineError>
     requires patient { IfSome patience (λ p. 1 ≤ p) }
-    ensures job { IfOk result (IsRunJob n t values.now (option_map (λ text. text.now) name.entry) patience steps
+    ensures job { IfOk result
+        (IsRunJob n t values.now (option_map (λ text. text.now) name.entry) patience steps
         (option_map (λ text. text.now) until.entry) (option_map (λ list. list.now) follow.entry)) }
-    ensures refused { IfErr result (IsRunFault n t values.now (option_map (λ text. text.now) name.entry) patience steps
+    ensures refused { IfErr result
+        (IsRunFault n t values.now (option_map (λ text. text.now) name.entry) patience steps
         (option_map (λ text. text.now) until.entry) (option_map (λ list. list.now) follow.entry)) }
 {
     let follow = followed(alloc, follow)?;
@@ -179,8 +183,10 @@ fn paced(
 ) -> Result<Pace, LineError>
     requires patient { IfSome patience (λ p. 1 ≤ p) }
     ensures patient { 1 ≤ usual → IfOk result (λ pace. 1 ≤ patience_of pace) }
-    ensures pace { IfOk result (λ pace. pace_of usual (option_map (λ text. text.now) name.entry) patience ≡ Ok pace) }
-    ensures refused { IfErr result (IsPaceFault usual (option_map (λ text. text.now) name.entry) patience) }
+    ensures pace { IfOk result
+        (λ pace. pace_of usual (option_map (λ text. text.now) name.entry) patience ≡ Ok pace) }
+    ensures refused { IfErr result
+        (IsPaceFault usual (option_map (λ text. text.now) name.entry) patience) }
 {
     match name {
         Some(name) => named_pace(alloc, usual, name, patience),
@@ -215,7 +221,8 @@ fn named_pace(
 
 /// The end that a run of this pace is to have: with its steps, or with the decisions if that is asked for.
 fn ended(alloc: Global, pace: Pace, until: Option<&str>) -> Result<RunEnd, LineError>
-    ensures end { IfOk result (λ end. end_of pace (option_map (λ text. text.now) until.entry) ≡ Ok end) }
+    ensures end { IfOk result
+        (λ end. end_of pace (option_map (λ text. text.now) until.entry) ≡ Ok end) }
     ensures refused { IfErr result (IsEndFault pace (option_map (λ text. text.now) until.entry)) }
 {
     match until {

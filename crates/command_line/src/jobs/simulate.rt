@@ -1,13 +1,17 @@
 //! The command `simulate`: its words and its help text, and the job that they give.
 
-ghost use Rattle.std.specs.Prelude.{◌≡◌, ◌≤◌, ◌↔◌, All, None, Some, IfErr, IfOk, IfSome, IsTrue, OnOk, length, option_map};
+ghost use Rattle.std.specs.Prelude.{◌≡◌, ◌≤◌, ◌↔◌, All, None, Some, IfErr, IfOk};
+ghost use Rattle.std.specs.Prelude.{IfSome, IsTrue, OnOk, length, option_map};
 ghost use Rattle.clap.specs.Words.{found_of, rows_of};
 ghost use Rattle.step_trace.specs.Configurations.{IsProc};
 ghost use Rattle.step_trace.specs.declared.traces.TheConstants.{MAX_STEPS};
 ghost use Rattle.command_options.specs.declared.simulations.TheConstants.{MAX_BOUND};
 ghost use Rattle.command_line.specs.Arguments.{IsArgument, IsCommand, optional_number_rule};
 ghost use Rattle.command_options.specs.Simulations.{live};
-ghost use Rattle.command_line.specs.Commands.Simulate.{AreFew, AreNamed, AreOfEach, AreStated, IsBoundsFault, IsCrashFault, IsCrashListFault, IsScheduleFault, IsSimulation, IsSimulationFault, bounds_refusal, schedule_of, simulate_app, simulate_given};
+ghost use Rattle.command_line.specs.Commands.Simulate.{AreFew, AreNamed, AreOfEach, AreStated, IsBoundsFault};
+ghost use Rattle.command_line.specs.Commands.Simulate.{IsCrashFault, IsCrashListFault, IsScheduleFault, IsSimulation};
+ghost use Rattle.command_line.specs.Commands.Simulate.{IsSimulationFault, bounds_refusal, schedule_of, simulate_app};
+ghost use Rattle.command_line.specs.Commands.Simulate.{simulate_given};
 
 use crate::jobs::Job;
 use crate::jobs::arguments::{
@@ -158,9 +162,12 @@ fn simulation(
     requires some { IfSome delta (λ d. 1 ≤ d) }
     requires soon { IfSome delta (λ d. d ≤ MAX_BOUND) }
     requires often { IfSome phi (λ f. f ≤ MAX_BOUND) }
-    ensures job { IfOk result (IsSimulation n t values.now patience steps seed (option_map (λ text. text.now) schedule.entry) gst delta phi
+    ensures job { IfOk result (IsSimulation n t values.now patience steps seed
+        (option_map (λ text. text.now) schedule.entry) gst delta phi
         (option_map (λ text. text.now) crash.entry) loss) }
-    ensures refused { IfErr result (IsSimulationFault n t values.now (option_map (λ text. text.now) schedule.entry) gst delta phi
+    ensures refused { IfErr result
+        (IsSimulationFault n t values.now
+        (option_map (λ text. text.now) schedule.entry) gst delta phi
         (option_map (λ text. text.now) crash.entry)) }
 {
     let schedule = scheduled(alloc, schedule)?;
@@ -183,7 +190,8 @@ fn simulation(
 
 /// The schedule of this name; without a name it is random.
 fn scheduled(alloc: Global, name: Option<&str>) -> Result<Schedule, LineError>
-    ensures schedule { IfOk result (λ s. schedule_of (option_map (λ text. text.now) name.entry) ≡ Some s) }
+    ensures schedule { IfOk result
+        (λ s. schedule_of (option_map (λ text. text.now) name.entry) ≡ Some s) }
     ensures refused { IfErr result (IsScheduleFault (option_map (λ text. text.now) name.entry)) }
 {
     match name {
@@ -207,7 +215,8 @@ fn named_schedule(alloc: Global, name: &str) -> Result<Schedule, LineError>
 
 /// The crashes that a text lists; none without a text.
 fn crashed(alloc: Global, list: Option<&str>) -> Result<Vec<Crash>, LineError>
-    ensures crashes { IfOk result (λ crashes. AreNamed (option_map (λ text. text.now) list.entry) crashes.items) }
+    ensures crashes { IfOk result
+        (λ crashes. AreNamed (option_map (λ text. text.now) list.entry) crashes.items) }
     ensures refused { IfErr result (IsCrashListFault (option_map (λ text. text.now) list.entry)) }
 {
     match list {

@@ -107,7 +107,8 @@ fn timeouts(
     requires high { from ≤ MAX_MEMBER }
     requires few_every { IfSome every (λ k. k ≤ MAX_TURNS) }
     requires few_polls { IfSome polls (λ m. m ≤ MAX_TURNS) }
-    ensures job { IfOk result (IsTimeouts file.now from (option_map (λ list. list.now) list.entry) every polls until at) }
+    ensures job { IfOk result
+        (IsTimeouts file.now from (option_map (λ list. list.now) list.entry) every polls until at) }
     ensures refused { IfErr result (IsToFault (option_map (λ list. list.now) list.entry)) }
 {
     let to = named(alloc, list)?;

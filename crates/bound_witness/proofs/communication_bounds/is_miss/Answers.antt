@@ -10,6 +10,10 @@ pub returns : goal.returns
 returns c =
     let v = c.tick-first.ensures.value in
     let first : c.tick-first.result + 1 ≡ tick_of c.args.trace.now c.args.miss.sent + 1 = omega (arith, v) in (
-      λ t. miss_at c.args.set c.args.trace.now c.args.miss.sent c.in-Some.to _ c.delivery.result c.args.miss.missed c.tick-first.ensures.timed c.in-Some.ensures c.delivery.ensures.exact first (c.is_receive_between.ensures.0 t),
-      λ m. c.is_receive_between.ensures.1 (receive_of c.args.set c.args.trace.now c.args.miss.sent c.in-Some.to _ c.delivery.result c.args.miss c.tick-first.ensures.timed c.in-Some.ensures c.delivery.ensures.exact first refl m),
+      λ t. miss_at c.args.set c.args.trace.now c.args.miss.sent c.in-Some.to _ c.delivery.result c.args.miss.missed
+          c.tick-first.ensures.timed c.in-Some.ensures c.delivery.ensures.exact first
+          (c.is_receive_between.ensures.0 t),
+      λ m. c.is_receive_between.ensures.1
+          (receive_of c.args.set c.args.trace.now c.args.miss.sent c.in-Some.to _ c.delivery.result c.args.miss
+          c.tick-first.ensures.timed c.in-Some.ensures c.delivery.ensures.exact first refl m),
     )

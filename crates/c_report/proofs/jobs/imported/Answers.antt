@@ -6,11 +6,15 @@ use Rattle.text_commands.specs.Imports.{IsUnimported}
 use Rattle.c_report.specs.Commands.{AreImportOptions, IsImportFor, IsTextOfLog, IsUnimportedFor}
 use Rattle.c_report.proofs.jobs.imported.Goals as goal
 
-text-for : (given : ImportOptions) (o : Options) (log : List ℕ) (r : Result (Vec ℕ Global) Fault) → is_some given.from ≡ false → AreImportOptions given o → IfOk r (λ out. IsTextOfLog given.form o log out.items) → IfOk r (λ out. IsImportFor given log out.items)
+text-for : (given : ImportOptions) (o : Options) (log : List ℕ) (r : Result (Vec ℕ Global) Fault)
+    → is_some given.from ≡ false → AreImportOptions given o → IfOk r (λ out. IsTextOfLog given.form o log out.items)
+    → IfOk r (λ out. IsImportFor given log out.items)
 text-for given o log (Ok out) whole a h = (whole, (o, a, h))
 text-for given o log (Err w) whole a h = tt
 
-refused-for : (given : ImportOptions) (o : Options) (log : List ℕ) (r : Result (Vec ℕ Global) Fault) → is_some given.from ≡ false → AreImportOptions given o → IfErr r (IsUnimported given.form o log) → IfErr r (IsUnimportedFor given log)
+refused-for : (given : ImportOptions) (o : Options) (log : List ℕ) (r : Result (Vec ℕ Global) Fault)
+    → is_some given.from ≡ false → AreImportOptions given o → IfErr r (IsUnimported given.form o log)
+    → IfErr r (IsUnimportedFor given log)
 refused-for given o log (Ok out) whole a h = tt
 refused-for given o log (Err w) whole a h = inr (whole, inr (o, a, h))
 

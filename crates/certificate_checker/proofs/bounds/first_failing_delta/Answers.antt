@@ -33,7 +33,9 @@ loop-k-preserved-then-rows-k c =
       known = c.misses_from-longest.ensures.known;
       above = from_below c.args.trace.now c.args.rows.now i c.misses_from-longest.result.after c.requires.order inside c.misses_from-longest.ensures.above;
       found = found_here (Fails c.args.set c.args.trace.now c.args.rows.now) i c.in-Some.miss
-          (delta_fails c.args.set c.args.trace.now c.args.rows.now i c.misses_from-longest.result.after c.in-Some.miss inside longest c.misses_from-longest.ensures.above c.misses_from-longest.ensures.below (omega (arith, long, span)));
+          (delta_fails c.args.set c.args.trace.now c.args.rows.now i c.misses_from-longest.result.after c.in-Some.miss
+          inside longest c.misses_from-longest.ensures.above c.misses_from-longest.ensures.below
+          (omega (arith, long, span)));
     }
 
 pub loop-k-preserved-else-rows-k : goal.loop-k-preserved-else-rows-k

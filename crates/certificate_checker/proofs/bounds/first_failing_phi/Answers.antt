@@ -7,7 +7,9 @@ returns-in_err-row c = rw c.from_residual.ensures (λ k w s. c.in_err-row.ensure
 pub unreachable-requires : goal.unreachable-requires
 unreachable-requires c =
     let short = c.in_ok-row.ensures.0 in
-    silence_has_gap c.args.set c.args.trace.now c.args.closings.now short.row.row.gst c.in_ok-row.longest c.requires.closings (c.requires.order.start c.in_ok-row.row short.row.row short.row.here) short.longest short.some c.in-None.ensures
+    silence_has_gap c.args.set c.args.trace.now c.args.closings.now short.row.row.gst c.in_ok-row.longest
+    c.requires.closings (c.requires.order.start c.in_ok-row.row short.row.row short.row.here) short.longest
+    short.some c.in-None.ensures
 
 pub returns : goal.returns
 returns c = (

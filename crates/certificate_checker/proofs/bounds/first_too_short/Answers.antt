@@ -17,7 +17,9 @@ loop-k-preserved-then-rows-k c =
       high = omega (arith, c.requires.order.end (i + 1) (get_or rows i no_row) (row_at_next rows i no_row inside));
       known = c.silence_from-longest.ensures;
       above = λ j r. gst_below rows (length closings - 1) i j r c.requires.order inside;
-      found = found_here (IsTooShort closings rows) i c.silence_from-longest.result (too_short_here closings rows i c.silence_from-longest.result inside c.silence_from-longest.ensures c.if-length-gt0.true c.if-rows-k.true);
+      found = found_here (IsTooShort closings rows) i c.silence_from-longest.result
+          (too_short_here closings rows i c.silence_from-longest.result inside c.silence_from-longest.ensures
+          c.if-length-gt0.true c.if-rows-k.true);
     }
 
 pub loop-k-preserved : goal.loop-k-preserved

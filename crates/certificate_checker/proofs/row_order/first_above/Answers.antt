@@ -18,7 +18,9 @@ returns-then-rows-k c = two_rows_found Above c.args.rows.now c.loop-k.k no_row c
 ]) c.loop-k.invariant
 
 pub loop-k-preserved : goal.loop-k-preserved
-loop-k-preserved c = two_rows_passed Above c.args.rows.now c.loop-k.k no_row c.loop-k.auto.k (λ l. let n = c.if-rows-k.false in let m = c.if-rows-k-2.false in elim l [ inl h ↦ omega (arith, n, h) | inr h ↦ omega (arith, m, h) ]) c.loop-k.invariant
+loop-k-preserved c = two_rows_passed Above c.args.rows.now c.loop-k.k no_row c.loop-k.auto.k
+    (λ l. let n = c.if-rows-k.false in let m = c.if-rows-k-2.false in
+    elim l [ inl h ↦ omega (arith, n, h) | inr h ↦ omega (arith, m, h) ]) c.loop-k.invariant
 
 pub returns : goal.returns
 returns c = two_rows_none Above c.args.rows.now c.loop-k.k c.loop-k-test.false c.loop-k.invariant

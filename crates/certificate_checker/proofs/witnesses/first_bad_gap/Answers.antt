@@ -17,12 +17,20 @@ after_is c = c.after_stretch-after.ensures ∙ ap (λ (last : ℕ). after_stretc
 
 pub returns-then-not-shows_phi : goal.returns-then-not-shows_phi
 returns-then-not-shows_phi c = row_found (Lacks c.args.set c.args.trace.now c.args.rows.now) c.args.rows.now c.loop-k.k no_row c.loop-k-test.true
-    (λ s. let e = c.shows_phi.ensures.1 (subst (λ (after : ℕ). ShowsPhi c.args.set c.args.trace.now after (get_or c.args.rows.now c.loop-k.k no_row).phi (get_or c.args.rows.now c.loop-k.k no_row).gap) (sym (after_is (goal.at.returns-then-not-shows_phi c).After-after_stretch-after)) s) in
+    (λ s. let e = c.shows_phi.ensures.1
+    (subst (λ (after : ℕ). ShowsPhi c.args.set c.args.trace.now after (get_or c.args.rows.now c.loop-k.k no_row).phi
+    (get_or c.args.rows.now c.loop-k.k no_row).gap)
+    (sym (after_is (goal.at.returns-then-not-shows_phi c).After-after_stretch-after)) s) in
     let f = c.if-not-shows_phi.true in cc) c.loop-k.invariant
 
 pub loop-k-preserved : goal.loop-k-preserved
 loop-k-preserved c = row_passed (Lacks c.args.set c.args.trace.now c.args.rows.now) c.args.rows.now c.loop-k.k no_row
-    (λ lacks. lacks (subst (λ (after : ℕ). ShowsPhi c.args.set c.args.trace.now after (get_or c.args.rows.now c.loop-k.k no_row).phi (get_or c.args.rows.now c.loop-k.k no_row).gap) (after_is (goal.at.loop-k-preserved c).After-after_stretch-after) (c.shows_phi.ensures.0 c.if-not-shows_phi.false)))
+    (λ lacks.
+    lacks
+    (subst (λ (after : ℕ). ShowsPhi c.args.set c.args.trace.now after (get_or c.args.rows.now c.loop-k.k no_row).phi
+    (get_or c.args.rows.now c.loop-k.k no_row).gap)
+    (after_is (goal.at.loop-k-preserved c).After-after_stretch-after)
+    (c.shows_phi.ensures.0 c.if-not-shows_phi.false)))
     c.loop-k.invariant
 
 pub returns : goal.returns

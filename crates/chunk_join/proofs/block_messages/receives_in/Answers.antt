@@ -33,8 +33,12 @@ loop-no-preserved c =
     elim c.match-receiver.branch [
       | in-Some+in_ok-append_takes w ↦ (
           let r = subst (IsReceiverAt c.args.set t.steps (no + 1)) w.in-Some.is c.receiver.ensures in
-          let both = receives_more c.args.set t c.requires.sound i no w.in-Some.by (tick_of t (no + 1)) w.last_of-missed.result low refl r.1 r.0 c.loop-no.taken.items c.loop-no.last.items (search rules) c.loop-no.invariant.1 c.loop-no.invariant.2 in
-          let items : w.append_takes.new.taken.items ≡ c.loop-no.taken.items ++ map (take_of t (record { no = no + 1; tick = tick_of t (no + 1) }) w.in-Some.by w.last_of-missed.result) (ids_at t.steps (no + 1)) = search rules in
+          let both = receives_more c.args.set t c.requires.sound i no w.in-Some.by
+          (tick_of t (no + 1)) w.last_of-missed.result low refl r.1 r.0 c.loop-no.taken.items c.loop-no.last.items
+          (search rules) c.loop-no.invariant.1 c.loop-no.invariant.2 in
+          let items : w.append_takes.new.taken.items ≡ c.loop-no.taken.items
+          ++ map (take_of t (record { no = no + 1; tick = tick_of t (no + 1) }) w.in-Some.by
+          w.last_of-missed.result) (ids_at t.steps (no + 1)) = search rules in
           rw (w.taken-is, w.last-is, w.of-at.ensures) (more, subst (AreTakesBy c.args.set t i (no + 1) []) (sym items) both.0, both.1))
       | in_default w ↦ (
           let none = subst (IsReceiverAt c.args.set t.steps (no + 1)) w.in_default.is c.receiver.ensures in

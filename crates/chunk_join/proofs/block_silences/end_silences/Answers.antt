@@ -31,14 +31,18 @@ loop-no-preserved-in-Some c =
         omega (arith, test),
         λ i low k.
             subst (λ xs. AreEnded c.args.set t i x n xs (slice_set c.loop-no.begun.items p (x + 1))) (sym w.in_ok-push.ensures.items)
-            (ended_push_at c.args.set t c.requires.sound.time i x n p low c.requires.high c.in-Some.ensures.0 c.in-Some.ensures.1 tick c.loop-no.silent.items c.loop-no.begun.items c.index-from.result.now value known.0 w.if-from-span.true
+            (ended_push_at c.args.set t c.requires.sound.time i x n p low c.requires.high c.in-Some.ensures.0
+            c.in-Some.ensures.1 tick c.loop-no.silent.items c.loop-no.begun.items c.index-from.result.now value
+            known.0 w.if-from-span.true
             (subst (λ m. AreEnded c.args.set t i x m c.loop-no.silent.items c.loop-no.begun.items) next (known.2 i low k))),
       )
       | else-from-span w ↦ rw w.silent-is (
         long,
         omega (arith, test),
         λ i low k.
-            ended_step c.args.set t c.requires.sound.time i x n p low c.requires.high c.in-Some.ensures.0 c.in-Some.ensures.1 tick c.loop-no.silent.items c.loop-no.begun.items known.0 (subst (λ v. x ≤ v) value w.if-from-span.false)
+            ended_step c.args.set t c.requires.sound.time i x n p low c.requires.high c.in-Some.ensures.0
+            c.in-Some.ensures.1 tick c.loop-no.silent.items c.loop-no.begun.items known.0
+            (subst (λ v. x ≤ v) value w.if-from-span.false)
             (subst (λ m. AreEnded c.args.set t i x m c.loop-no.silent.items c.loop-no.begun.items) next (known.2 i low k)),
       )
     ]

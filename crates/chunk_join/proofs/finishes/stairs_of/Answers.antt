@@ -41,7 +41,9 @@ back c =
     let again : c.deref-in-loop-next.result.now ≡ part.silent = search rules in
     let is : c.note_silence.new.level ≡ with_silence c.note_messages-messages.new.level g (last_at part.silent c.begun_by-silences.result) =
     c.note_silence.ensures ∙ ap (with_silence c.note_messages-messages.new.level g) (c.last_at.ensures ∙ ap (λ (xs : List Gap). last_at xs c.begun_by-silences.result) again) in
-    rw is (IsTickBack-read part g c.loop-next.messages c.loop-next.silences c.note_messages-messages.result c.begun_by-silences.result c.loop-next.level c.note_messages-messages.new.level c.loop-next.builder known (record {
+    rw is (IsTickBack-read part g c.loop-next.messages c.loop-next.silences c.note_messages-messages.result
+    c.begun_by-silences.result c.loop-next.level c.note_messages-messages.new.level c.loop-next.builder
+    known (record {
       start = omega (arith, c.loop-next-test.true);
       messages_within = omega (arith, noted.within, known.messages_within);
       silences_within = omega (arith, begun.within, known.silences_within);

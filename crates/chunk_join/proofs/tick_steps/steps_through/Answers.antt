@@ -9,4 +9,6 @@ returns-then-tick-clause-next c = come_stop c.args.trace.now c.tick.ensures.time
 
 pub returns-then-last_tick-tick-clause-next : goal.returns-then-last_tick-tick-clause-next
 returns-then-last_tick-tick-clause-next c =
-    subst (AreStepsBefore c.args.trace.now (c.args.tick + 1)) (sym c.len.ensures.value) (all_steps c.args.trace.now c.last_tick.ensures.timed c.args.tick (omega (arith, c.if-last_tick-tick.true, c.last_tick.ensures.value)))
+    subst (AreStepsBefore c.args.trace.now (c.args.tick + 1)) (sym c.len.ensures.value)
+    (all_steps c.args.trace.now c.last_tick.ensures.timed c.args.tick
+    (omega (arith, c.if-last_tick-tick.true, c.last_tick.ensures.value)))

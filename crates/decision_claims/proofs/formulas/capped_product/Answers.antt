@@ -15,5 +15,7 @@ loop-factor-preserved c =
     record {
       inside = omega (arith, inside);
       few = omega (arith, least);
-      whole = rw (least, c.saturating_mul.ensures) (product_next (drop (k + 1) factors) c.loop-factor.product (get_or factors k 0) (2 ^ 64 - 1) c.args.cap (omega (arith, fits)) ∙ rw here at c.loop-factor.invariant.whole);
+      whole = rw (least, c.saturating_mul.ensures)
+          (product_next (drop (k + 1) factors) c.loop-factor.product (get_or factors k 0) (2 ^ 64 - 1) c.args.cap
+          (omega (arith, fits)) ∙ rw here at c.loop-factor.invariant.whole);
     }

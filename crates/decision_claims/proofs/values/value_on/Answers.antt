@@ -27,6 +27,9 @@ loop-part-preserved c =
       fits = c.with_part-here-in-loop-part.ensures.depth (drop (k + 1) rest) (rw same at c.loop-part.invariant.fits);
       near = λ cap l. (
           let before = c.loop-part.invariant.near cap l in
-          let next = near_next c.args.words cap (2 ^ 64 - 1) part (drop (k + 1) rest) (tally c.loop-part.here c.loop-part.around.items) (tally c.with_part-here-in-loop-part.result c.with_part-here-in-loop-part.new.around.items) (rw same at before.0) c.with_part-here-in-loop-part.ensures.near in
+          let next = near_next c.args.words cap (2 ^ 64 - 1) part (drop (k + 1) rest)
+          (tally c.loop-part.here c.loop-part.around.items)
+          (tally c.with_part-here-in-loop-part.result c.with_part-here-in-loop-part.new.around.items)
+          (rw same at before.0) c.with_part-here-in-loop-part.ensures.near in
           (next.0, next.1 ∙ rw same at before.1));
     }

@@ -6,7 +6,9 @@ check_messages-requires c = record { processors = rw c.as_slice.ensures.value (o
 
 pub error_of-requires-clause-place : goal.error_of-requires-clause-place
 error_of-requires-clause-place c =
-    fault-place c.args.log.now.events.items c.in-Err.why (some-events c.args.log.now.kind c.args.log.now.nodes c.args.log.now.events.items c.requires.sound) (few-events c.args.log.now.kind c.args.log.now.nodes c.args.log.now.events.items c.requires.sound)
+    fault-place c.args.log.now.events.items c.in-Err.why
+    (some-events c.args.log.now.kind c.args.log.now.nodes c.args.log.now.events.items c.requires.sound)
+    (few-events c.args.log.now.kind c.args.log.now.nodes c.args.log.now.events.items c.requires.sound)
     (rw c.as_slice.ensures.value at c.in-Err.ensures)
 
 pub error_of-requires-clause-processors : goal.error_of-requires-clause-processors

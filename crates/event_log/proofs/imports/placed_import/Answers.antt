@@ -16,7 +16,9 @@ lent-read : (o : Options) (lent text : List ℕ) (log : SeenLog) → lent ≡ te
 lent-read o lent text log same read = subst (λ t. IsRead o t (Ok log)) same read
 
 pub returns-then-len-gt-MAX_TEXT_BYTES-clause-refused : goal.returns-then-len-gt-MAX_TEXT_BYTES-clause-refused
-returns-then-len-gt-MAX_TEXT_BYTES-clause-refused c = inl (large-text c.args.options.now (cow_slice_items c.args.text) (let same = c.len.ensures in let large = c.if-len-gt-MAX_TEXT_BYTES.true in omega (arith, same, large)))
+returns-then-len-gt-MAX_TEXT_BYTES-clause-refused c =
+    inl (large-text c.args.options.now (cow_slice_items c.args.text)
+    (let same = c.len.ensures in let large = c.if-len-gt-MAX_TEXT_BYTES.true in omega (arith, same, large)))
 
 pub returns-in_err-clock-clause-refused : goal.returns-in_err-clock-clause-refused
 returns-in_err-clock-clause-refused c =
@@ -40,7 +42,10 @@ pub returns-in_err-aligned-clause-refused : goal.returns-in_err-aligned-clause-r
 returns-in_err-aligned-clause-refused c =
     let p = err_from_is_err_and c.from_residual-in_err-aligned.result c.from_residual-in_err-aligned.ensures.1 in
     let log = c.in_ok-log.log in
-    rw (p.1, p.2) (unaligned-refusal c.args.options.now (cow_slice_items c.args.text) log.nodes log.events.items c.in_err-aligned.field-0.0 (subst (λ text. IsAlignRefusal text log.nodes log.events.items c.in_err-aligned.field-0.0) c.deref-2.ensures.value c.in_err-aligned.ensures.refused.1)
+    rw (p.1, p.2) (unaligned-refusal c.args.options.now (cow_slice_items c.args.text) log.nodes log.events.items
+    c.in_err-aligned.field-0.0
+    (subst (λ text. IsAlignRefusal text log.nodes log.events.items c.in_err-aligned.field-0.0)
+    c.deref-2.ensures.value c.in_err-aligned.ensures.refused.1)
     (λ same. record {
       log = seen_log log;
       events = log.events.items;
@@ -54,8 +59,14 @@ pub returns-then-options-clause-import : goal.returns-then-options-clause-import
 returns-then-options-clause-import c =
     let log = c.in_ok-log.log in
     ok-both c.left_import.result _ _ _ (λ p made given.
-    placed-import c.args.options.now (cow_slice_items c.args.text) (seen_log log) log.events.items c.in_ok-clock.clock (record { read = (lent-read c.args.options.now _ _ _ c.deref.ensures.value c.in_ok-log.ensures.read); same = refl; fits = sym c.in_ok-clock.ensures.clock }) c.in_ok-aligned.aligned
-    c.in_ok-aligned.ensures.aligned c.in_ok-aligned.ensures.nodes c.in_ok-limit.limit (sym c.in_ok-limit.ensures) true c.args.options.now.merge c.if-options.true refl c.in_ok-lateness.lateness c.in_ok-lateness.ensures.lateness
+    placed-import c.args.options.now (cow_slice_items c.args.text) (seen_log log) log.events.items c.in_ok-clock.clock
+    (record {
+      read = (lent-read c.args.options.now _ _ _ c.deref.ensures.value c.in_ok-log.ensures.read);
+      same = refl;
+      fits = sym c.in_ok-clock.ensures.clock;
+    }) c.in_ok-aligned.aligned
+    c.in_ok-aligned.ensures.aligned c.in_ok-aligned.ensures.nodes c.in_ok-limit.limit (sym c.in_ok-limit.ensures) true
+    c.args.options.now.merge c.if-options.true refl c.in_ok-lateness.lateness c.in_ok-lateness.ensures.lateness
     p.import p.events.items p.logged p.left_at (parts_seen p.parts) p.first p.clock p.places.items made given.nodes given.offsets given.lateness_is given.clock_is) c.left_import.ensures.made c.left_import.ensures.given
 
 pub returns-then-options-clause-short : goal.returns-then-options-clause-short
@@ -66,7 +77,12 @@ pub returns-then-options-clause-refused : goal.returns-then-options-clause-refus
 returns-then-options-clause-refused c =
     let log = c.in_ok-log.log in
     err-weaker c.left_import.result _ _
-    (unmade-refusal c.args.options.now (cow_slice_items c.args.text) (seen_log log) log.events.items c.in_ok-clock.clock (record { read = (lent-read c.args.options.now _ _ _ c.deref.ensures.value c.in_ok-log.ensures.read); same = refl; fits = sym c.in_ok-clock.ensures.clock }) c.in_ok-aligned.aligned
+    (unmade-refusal c.args.options.now (cow_slice_items c.args.text) (seen_log log) log.events.items c.in_ok-clock.clock
+    (record {
+      read = (lent-read c.args.options.now _ _ _ c.deref.ensures.value c.in_ok-log.ensures.read);
+      same = refl;
+      fits = sym c.in_ok-clock.ensures.clock;
+    }) c.in_ok-aligned.aligned
     c.in_ok-aligned.ensures.aligned c.in_ok-aligned.ensures.nodes c.in_ok-limit.limit (sym c.in_ok-limit.ensures) true c.args.options.now.merge c.if-options.true refl) c.left_import.ensures.refused
 
 pub returns-then-options-clause-more : goal.returns-then-options-clause-more
@@ -76,19 +92,33 @@ pub returns-then-merge-clause-import : goal.returns-then-merge-clause-import
 returns-then-merge-clause-import c =
     let log = c.in_ok-log.log in
     ok-both c.left_import-then-merge.result _ _ _ (λ p made given.
-    placed-import c.args.options.now (cow_slice_items c.args.text) (seen_log log) log.events.items c.in_ok-clock.clock (record { read = (lent-read c.args.options.now _ _ _ c.deref.ensures.value c.in_ok-log.ensures.read); same = refl; fits = sym c.in_ok-clock.ensures.clock }) c.in_ok-aligned.aligned
+    placed-import c.args.options.now (cow_slice_items c.args.text) (seen_log log) log.events.items c.in_ok-clock.clock
+    (record {
+      read = (lent-read c.args.options.now _ _ _ c.deref.ensures.value c.in_ok-log.ensures.read);
+      same = refl;
+      fits = sym c.in_ok-clock.ensures.clock;
+    }) c.in_ok-aligned.aligned
     c.in_ok-aligned.ensures.aligned c.in_ok-aligned.ensures.nodes c.in_ok-limit.limit (sym c.in_ok-limit.ensures) false true c.if-options.false c.if-merge.true c.in_ok-lateness.lateness c.in_ok-lateness.ensures.lateness
-    p.import p.events.items p.logged p.left_at (parts_seen p.parts) p.first p.clock p.places.items made given.nodes given.offsets given.lateness_is given.clock_is) c.left_import-then-merge.ensures.made c.left_import-then-merge.ensures.given
+    p.import p.events.items p.logged p.left_at (parts_seen p.parts) p.first p.clock p.places.items made given.nodes
+    given.offsets given.lateness_is given.clock_is) c.left_import-then-merge.ensures.made
+    c.left_import-then-merge.ensures.given
 
 pub returns-then-merge-clause-short : goal.returns-then-merge-clause-short
 returns-then-merge-clause-short c =
-    ok-both c.left_import-then-merge.result _ _ _ (λ p given same. subst (λ (clock : Clock). clock.width < 2 ^ 94) (sym given.clock_is) c.in_ok-clock.ensures.short) c.left_import-then-merge.ensures.given c.left_import-then-merge.ensures.given
+    ok-both c.left_import-then-merge.result _ _ _
+    (λ p given same. subst (λ (clock : Clock). clock.width < 2 ^ 94) (sym given.clock_is)
+    c.in_ok-clock.ensures.short) c.left_import-then-merge.ensures.given c.left_import-then-merge.ensures.given
 
 pub returns-then-merge-clause-refused : goal.returns-then-merge-clause-refused
 returns-then-merge-clause-refused c =
     let log = c.in_ok-log.log in
     err-weaker c.left_import-then-merge.result _ _
-    (unmade-refusal c.args.options.now (cow_slice_items c.args.text) (seen_log log) log.events.items c.in_ok-clock.clock (record { read = (lent-read c.args.options.now _ _ _ c.deref.ensures.value c.in_ok-log.ensures.read); same = refl; fits = sym c.in_ok-clock.ensures.clock }) c.in_ok-aligned.aligned
+    (unmade-refusal c.args.options.now (cow_slice_items c.args.text) (seen_log log) log.events.items c.in_ok-clock.clock
+    (record {
+      read = (lent-read c.args.options.now _ _ _ c.deref.ensures.value c.in_ok-log.ensures.read);
+      same = refl;
+      fits = sym c.in_ok-clock.ensures.clock;
+    }) c.in_ok-aligned.aligned
     c.in_ok-aligned.ensures.aligned c.in_ok-aligned.ensures.nodes c.in_ok-limit.limit (sym c.in_ok-limit.ensures) false true c.if-options.false c.if-merge.true) c.left_import-then-merge.ensures.refused
 
 pub returns-then-merge-clause-more : goal.returns-then-merge-clause-more
@@ -98,8 +128,14 @@ pub returns-clause-import : goal.returns-clause-import
 returns-clause-import c =
     let log = c.in_ok-log.log in
     ok-both c.whole_import.result _ _ _ (λ p made given.
-    placed-import c.args.options.now (cow_slice_items c.args.text) (seen_log log) log.events.items c.in_ok-clock.clock (record { read = (lent-read c.args.options.now _ _ _ c.deref.ensures.value c.in_ok-log.ensures.read); same = refl; fits = sym c.in_ok-clock.ensures.clock }) c.in_ok-aligned.aligned
-    c.in_ok-aligned.ensures.aligned c.in_ok-aligned.ensures.nodes c.in_ok-limit.limit (sym c.in_ok-limit.ensures) false false c.if-options.false c.if-merge.false c.in_ok-lateness.lateness c.in_ok-lateness.ensures.lateness
+    placed-import c.args.options.now (cow_slice_items c.args.text) (seen_log log) log.events.items c.in_ok-clock.clock
+    (record {
+      read = (lent-read c.args.options.now _ _ _ c.deref.ensures.value c.in_ok-log.ensures.read);
+      same = refl;
+      fits = sym c.in_ok-clock.ensures.clock;
+    }) c.in_ok-aligned.aligned
+    c.in_ok-aligned.ensures.aligned c.in_ok-aligned.ensures.nodes c.in_ok-limit.limit (sym c.in_ok-limit.ensures) false
+    false c.if-options.false c.if-merge.false c.in_ok-lateness.lateness c.in_ok-lateness.ensures.lateness
     p.import p.events.items p.logged p.left_at (parts_seen p.parts) p.first p.clock p.places.items made given.nodes given.offsets given.lateness_is given.clock_is) c.whole_import.ensures.made c.whole_import.ensures.given
 
 pub returns-clause-short : goal.returns-clause-short
@@ -110,7 +146,12 @@ pub returns-clause-refused : goal.returns-clause-refused
 returns-clause-refused c =
     let log = c.in_ok-log.log in
     err-weaker c.whole_import.result _ _
-    (unmade-refusal c.args.options.now (cow_slice_items c.args.text) (seen_log log) log.events.items c.in_ok-clock.clock (record { read = (lent-read c.args.options.now _ _ _ c.deref.ensures.value c.in_ok-log.ensures.read); same = refl; fits = sym c.in_ok-clock.ensures.clock }) c.in_ok-aligned.aligned
+    (unmade-refusal c.args.options.now (cow_slice_items c.args.text) (seen_log log) log.events.items c.in_ok-clock.clock
+    (record {
+      read = (lent-read c.args.options.now _ _ _ c.deref.ensures.value c.in_ok-log.ensures.read);
+      same = refl;
+      fits = sym c.in_ok-clock.ensures.clock;
+    }) c.in_ok-aligned.aligned
     c.in_ok-aligned.ensures.aligned c.in_ok-aligned.ensures.nodes c.in_ok-limit.limit (sym c.in_ok-limit.ensures) false false c.if-options.false c.if-merge.false) c.whole_import.ensures.refused
 
 pub returns-clause-more : goal.returns-clause-more

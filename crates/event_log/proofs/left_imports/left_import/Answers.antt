@@ -26,7 +26,9 @@ returns-in-Err-clause-refused c =
     let left = c.in_ok-left.left in
     let why = c.in-Err.why in
     let unmade = subst (λ events. IsUnmadeFor c.args.limit c.args.spread c.len-n.result events c.args.clock why) c.as_slice-2.ensures.value c.in-Err.ensures.refused in
-    left-unmade c.args.drop c.args.merge c.args.limit c.args.spread (cow_slice_items c.args.text) log.nodes log.events.items left.events.items left.places.items (parts_seen left.parts) c.args.clock why c.left_error.result c.in_ok-left.ensures.taken
+    left-unmade c.args.drop c.args.merge c.args.limit c.args.spread
+    (cow_slice_items c.args.text) log.nodes log.events.items left.events.items left.places.items
+    (parts_seen left.parts) c.args.clock why c.left_error.result c.in_ok-left.ensures.taken
     (subst (λ n. IsUnmadeFor c.args.limit c.args.spread n left.events.items c.args.clock why) c.len-n.ensures unmade)
     (subst (λ text. IsPlacedErrorUnlessMemory text log.nodes log.events.items left.events.items left.places.items (parts_seen left.parts) why c.left_error.result) c.deref.ensures.value c.left_error.ensures)
 
@@ -38,7 +40,15 @@ returns-clause-made c =
     let clock = c.args.clock in
     let made = c.in_ok-made.made in
     let fits : SFits w128 c.least_time-first.result = search rules in
-    rw (c.left_import_of.ensures.import, c.left_import_of.ensures.events, c.left_import_of.ensures.logged, c.left_import_of.ensures.at, c.left_import_of.ensures.parts, c.left_import_of.ensures.first, c.left_import_of.ensures.places) (record {
+    rw (
+      c.left_import_of.ensures.import,
+      c.left_import_of.ensures.events,
+      c.left_import_of.ensures.logged,
+      c.left_import_of.ensures.at,
+      c.left_import_of.ensures.parts,
+      c.left_import_of.ensures.first,
+      c.left_import_of.ensures.places,
+    ) (record {
       is = record {
         left = left.events.items;
         left_at = Some left.places.items;
@@ -47,8 +57,12 @@ returns-clause-made c =
         moved = made.moved;
         made = subst (λ n. IsMadeBy limit spread n left.events.items clock made.trace made.moved made.idle) c.len-n.ensures c.in_ok-made.ensures.trace;
         moved_is = refl;
-        lost = c.removed-lost.ensures ∙ ap₂ (λ (before after : ℕ). removed_by c.args.drop before after) (let ok = c.args.aligned.log.events.ok in let len = c.len-all.ensures in omega (arith, ok, len)) c.in_ok-left.ensures.kept;
-        merged = c.removed-merged.ensures ∙ ap₂ (λ (before after : ℕ). removed_by c.args.merge before after) c.in_ok-left.ensures.kept (let ok = left.events.ok in let len = c.len-logged.ensures in omega (arith, ok, len));
+        lost = c.removed-lost.ensures ∙ ap₂ (λ (before after : ℕ). removed_by c.args.drop before after)
+            (let ok = c.args.aligned.log.events.ok in let len = c.len-all.ensures in omega (arith, ok, len))
+            c.in_ok-left.ensures.kept;
+        merged = c.removed-merged.ensures
+            ∙ ap₂ (λ (before after : ℕ). removed_by c.args.merge before after) c.in_ok-left.ensures.kept
+            (let ok = left.events.ok in let len = c.len-logged.ensures in omega (arith, ok, len));
       };
       so_many = c.len-logged.ensures ∙ sym c.as_slice.ensures.len ∙ ap length c.as_slice.ensures.value;
       at = refl;
@@ -66,7 +80,9 @@ least_time-first-requires c =
 pub trace_of_passed-requires-clause-some : goal.trace_of_passed-requires-clause-some
 trace_of_passed-requires-clause-some c =
     let left = c.in_ok-left.left in
-    subst (λ n. 0 < n) (sym (taken-long c.args.drop c.args.merge c.args.aligned.log.events.items left.events.items c.args.clock left.places.items (parts_seen left.parts) c.in_ok-left.ensures.taken)) c.in_ok-left.ensures.some
+    subst (λ n. 0 < n)
+    (sym (taken-long c.args.drop c.args.merge c.args.aligned.log.events.items left.events.items c.args.clock
+    left.places.items (parts_seen left.parts) c.in_ok-left.ensures.taken)) c.in_ok-left.ensures.some
 
 pub trace_of_passed-requires-clause-few : goal.trace_of_passed-requires-clause-few
 trace_of_passed-requires-clause-few c =

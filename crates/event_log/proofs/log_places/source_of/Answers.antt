@@ -25,7 +25,9 @@ returns-then-message-count c =
     let l = c.loop-place-test.true in
     let e = c.index-events-place in
     let at : c.messages-count.result.now ≡ messages_at events (slice_index part k) =
-    c.messages-count.ensures ∙ ap (λ (x : Event). received_in x.act) (sym e.is) ∙ sym (ap (λ (o : Option Event). option_map_or (λ (x : Event). received_in x.act) o []) (slice_get_read events (length events) (slice_index part k) e.result refl (c.requires k l) e.is)) in
+    c.messages-count.ensures ∙ ap (λ (x : Event). received_in x.act) (sym e.is)
+    ∙ sym (ap (λ (o : Option Event). option_map_or (λ (x : Event). received_in x.act) o [])
+    (slice_get_read events (length events) (slice_index part k) e.result refl (c.requires k l) e.is)) in
     let has = lt-ltb m (length (messages_at events (slice_index part k))) (subst (λ (ms : List (Option ℕ)). m < length ms) at c.if-message-count.true) in
     sym (source-next events part k m true l has) ∙ c.loop-place.invariant
 
@@ -38,7 +40,9 @@ loop-place-preserved c =
     let l = c.loop-place-test.true in
     let e = c.index-events-place in
     let at : c.messages-count.result.now ≡ messages_at events (slice_index part k) =
-    c.messages-count.ensures ∙ ap (λ (x : Event). received_in x.act) (sym e.is) ∙ sym (ap (λ (o : Option Event). option_map_or (λ (x : Event). received_in x.act) o []) (slice_get_read events (length events) (slice_index part k) e.result refl (c.requires k l) e.is)) in
+    c.messages-count.ensures ∙ ap (λ (x : Event). received_in x.act) (sym e.is)
+    ∙ sym (ap (λ (o : Option Event). option_map_or (λ (x : Event). received_in x.act) o [])
+    (slice_get_read events (length events) (slice_index part k) e.result refl (c.requires k l) e.is)) in
     let lacks = le-ltb m (length (messages_at events (slice_index part k))) (subst (λ (ms : List (Option ℕ)). length ms ≤ m) at c.if-message-count.false) in
     ap (λ (ms : List (Option ℕ)). source_of events (drop (k + 1) part) (m - length ms)) at ∙ sym (source-next events part k m false l lacks) ∙ c.loop-place.invariant
 

@@ -20,7 +20,9 @@ pub loop-name-preserved : goal.loop-name-preserved
 loop-name-preserved c = (
   search rules,
   search rules,
-  rw (map-append (λ x. x.now) c.loop-name.yielded (c.in-Some.name ∷ [])) (list_all-more is_message_name (map (λ x. x.now) c.loop-name.yielded) c.in-Some.name.now c.loop-name.invariant.2 (sym c.is_message_name.ensures ∙ c.if-not-is_message_name.false)),
+  rw (map-append (λ x. x.now) c.loop-name.yielded (c.in-Some.name ∷ []))
+      (list_all-more is_message_name (map (λ x. x.now) c.loop-name.yielded) c.in-Some.name.now c.loop-name.invariant.2
+      (sym c.is_message_name.ensures ∙ c.if-not-is_message_name.false)),
 )
 
 pub returns : goal.returns

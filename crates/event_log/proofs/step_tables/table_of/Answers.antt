@@ -15,7 +15,9 @@ one_more f n = rw (range-more 0 n n (omega arith)) (flat_map_more f [] (range_wi
 pub loop-k-preserved : goal.loop-k-preserved
 loop-k-preserved c =
     let p = c.args.placed.now in
-    let f : ℕ → List ℕ = λ k. row_text our_writer (record_of_step c.in_ok-messages.messages.items p.import.nodes p.events.items p.logged p.left_at (parts_seen p.parts) p.first p.clock.width p.import.trace.ticks p.places.items k) in
+    let f : ℕ → List ℕ = λ k. row_text our_writer
+    (record_of_step c.in_ok-messages.messages.items p.import.nodes p.events.items p.logged p.left_at
+    (parts_seen p.parts) p.first p.clock.width p.import.trace.ticks p.places.items k) in
     let header = row_text our_writer table_header in
     let rows = flat_map f (range_with_len 0 c.loop-k.k) in
     record {

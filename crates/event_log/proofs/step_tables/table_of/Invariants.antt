@@ -8,5 +8,7 @@ use Rattle.event_log.proofs.step_tables.table_of.Given as goal
 abbrev pub invariant-loop-k : goal.invariant-loop-k
 invariant-loop-k l = record {
   ready : IsReady l.writer;
-  text : written l.writer ≡ rows_text l.messages.items l.placed.import.nodes l.placed.events.items l.placed.logged l.placed.left_at (parts_seen l.placed.parts) l.placed.first l.placed.clock.width l.placed.import.trace.ticks l.placed.places.items l.k;
+  text : written l.writer ≡ rows_text l.messages.items l.placed.import.nodes l.placed.events.items l.placed.logged
+      l.placed.left_at (parts_seen l.placed.parts) l.placed.first l.placed.clock.width l.placed.import.trace.ticks
+      l.placed.places.items l.k;
 }

@@ -23,7 +23,8 @@ returns-then-not-drop-clause-taken c =
     let r = c.merged_in-then-not-drop.result in
     let are : AreLeftBy false events slice at = (c.as_slice.ensures.value, c.all.ensures) in
     let taken : IfOk r (λ t. AreTaken false true events c.args.clock.now t.events.items (Some t.places.items) (parts_seen t.parts)) =
-    ok-both r _ _ _ (λ t m n. merged-taken false events slice t.events.items c.args.clock.now at t.places.items (parts_seen t.parts) are m) c.merged_in-then-not-drop.ensures.merged c.merged_in-then-not-drop.ensures.merged in
+    ok-both r _ _ _ (λ t m n. merged-taken false events slice t.events.items c.args.clock.now at t.places.items
+    (parts_seen t.parts) are m) c.merged_in-then-not-drop.ensures.merged c.merged_in-then-not-drop.ensures.merged in
     subst (λ (d : Bool). IfOk r (λ t. AreTaken d c.args.merge events c.args.clock.now t.events.items (Some t.places.items) (parts_seen t.parts))) (sym c.if-not-drop.true)
     (subst (λ (j : Bool). IfOk r (λ t. AreTaken false j events c.args.clock.now t.events.items (Some t.places.items) (parts_seen t.parts))) (sym (c.requires.asked c.if-not-drop.true)) taken)
 
@@ -57,7 +58,10 @@ returns-then-not-drop-clause-parts c =
     let at = c.all.result in
     let r = c.merged_in-then-not-drop.result in
     let are : AreLeftBy false events slice at = (c.as_slice.ensures.value, c.all.ensures) in
-    ok-both r _ _ _ (λ t m n. parts-within t.parts (length events) (merged-parts slice t.events.items c.args.clock.now at t.places.items (parts_seen t.parts) m (length events) (kept-places false events slice at are))) c.merged_in-then-not-drop.ensures.merged c.merged_in-then-not-drop.ensures.merged
+    ok-both r _ _ _ (λ t m n. parts-within t.parts (length events)
+    (merged-parts slice t.events.items c.args.clock.now at t.places.items (parts_seen t.parts) m (length events)
+    (kept-places false events slice at are))) c.merged_in-then-not-drop.ensures.merged
+    c.merged_in-then-not-drop.ensures.merged
 
 pub returns-then-not-drop-clause-some : goal.returns-then-not-drop-clause-some
 returns-then-not-drop-clause-some c =
@@ -67,7 +71,9 @@ returns-then-not-drop-clause-some c =
     let at = c.all.result in
     let r = c.merged_in-then-not-drop.result in
     let are : AreLeftBy false events slice at = (c.as_slice.ensures.value, c.all.ensures) in
-    ok-both r _ _ _ (λ t m n. merged-some slice t.events.items c.args.clock.now at t.places.items (parts_seen t.parts) m (length events) (kept-places false events slice at are)) c.merged_in-then-not-drop.ensures.merged c.merged_in-then-not-drop.ensures.merged
+    ok-both r _ _ _ (λ t m n. merged-some slice t.events.items c.args.clock.now at t.places.items (parts_seen t.parts) m
+    (length events) (kept-places false events slice at are)) c.merged_in-then-not-drop.ensures.merged
+    c.merged_in-then-not-drop.ensures.merged
 
 pub returns-then-not-drop-clause-refused : goal.returns-then-not-drop-clause-refused
 returns-then-not-drop-clause-refused c =
@@ -125,7 +131,10 @@ returns-clause-taken c =
     let slice = c.as_slice-2.result.now in
     let at = c.of.result in
     let r = c.merged_in-3.result in
-    let are : AreLeftBy true events slice at = (subst (λ (o : Option (List ℕ)). AreLeftBy true events slice o) (sym c.of.ensures) (subst (λ (es : List Event). AreLeft events es c.in_ok-kept.kept.places.items) (sym c.as_slice-2.ensures.value) c.in_ok-kept.ensures.left)) in
+    let are : AreLeftBy true events slice at =
+    (subst (λ (o : Option (List ℕ)). AreLeftBy true events slice o) (sym c.of.ensures)
+    (subst (λ (es : List Event). AreLeft events es c.in_ok-kept.kept.places.items)
+    (sym c.as_slice-2.ensures.value) c.in_ok-kept.ensures.left)) in
     let taken : IfOk r (λ t. AreTaken true true events c.args.clock.now t.events.items (Some t.places.items) (parts_seen t.parts)) =
     ok-both r _ _ _ (λ t m n. merged-taken true events slice t.events.items c.args.clock.now at t.places.items (parts_seen t.parts) are m) c.merged_in-3.ensures.merged c.merged_in-3.ensures.merged in
     subst (λ (d : Bool). IfOk r (λ t. AreTaken d c.args.merge events c.args.clock.now t.events.items (Some t.places.items) (parts_seen t.parts))) (sym c.if-not-drop.false)
@@ -150,7 +159,10 @@ returns-clause-within c =
     let slice = c.as_slice-2.result.now in
     let at = c.of.result in
     let r = c.merged_in-3.result in
-    let are : AreLeftBy true events slice at = (subst (λ (o : Option (List ℕ)). AreLeftBy true events slice o) (sym c.of.ensures) (subst (λ (es : List Event). AreLeft events es c.in_ok-kept.kept.places.items) (sym c.as_slice-2.ensures.value) c.in_ok-kept.ensures.left)) in
+    let are : AreLeftBy true events slice at =
+    (subst (λ (o : Option (List ℕ)). AreLeftBy true events slice o) (sym c.of.ensures)
+    (subst (λ (es : List Event). AreLeft events es c.in_ok-kept.kept.places.items)
+    (sym c.as_slice-2.ensures.value) c.in_ok-kept.ensures.left)) in
     ok-both r _ _ _ (λ t m n k l.
     let b = merged-within slice t.events.items c.args.clock.now at t.places.items (parts_seen t.parts) m (length events) (kept-places true events slice at are) k l in
     let few = few-events log c.requires.sound in
@@ -163,8 +175,13 @@ returns-clause-parts c =
     let slice = c.as_slice-2.result.now in
     let at = c.of.result in
     let r = c.merged_in-3.result in
-    let are : AreLeftBy true events slice at = (subst (λ (o : Option (List ℕ)). AreLeftBy true events slice o) (sym c.of.ensures) (subst (λ (es : List Event). AreLeft events es c.in_ok-kept.kept.places.items) (sym c.as_slice-2.ensures.value) c.in_ok-kept.ensures.left)) in
-    ok-both r _ _ _ (λ t m n. parts-within t.parts (length events) (merged-parts slice t.events.items c.args.clock.now at t.places.items (parts_seen t.parts) m (length events) (kept-places true events slice at are))) c.merged_in-3.ensures.merged c.merged_in-3.ensures.merged
+    let are : AreLeftBy true events slice at =
+    (subst (λ (o : Option (List ℕ)). AreLeftBy true events slice o) (sym c.of.ensures)
+    (subst (λ (es : List Event). AreLeft events es c.in_ok-kept.kept.places.items)
+    (sym c.as_slice-2.ensures.value) c.in_ok-kept.ensures.left)) in
+    ok-both r _ _ _ (λ t m n. parts-within t.parts (length events)
+    (merged-parts slice t.events.items c.args.clock.now at t.places.items (parts_seen t.parts) m (length events)
+    (kept-places true events slice at are))) c.merged_in-3.ensures.merged c.merged_in-3.ensures.merged
 
 pub returns-clause-some : goal.returns-clause-some
 returns-clause-some c =
@@ -173,8 +190,13 @@ returns-clause-some c =
     let slice = c.as_slice-2.result.now in
     let at = c.of.result in
     let r = c.merged_in-3.result in
-    let are : AreLeftBy true events slice at = (subst (λ (o : Option (List ℕ)). AreLeftBy true events slice o) (sym c.of.ensures) (subst (λ (es : List Event). AreLeft events es c.in_ok-kept.kept.places.items) (sym c.as_slice-2.ensures.value) c.in_ok-kept.ensures.left)) in
-    ok-both r _ _ _ (λ t m n. merged-some slice t.events.items c.args.clock.now at t.places.items (parts_seen t.parts) m (length events) (kept-places true events slice at are)) c.merged_in-3.ensures.merged c.merged_in-3.ensures.merged
+    let are : AreLeftBy true events slice at =
+    (subst (λ (o : Option (List ℕ)). AreLeftBy true events slice o) (sym c.of.ensures)
+    (subst (λ (es : List Event). AreLeft events es c.in_ok-kept.kept.places.items)
+    (sym c.as_slice-2.ensures.value) c.in_ok-kept.ensures.left)) in
+    ok-both r _ _ _ (λ t m n. merged-some slice t.events.items c.args.clock.now at t.places.items (parts_seen t.parts) m
+    (length events) (kept-places true events slice at are)) c.merged_in-3.ensures.merged
+    c.merged_in-3.ensures.merged
 
 pub returns-clause-refused : goal.returns-clause-refused
 returns-clause-refused c =
@@ -183,7 +205,10 @@ returns-clause-refused c =
     let slice = c.as_slice-2.result.now in
     let at = c.of.result in
     let r = c.merged_in-3.result in
-    let are : AreLeftBy true events slice at = (subst (λ (o : Option (List ℕ)). AreLeftBy true events slice o) (sym c.of.ensures) (subst (λ (es : List Event). AreLeft events es c.in_ok-kept.kept.places.items) (sym c.as_slice-2.ensures.value) c.in_ok-kept.ensures.left)) in
+    let are : AreLeftBy true events slice at =
+    (subst (λ (o : Option (List ℕ)). AreLeftBy true events slice o) (sym c.of.ensures)
+    (subst (λ (es : List Event). AreLeft events es c.in_ok-kept.kept.places.items)
+    (sym c.as_slice-2.ensures.value) c.in_ok-kept.ensures.left)) in
     let refused : IfErr r (λ why. MatchBool (is_memory why) ⊤ (IsEmptied true events why ⊎ IsUnmergedOf true true events c.args.clock.now why)) =
     err-weaker r _ _ (times-refused true events slice c.args.clock.now at are) c.merged_in-3.ensures.refused in
     subst (λ (d : Bool). IfErr r (λ why. MatchBool (is_memory why) ⊤ (IsEmptied d events why ⊎ IsUnmergedOf d c.args.merge events c.args.clock.now why))) (sym c.if-not-drop.false)

@@ -30,7 +30,9 @@ loop-k-preserved c =
             widths = ap (map {A = TickRow} {B = ℕ} (λ r. r.width)) grown ∙ one
                 ∙ ap₂ (λ (xs : List ℕ) (x : ℕ). xs ++ x ∷ []) c.loop-k.invariant.widths length
                 ∙ sym (told-with kind log k (sym c.is_told.ensures ∙ w.if-is_told.true));
-            each = subst (All (IsRowOf c.args.n c.args.events.now kind c.args.until)) (sym grown) (All-push (IsRowOf c.args.n c.args.events.now kind c.args.until) rows row c.loop-k.invariant.each w.in_ok-row.ensures.row);
+            each = subst (All (IsRowOf c.args.n c.args.events.now kind c.args.until)) (sym grown)
+                (All-push (IsRowOf c.args.n c.args.events.now kind c.args.until) rows row c.loop-k.invariant.each
+                w.in_ok-row.ensures.row);
           })
       | else-is_told w ↦ record {
         widths = ap (λ (v : Vec TickRow Global). map {A = TickRow} {B = ℕ} (λ r. r.width) v.items) w.rows-is ∙ c.loop-k.invariant.widths

@@ -96,6 +96,8 @@ returns-clause-table c =
       are_left = h.are_left;
       widths = h.widths;
       each = All-weaker (IsRowOf (length aligned.log.nodes) h.left log.kind until) (λ row. IsToldBy (with_width o row.width) text row.placing)
-          (row-told o text (seen_log log) log.events.items c.in_ok-log.ensures.read refl aligned c.in_ok-aligned.ensures.aligned c.in_ok-aligned.ensures.nodes until (sym c.in_ok-until.ensures) h.left h.left_at h.are_left)
+          (row-told o text (seen_log log) log.events.items c.in_ok-log.ensures.read refl aligned
+          c.in_ok-aligned.ensures.aligned c.in_ok-aligned.ensures.nodes until
+          (sym c.in_ok-until.ensures) h.left h.left_at h.are_left)
           rows h.each;
     }

@@ -27,7 +27,9 @@ tick_rows-requires-clause-meant c =
 pub log_error-requires-clause-place : goal.log_error-requires-clause-place
 log_error-requires-clause-place c =
     let h = subst (λ events. IsRowRefusal events c.args.log.now.kind c.args.until c.in-Err.why) c.as_slice.ensures.value c.in-Err.ensures.refused in
-    unmade-place None true c.len-n.result c.args.log.now.events.items (clock_of c.args.log.now.kind c.args.until h.0) (filled.Events c.in-Err.why) (some-events c.args.log.now c.requires.sound) (few-events c.args.log.now c.requires.sound) h.2
+    unmade-place None true c.len-n.result c.args.log.now.events.items (clock_of c.args.log.now.kind c.args.until h.0)
+    (filled.Events c.in-Err.why) (some-events c.args.log.now c.requires.sound)
+    (few-events c.args.log.now c.requires.sound) h.2
 
 pub log_error-requires-clause-few : goal.log_error-requires-clause-few
 log_error-requires-clause-few c = few-events c.args.log.now c.requires.sound

@@ -10,8 +10,12 @@ pub returns-clause-above : goal.returns-clause-above
 returns-clause-above c log limit set g e sparse full s f one far =
     let P = PhiHolds set sparse g in
     let Q = PhiHolds set full g in
-    let to = phi-full log limit sparse full s f set g in
-    (least-above P Q limit to (λ k. phi-sparse log limit sparse full s f set g k one) (phi-greater set full g) e far, least-back P Q limit to (λ k. phi-sparse log limit sparse full s f set g k one) (phi-greater set full g) e far)
+    let to = phi-full log limit sparse full s f set g in (
+      least-above P Q limit to (λ k. phi-sparse log limit sparse full s f set g k one)
+          (phi-greater set full g) e far,
+      least-back P Q limit to (λ k. phi-sparse log limit sparse full s f set g k one)
+          (phi-greater set full g) e far,
+    )
 
 pub returns-clause-between : goal.returns-clause-between
 returns-clause-between c log limit set g f e sparse full s u one =

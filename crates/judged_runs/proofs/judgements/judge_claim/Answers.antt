@@ -11,7 +11,9 @@ late_by-requires-clause-report c = subst (λ (rows : List Row). IsReport c.args.
 pub returns-then-tested-demands : goal.returns-then-tested-demands
 returns-then-tested-demands c =
     let none : IsNone c.in_ok-late.field-0 = rw c.in-None.is refl in
-    let report : IsReport c.args.set c.args.trace.now c.rows-rows.result.now = subst (λ (rows : List Row). IsReport c.args.set c.args.trace.now rows) (sym c.rows-rows.ensures) (c.in_ok-report.ensures.report c.args.set c.args.trace.now c.in_ok-stairs.ensures) in
+    let report : IsReport c.args.set c.args.trace.now c.rows-rows.result.now =
+    subst (λ (rows : List Row). IsReport c.args.set c.args.trace.now rows) (sym c.rows-rows.ensures)
+    (c.in_ok-report.ensures.report c.args.set c.args.trace.now c.in_ok-stairs.ensures) in
     let tested = c.tested_by-tested.ensures (c.in_ok-late.ensures.rows none) in (
       (c.requires.sound, c.in_ok-late.ensures.kept none),
       record { rows = c.rows-rows.result.now; report = report; count_is = tested.due; few = c.if-tested-demands.true },
@@ -21,7 +23,9 @@ returns-then-tested-demands c =
 pub returns : goal.returns
 returns c =
     let none : IsNone c.in_ok-late.field-0 = rw c.in-None.is refl in
-    let report : IsReport c.args.set c.args.trace.now c.rows-rows.result.now = subst (λ (rows : List Row). IsReport c.args.set c.args.trace.now rows) (sym c.rows-rows.ensures) (c.in_ok-report.ensures.report c.args.set c.args.trace.now c.in_ok-stairs.ensures) in
+    let report : IsReport c.args.set c.args.trace.now c.rows-rows.result.now =
+    subst (λ (rows : List Row). IsReport c.args.set c.args.trace.now rows) (sym c.rows-rows.ensures)
+    (c.in_ok-report.ensures.report c.args.set c.args.trace.now c.in_ok-stairs.ensures) in
     let enough = c.if-tested-demands.false in (
       (c.requires.sound, c.in_ok-late.ensures.kept none),
       record { rows = c.rows-rows.result.now; report = report; tested_is = c.tested_by-tested.ensures (c.in_ok-late.ensures.rows none); enough = omega (arith, enough) },

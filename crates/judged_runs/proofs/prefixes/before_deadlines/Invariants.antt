@@ -5,7 +5,8 @@ use Rattle.step_trace.specs.Fronts.{triple_of}
 use Rattle.decision_claims.specs.Formulas.{deadline}
 use Rattle.judged_runs.proofs.prefixes.before_deadlines.Given as goal
 
--- no row from number `k` on that begins by that tick has an earlier deadline, and each one before has so much time at least
+-- no row from number `k` on that begins by that tick has an earlier deadline, and each one before has so much time at
+-- least
 abbrev pub invariant-loop-k : goal.invariant-loop-k
 invariant-loop-k l = record {
   end : l.nearest.least ≤ l.trace.last + 1;

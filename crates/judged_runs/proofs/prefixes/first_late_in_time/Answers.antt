@@ -8,7 +8,9 @@ use Rattle.judged_runs.proofs.prefixes.first_late_in_time.Goals as goal
 pub returns-in-LateBy-clause-kept : goal.returns-in-LateBy-clause-kept
 returns-in-LateBy-clause-kept c = (
   λ none. absurd (true≢false none),
-  λ kept. absurd (late_refutes c.args.set c.args.trace.now c.args.decisions.now _ c.in-LateBy.late c.last_tick.ensures.well_formed (rw (c.in-LateBy.is, c.loop-ahead.invariant.set, c.loop-ahead.invariant.seen) at c.in_ok-late.ensures.look) kept),
+  λ kept. absurd (late_refutes c.args.set c.args.trace.now c.args.decisions.now _ c.in-LateBy.late
+      c.last_tick.ensures.well_formed
+      (rw (c.in-LateBy.is, c.loop-ahead.invariant.set, c.loop-ahead.invariant.seen) at c.in_ok-late.ensures.look) kept),
 )
 
 pub returns-clause-kept : goal.returns-clause-kept

@@ -154,8 +154,24 @@ loop-no-preserved c =
     let place : n + 1 ≡ c.loop-no.no = omega arith in
     let same = done_last-by_round trace.config trace.steps (n + 1) x c.round_after-round.result c.decision_in-decision.result c.trace-trace.ensures.run.well_formed (omega arith) round c.decision_in-decision.ensures in
     let step : IsNextAgreed c.index-seats-i.result.done (done_last trace.config (take (n + 1) trace.steps) x) c.index-in-loop-no.result.now c.next_agreed.result =
-    subst (λ (d : Done). IsNextAgreed c.index-seats-i.result.done d c.index-in-loop-no.result.now c.next_agreed.result) (subst (λ k. record { no = k; step = x; round = c.round_after-round.result; decision = c.decision_in-decision.result } ≡ done_last trace.config (take (n + 1) trace.steps) x) place same)
-    (subst (λ (ds : List Done). IsNextAgreed ds (record { no = c.loop-no.no; step = x; round = c.round_after-round.result; decision = c.decision_in-decision.result }) c.index-in-loop-no.result.now c.next_agreed.result) c.done.ensures c.next_agreed.ensures) in (
+    subst (λ (d : Done). IsNextAgreed c.index-seats-i.result.done d c.index-in-loop-no.result.now c.next_agreed.result)
+    (subst
+    (λ k. record {
+      no = k;
+      step = x;
+      round = c.round_after-round.result;
+      decision = c.decision_in-decision.result;
+    } ≡ done_last trace.config
+    (take (n + 1) trace.steps) x) place same)
+    (subst
+    (λ (ds : List Done). IsNextAgreed ds
+    (record {
+      no = c.loop-no.no;
+      step = x;
+      round = c.round_after-round.result;
+      decision = c.decision_in-decision.result;
+    }) c.index-in-loop-no.result.now c.next_agreed.result)
+    c.done.ensures c.next_agreed.ensures) in (
       rw next (AreCompared-more trace.config trace.steps n x seats c.loop-no.agreed.items i c.index-seats-i.result c.index-in-loop-no.result.now c.next_agreed.result
           c.requires.order is.at c.loop-no.invariant.0 is.own is.seat c.index-seats-i.is c.index-in-loop-no.ensures step),
       rw next (AreRounds-more trace.steps n x c.loop-no.rounds.items i c.index.result.now c.round_after-round.result is.at is.own is.place c.index.ensures after c.loop-no.invariant.1),

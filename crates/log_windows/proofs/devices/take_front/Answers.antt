@@ -20,4 +20,7 @@ returns-in_err-take_rows g c =
 pub returns : goal.returns
 returns g c = λ bytes e.
     front-taken g.T.TakeRows.next c.args.taker.now c.take_rows.new.taker bytes c.args.rest.now.items c.remove_after_first.new.bytes.items c.seam_len-cut.result e c.if-cut-eq0.false
-    (rw c.deref.ensures.value at c.seam_len-cut.ensures.within) (rw c.deref.ensures.value at c.seam_len-cut.ensures.closed) (rw c.deref.ensures.value at c.seam_len-cut.ensures.last) (rw c.deref-2.ensures.value at c.in_ok-take_rows.ensures) c.remove_after_first.ensures
+    (rw c.deref.ensures.value at c.seam_len-cut.ensures.within)
+    (rw c.deref.ensures.value at c.seam_len-cut.ensures.closed)
+    (rw c.deref.ensures.value at c.seam_len-cut.ensures.last)
+    (rw c.deref-2.ensures.value at c.in_ok-take_rows.ensures) c.remove_after_first.ensures

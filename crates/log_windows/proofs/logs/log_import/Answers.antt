@@ -11,10 +11,16 @@ pub returns-clause-import : goal.returns-clause-import
 returns-clause-import c =
     let o = c.args.options.now in
     let text = cow_slice_items c.args.text in
-    spread-ok (λ import w. IsWindowImport o w import) (IsImportOf o text) text c.in_ok-log.log _ (c.if-not-may_list.ensures ∙ ap may_list c.deref.ensures.value) (subst (λ t. IsSpreadOf t c.in_ok-log.log) c.deref-2.ensures.value c.in_ok-log.ensures.log) c.window_import.ensures.import
+    spread-ok (λ import w. IsWindowImport o w import) (IsImportOf o text) text c.in_ok-log.log _
+    (c.if-not-may_list.ensures ∙ ap may_list c.deref.ensures.value)
+    (subst (λ t. IsSpreadOf t c.in_ok-log.log) c.deref-2.ensures.value c.in_ok-log.ensures.log)
+    c.window_import.ensures.import
 
 pub returns-clause-refused : goal.returns-clause-refused
 returns-clause-refused c =
     let o = c.args.options.now in
     let text = cow_slice_items c.args.text in
-    spread-err (λ why w. IsWindowImportRefusal o w why) (IsLogRefusal o text) text c.in_ok-log.log _ (c.if-not-may_list.ensures ∙ ap may_list c.deref.ensures.value) (subst (λ t. IsSpreadOf t c.in_ok-log.log) c.deref-2.ensures.value c.in_ok-log.ensures.log) c.window_import.ensures.refused
+    spread-err (λ why w. IsWindowImportRefusal o w why) (IsLogRefusal o text) text c.in_ok-log.log _
+    (c.if-not-may_list.ensures ∙ ap may_list c.deref.ensures.value)
+    (subst (λ t. IsSpreadOf t c.in_ok-log.log) c.deref-2.ensures.value c.in_ok-log.ensures.log)
+    c.window_import.ensures.refused

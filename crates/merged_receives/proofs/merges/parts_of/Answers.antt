@@ -17,7 +17,9 @@ loop-place-preserved c =
     let l = c.loop-place-test.true in
     let kept : length c.put.new.lists ≡ c.loop-place.parts.len = omega arith in
     rw (with_items_is c.loop-place.parts c.put.new.lists kept, c.in_ok-put.ensures, c.deref_mut.ensures.value)
-    (parts-step heads order k (lists_of c.loop-place.parts.items) (slice_index order k) (slice_index heads (slice_index order k)) l refl refl (c.requires.heads (slice_index order k) (c.requires.order k l)) c.loop-place.invariant)
+    (parts-step heads order k (lists_of c.loop-place.parts.items) (slice_index order k)
+    (slice_index heads (slice_index order k)) l refl refl
+    (c.requires.heads (slice_index order k) (c.requires.order k l)) c.loop-place.invariant)
 
 pub returns : goal.returns
 returns c =

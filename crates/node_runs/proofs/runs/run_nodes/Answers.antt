@@ -17,10 +17,14 @@ returns-in_err-write_trace-clause-part g c =
 
 pub returns-in_err-write_trace-clause-followed : goal.returns-in_err-write_trace-clause-followed
 returns-in_err-write_trace-clause-followed g c =
-    followed_end g.E.Write.contents c.args.config.now c.args.follower.now c.world_made.new.follower c.tell_whole.new.follower c.world_made.ensures.followed (c.tell_whole.ensures c.args.config.now c.in_ok-world.ensures.run.run)
+    followed_end g.E.Write.contents c.args.config.now c.args.follower.now c.world_made.new.follower
+    c.tell_whole.new.follower c.world_made.ensures.followed
+    (c.tell_whole.ensures c.args.config.now c.in_ok-world.ensures.run.run)
 
 pub returns-clause-followed : goal.returns-clause-followed
-returns-clause-followed g c = followed_end g.E.Write.contents c.args.config.now c.args.follower.now c.world_made.new.follower c.tell_whole.new.follower c.world_made.ensures.followed (c.tell_whole.ensures c.args.config.now c.in_ok-world.ensures.run.run)
+returns-clause-followed g c = followed_end g.E.Write.contents c.args.config.now c.args.follower.now
+    c.world_made.new.follower c.tell_whole.new.follower c.world_made.ensures.followed
+    (c.tell_whole.ensures c.args.config.now c.in_ok-world.ensures.run.run)
 
 pub returns-clause-run : goal.returns-clause-run
 returns-clause-run g c =

@@ -17,6 +17,16 @@ loop-count-preserved g c =
     let more = take c.in_ok-count.count c.read_once.new.piece in record {
       room = c.in_ok-count.ensures.room ∙ c.loop-count.invariant.room;
       limit = c.in_ok-count.ensures.limit;
-      read = (read.0 ++ more, Consumes-trans _ _ _ read.0 more read.1 c.in_ok-count.ensures.bytes, omega (arith, read.2, length-append read.0 more, length-take-le c.in_ok-count.count c.read_once.new.piece c.in_ok-count.ensures.bound));
+      read = (
+        read.0 ++ more,
+        Consumes-trans _ _ _ read.0 more read.1 c.in_ok-count.ensures.bytes,
+        omega (
+          arith,
+          read.2,
+          length-append read.0 more,
+          length-take-le c.in_ok-count.count c.read_once.new.piece
+              c.in_ok-count.ensures.bound,
+        ),
+      );
       faults = c.in_ok-count.ensures.faults ∙ c.loop-count.invariant.faults;
     }

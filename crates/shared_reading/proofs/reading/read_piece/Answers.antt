@@ -16,5 +16,6 @@ returns-then-branch c =
     let text = c.args.text.now in
     let mark : strip_bom (drop c.args.end text) ≡ drop c.args.end text = rw c.tail.ensures at c.may_be_marked.ensures c.if-may_be_marked.false in (
       c.requires.within,
-      piece-taken c.args.version c.found_in-found.result c.args.stage.now c.take_found.new.stage text c.args.at c.args.end c.requires.order mark c.found_in-found.ensures (rw c.if-branch.true at c.in_ok-take_found.ensures),
+      piece-taken c.args.version c.found_in-found.result c.args.stage.now c.take_found.new.stage text c.args.at
+          c.args.end c.requires.order mark c.found_in-found.ensures (rw c.if-branch.true at c.in_ok-take_found.ensures),
     )

@@ -10,7 +10,9 @@ loop-processor-preserved c =
     let kept = c.args.processors.now in
     let copies = c.loop-processor.copy.items in
     let count = c.loop-processor.invariant.0 in
-    let at : slice_get kept c.loop-processor.processor-index ≡ Some c.processor-item.result = slice_get_read kept (length kept) c.loop-processor.processor-index c.processor-item.result refl c.loop-processor-test.true c.processor-item.is in (
+    let at : slice_get kept c.loop-processor.processor-index ≡ Some c.processor-item.result =
+    slice_get_read kept (length kept) c.loop-processor.processor-index c.processor-item.result refl
+    c.loop-processor-test.true c.processor-item.is in (
       ap length c.in_ok-push.ensures.items ∙ length_push copies _ ∙ ap (λ n. n + 1) count,
       rw c.in_ok-push.ensures.items (AreCopied-push kept copies c.processor-item.result _ c.loop-processor.invariant.1 (ap (slice_get kept) count ∙ at) c.in_ok-copied_processor.ensures),
     )

@@ -15,7 +15,16 @@ loop-value-preserved c =
     let node = c.in_ok-new.ensures ∙ ap opening value in (
       ap length c.in_ok-push.ensures.items ∙ length_push kept _ ∙ ap (λ n. n + 1) c.loop-value.invariant.0,
       rw c.in_ok-push.ensures.items (AreOpening-push config kept _ c.loop-value.invariant.1
-          (record { round = refl; last = refl; node = node; since = refl; buffer = c.new-in-loop-value.ensures.items; near = c.new-in-loop-value-2.ensures.near; later = c.new-in-loop-value-2.ensures.later; said = c.empty.ensures })),
+          (record {
+            round = refl;
+            last = refl;
+            node = node;
+            since = refl;
+            buffer = c.new-in-loop-value.ensures.items;
+            near = c.new-in-loop-value-2.ensures.near;
+            later = c.new-in-loop-value-2.ensures.later;
+            said = c.empty.ensures;
+          })),
     )
 
 pub returns-clause-kept : goal.returns-clause-kept

@@ -41,7 +41,9 @@ returns-clause-left c =
     let front_left : filter (λ s. not (is_in ids s)) seen ≡ filter (λ s. not (is_in (drop front ids) s)) (drop front seen) = c.shared_front-front.ensures.left in
     let seen-2 = take (length w - (start + front)) (drop (start + front) w) in
     let back_left : filter (λ s. not (is_in others s)) seen-2 ≡ filter (λ s. not (is_in (take (length others - back) others) s)) (take (length seen-2 - back) seen-2) = c.shared_back-back.ensures.left in
-    let between : drop c.take_out_between.result c.take_out_between.new.list.items ≡ filter (λ s. not (is_in (take (length others - back) others) s)) (drop (start + front) c.truncate.new.self.items) = c.take_out_between.ensures.left in
+    let between : drop c.take_out_between.result c.take_out_between.new.list.items ≡ filter
+    (λ s. not (is_in (take (length others - back) others) s)) (drop (start + front) c.truncate.new.self.items) =
+    c.take_out_between.ensures.left in
     (rw (c.truncate.ensures.items, c.len.ensures, size, inner-part old start front back (omega arith) last, take_rest ids front) at between)
     ∙ sym (rw (c.deref-2.ensures.value, take_rest old (start + front), ← drop-drop front start old, take_rest ids front) at back_left)
     ∙ sym (rw (c.deref.ensures.value, take_rest old start) at front_left)

@@ -34,7 +34,14 @@ returns-clause-left c =
     let within : n ≤ length waiting = rw (c.deref.ensures.value, take_rest old start) at c.count_below.ensures.within in
     let below : (k : ℕ) → k < n → get_or waiting k 0 < get_or ids 0 0 = rw (c.deref.ensures.value, take_rest old start) at c.count_below.ensures.below in
     let within-2 : m ≤ length (drop n waiting) = rw (c.deref-2.ensures.value, take_rest old (start + n), ← drop-drop n start old) at c.count_up_to.ensures.within in
-    let above : (k : ℕ) → m ≤ k → k < length (drop n waiting) → get_or ids (length ids - 1) 0 < get_or (drop n waiting) k 0 = rw (c.deref-2.ensures.value, take_rest old (start + n), ← drop-drop n start old) at c.count_up_to.ensures.above in
+    let above : (k : ℕ) → m ≤ k → k < length (drop n waiting)
+    → get_or ids (length ids - 1) 0 < get_or (drop n waiting) k 0 =
+    rw (
+      c.deref-2.ensures.value,
+      take_rest old (start + n),
+      ← drop-drop n start
+          old,
+    ) at c.count_up_to.ensures.above in
     let kept : take r part ≡ filter (λ s. not (is_in ids s)) (take m (drop n waiting)) = rw (c.deref_mut.ensures.value, same, ← drop-drop n start old) at c.keep_others.ensures.kept in
     let size : length part ≡ m = (rw (c.deref_mut.ensures.value, same, ← drop-drop n start old) at c.keep_others.ensures.length) ∙ length-take-le m (drop n waiting) within-2 in
     let short : r ≤ length part = c.keep_others.ensures.within in

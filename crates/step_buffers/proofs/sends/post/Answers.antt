@@ -65,7 +65,9 @@ returns-clause-world c =
     let size : length c.append.new.trace.steps ≡ suc (length steps) = ap length grown.steps ∙ length_push steps _ ∙ (let e : length steps + 1 ≡ suc (length steps) = omega arith in e) in
     let items : c.push_reserved.new.self.items ≡ ra.buffer.items ++ suc (length steps) ∷ [] = c.push_reserved.ensures.items ∙ rw (c.len.ensures.value, size) refl in
     let posted = slice_set roomy (to - 1) (record ra { buffer = c.push_reserved.new.self }) in
-    let at_p = slice_get_read posted (length posted) (p - 1) c.index_mut-sender.result.now refl (let e = length-set roomy (to - 1) (record ra { buffer = c.push_reserved.new.self }) in omega arith) c.index_mut-sender.ensures.value in
+    let at_p = slice_get_read posted (length posted) (p - 1) c.index_mut-sender.result.now refl
+    (let e = length-set roomy (to - 1) (record ra { buffer = c.push_reserved.new.self }) in omega arith)
+    c.index_mut-sender.ensures.value in
     let place = c.requires.place in
     let said = place.2 in
     let letters = AreLetters-sent config steps p to c.args.letters.now.items place.0 world.paced.run.well_formed world.letters said.sender said.round (rw said.round said.body) in

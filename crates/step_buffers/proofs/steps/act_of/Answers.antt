@@ -12,7 +12,11 @@ next_send-requires c =
     IsProcessor-at c.args.trace.now.config c.args.trace.now.steps c.args.processors.now c.args.p c.index-processors-p.result c.requires.processors c.requires.processor c.index-processors-p.is
 
 pub chosen-requires : goal.chosen-requires
-chosen-requires c = record { receiver = IsProcessor-at c.args.trace.now.config c.args.trace.now.steps c.args.processors.now c.args.p c.index-processors-p.result c.requires.processors c.requires.processor c.index-processors-p.is }
+chosen-requires c =
+    record {
+      receiver = IsProcessor-at c.args.trace.now.config c.args.trace.now.steps c.args.processors.now c.args.p
+          c.index-processors-p.result c.requires.processors c.requires.processor c.index-processors-p.is;
+    }
 
 pub returns-in-Some-clause-next : goal.returns-in-Some-clause-next
 returns-in-Some-clause-next c =

@@ -21,7 +21,9 @@ returns-then-p-lt1-clause-refused c = λ numbers list.
 pub loop-piece-preserved : goal.loop-piece-preserved
 loop-piece-preserved c =
     rw (map-append)
-    (one_more_read _ _ _ _ c.in-Some-read_number.p c.loop-piece.invariant (sym c.as_bytes.ensures.value ∙ c.in-Some-read_number.ensures.some) c.if-p-lt1.false c.if-p-gt-MAX_MEMBER.false c.with-set.ensures.added c.with-set.ensures.others)
+    (one_more_read _ _ _ _ c.in-Some-read_number.p c.loop-piece.invariant
+    (sym c.as_bytes.ensures.value ∙ c.in-Some-read_number.ensures.some) c.if-p-lt1.false c.if-p-gt-MAX_MEMBER.false
+    c.with-set.ensures.added c.with-set.ensures.others)
 
 pub returns-clause-members : goal.returns-clause-members
 returns-clause-members c =

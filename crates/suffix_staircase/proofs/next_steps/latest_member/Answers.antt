@@ -1,7 +1,10 @@
 use Rattle.std.proofs.Common.{sym, ◌∙◌}
 use Rattle.suffix_staircase.proofs.NextSteps.{IsLatest-passed, IsLatest-taken}
 use Rattle.suffix_staircase.proofs.next_steps.latest_member.Goals as goal
-use Rattle.suffix_staircase.proofs.next_steps.latest_member.Goals.{then-contains+then-next_steps-latest, else-contains, else-contains-via-then-contains+else-next_steps-latest, else-contains-via-else-contains}
+use Rattle.suffix_staircase.proofs.next_steps.latest_member.Goals.{then-contains+then-next_steps-latest}
+use Rattle.suffix_staircase.proofs.next_steps.latest_member.Goals.{else-contains}
+use Rattle.suffix_staircase.proofs.next_steps.latest_member.Goals.{else-contains-via-then-contains+else-next_steps-latest}
+use Rattle.suffix_staircase.proofs.next_steps.latest_member.Goals.{else-contains-via-else-contains}
 
 pub loop-p-preserved : goal.loop-p-preserved
 loop-p-preserved c =

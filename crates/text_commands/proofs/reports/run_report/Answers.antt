@@ -18,7 +18,17 @@ returns-in_err-write_report g c =
     let Refuses = IsUnanswered (IsUnreported c.args.correct) in
     rw (p.1, p.2) (record {
       cause = of_known (λ text. IsServeFault Gives Refuses text _ _ _) read.text _ read.is (cut Gives Refuses read.text _ _ _ _
-          (record { trace = c.in_ok-trace.trace; read = text_of read; holds = record { within = c.in_ok-report.ensures.within; rows = c.in_ok-report.report.rows; exact = c.in_ok-report.ensures.report; written = ap report_text c.rows.ensures } })
+          (record {
+            trace = c.in_ok-trace.trace;
+            read = text_of read;
+            holds =
+                record {
+                  within = c.in_ok-report.ensures.within;
+                  rows = c.in_ok-report.report.rows;
+                  exact = c.in_ok-report.ensures.report;
+                  written = ap report_text c.rows.ensures;
+                };
+          })
           tt (before-untold _ _ _ _ c.in_err-write_report.ensures.part));
       own = write-told (MayTell (IsUnreported c.args.correct)) _;
       unread = search rules;

@@ -10,7 +10,12 @@ pub cause_cycle-requires-clause-received : goal.cause_cycle-requires-clause-rece
 cause_cycle-requires-clause-received c = received-by c.args.events.now c.requires.passed
 
 pub returns-clause-cycle : goal.returns-clause-cycle
-returns-clause-cycle c = IfOk-weaker _ _ _ (λ (v : Vec Hop Global) t. turned-cycle c.args.events.now c.in_ok-cycle.cycle.items c.deref-2.result.now v.items c.deref-2.ensures.value c.in_ok-cycle.ensures.cycle t) c.begun_at_least.ensures.turned
+returns-clause-cycle c = IfOk-weaker _ _ _
+    (λ (v : Vec Hop Global) t. turned-cycle c.args.events.now c.in_ok-cycle.cycle.items c.deref-2.result.now v.items
+    c.deref-2.ensures.value c.in_ok-cycle.ensures.cycle t) c.begun_at_least.ensures.turned
 
 pub returns-clause-none : goal.returns-clause-none
-returns-clause-none c = IfOk-weaker _ _ _ (λ (v : Vec Hop Global) t. turned-none ((order : List ℕ) × IsCausalOrder c.args.events.now order) c.in_ok-cycle.cycle.items c.deref-2.result.now v.items c.deref-2.ensures.value c.in_ok-cycle.ensures.none t) c.begun_at_least.ensures.turned
+returns-clause-none c = IfOk-weaker _ _ _
+    (λ (v : Vec Hop Global) t. turned-none ((order : List ℕ) × IsCausalOrder c.args.events.now order)
+    c.in_ok-cycle.cycle.items c.deref-2.result.now v.items c.deref-2.ensures.value c.in_ok-cycle.ensures.none t)
+    c.begun_at_least.ensures.turned

@@ -20,9 +20,19 @@ loop-k-preserved c =
     let inside = (places-inside (length c.args.events.now) c.args.order.now c.requires.ordered.places).1 c.loop-k.k c.loop-k-test.true in
     let q = (c.requires.processors (slice_index c.args.order.now c.loop-k.k) inside).0 in
     let v = c.processor_index-processor.ensures.value in
-    let since = get_or_read c.loop-k.lasts.items c.processor_index-processor.result c.index.result.now (let s = c.loop-k.invariant.wide in let b = c.processor_index-processor.ensures.inside in omega arith) c.index.ensures 0 in
-    let next = walked-next c.args.events.now c.args.ticks.now c.args.order.now (record { processors = c.requires.processors; first = c.requires.first; ordered = c.requires.ordered }) c.args.limit c.loop-k.k c.loop-k.lasts.items c.loop-k.idles.items c.loop-k.invariant c.processor_index-processor.result c.index.result.now (slice_index c.args.ticks.now (slice_index c.args.order.now c.loop-k.k)) c.loop-k-test.true (omega arith) since refl in
-    subst (λ xs. IsWalkedTo c.args.events.now c.args.ticks.now c.args.order.now c.args.limit (c.loop-k.k + 1) (set c.loop-k.lasts.items c.processor_index-processor.result (slice_index c.args.ticks.now (slice_index c.args.order.now c.loop-k.k))) xs) (sym c.in_ok-note_silence.ensures) next
+    let since = get_or_read c.loop-k.lasts.items c.processor_index-processor.result c.index.result.now
+    (let s = c.loop-k.invariant.wide in let b = c.processor_index-processor.ensures.inside in omega arith)
+    c.index.ensures 0 in
+    let next = walked-next c.args.events.now c.args.ticks.now c.args.order.now
+    (record { processors = c.requires.processors; first = c.requires.first; ordered = c.requires.ordered })
+    c.args.limit c.loop-k.k c.loop-k.lasts.items c.loop-k.idles.items c.loop-k.invariant
+    c.processor_index-processor.result c.index.result.now
+    (slice_index c.args.ticks.now (slice_index c.args.order.now c.loop-k.k)) c.loop-k-test.true
+    (omega arith) since refl in
+    subst (λ xs. IsWalkedTo c.args.events.now c.args.ticks.now c.args.order.now c.args.limit (c.loop-k.k + 1)
+    (set c.loop-k.lasts.items c.processor_index-processor.result
+    (slice_index c.args.ticks.now (slice_index c.args.order.now c.loop-k.k))) xs)
+    (sym c.in_ok-note_silence.ensures) next
 
 pub overflow_sub-tick : goal.overflow_sub-tick
 overflow_sub-tick c = c.requires.first (slice_index c.args.order.now c.loop-k.k) ((places-inside (length c.args.events.now) c.args.order.now c.requires.ordered.places).1 c.loop-k.k c.loop-k-test.true)

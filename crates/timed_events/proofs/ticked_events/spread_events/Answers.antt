@@ -35,7 +35,9 @@ order_of-requires-clause-passed c = subst (λ xs. events_refusal c.args.events.n
 pub returns-clause-ticked : goal.returns-clause-ticked
 returns-clause-ticked c =
     let own = own-ticks c.args.events.now c.args.clock.now c.deref-2.result.now c.requires.width c.in_ok-span.ensures.refused (c.deref-2.ensures.value ∙ c.in_ok-own.ensures) in
-    let bounds = spread-bounds c.args.events.now c.deref-2.result.now c.in_ok-ticks.ticks.items c.in_ok-ticks.ticks.items c.in_ok-span.span.last c.last_of-last.result own.1 c.in_ok-ticks.ensures refl (c.last_of-last.ensures ∙ ap (λ xs. fold max c.in_ok-span.span.last xs) c.deref-4.ensures.value) in
+    let bounds = spread-bounds c.args.events.now c.deref-2.result.now c.in_ok-ticks.ticks.items
+    c.in_ok-ticks.ticks.items c.in_ok-span.span.last c.last_of-last.result own.1 c.in_ok-ticks.ensures refl
+    (c.last_of-last.ensures ∙ ap (λ xs. fold max c.in_ok-span.span.last xs) c.deref-4.ensures.value) in
     record {
       passed = search rules;
       are = search rules;
@@ -43,7 +45,9 @@ returns-clause-ticked c =
       moved = search rules;
       fit = record {
         long = c.in_ok-ticks.ensures.long;
-        passed = passes-spread c.args.events.now c.deref-2.result.now c.in_ok-ticks.ticks.items c.in_ok-check_messages.ensures (meant-processors c.args.n c.args.events.now c.requires.most c.requires.meant) c.in_ok-ticks.ensures;
+        passed = passes-spread c.args.events.now c.deref-2.result.now c.in_ok-ticks.ticks.items
+            c.in_ok-check_messages.ensures
+            (meant-processors c.args.n c.args.events.now c.requires.most c.requires.meant) c.in_ok-ticks.ensures;
         first = bounds.0;
         within = bounds.1;
         most = omega arith;

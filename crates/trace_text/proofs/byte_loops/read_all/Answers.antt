@@ -34,7 +34,9 @@ loop-preserved g c =
     let within : count ≤ length c.deref.result.now = omega (arith, c.in-Ok-read.ensures.bound.0, filled, c.deref.ensures.len) in
     let grown : vec_len c.extend_from_slice.new.self ≡ vec_len c.loop.text + count = length_grows _ _ count _ _ within c.if-is_err.ensures.negation c.extend_from_slice.ensures.len in
     record {
-      read = text_grows _ _ _ c.loop.text.items _ c.read.new.buf _ _ count _ _ c.loop.invariant.read c.in-Ok-read.ensures.bytes.0 filled c.deref.ensures.value c.if-is_err.ensures.negation c.extend_from_slice.ensures.items;
+      read = text_grows _ _ _ c.loop.text.items _ c.read.new.buf _ _ count _ _ c.loop.invariant.read
+          c.in-Ok-read.ensures.bytes.0 filled c.deref.ensures.value c.if-is_err.ensures.negation
+          c.extend_from_slice.ensures.items;
       brought = omega (arith, grown, c.if-count-eq0.false, c.loop.invariant.brought);
       limit = omega (arith, grown, c.if-count-len.false, c.len.ensures, c.loop.invariant.limit);
       piece = c.loop.invariant.piece;

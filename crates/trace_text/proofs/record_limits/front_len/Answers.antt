@@ -8,7 +8,9 @@ pub loop-i-preserved : goal.loop-i-preserved
 loop-i-preserved c =
     let text = c.args.text.now in
     let few = c.if-progress-gt-MAX_FIELDS.false in
-    let byte = front-byte c.loop-i.progress.fields c.after-progress.result.fields (state_of c.loop-i.progress.place) (state_of c.after-progress.result.place) text c.loop-i.i c.loop-i-test.true c.after-progress.ensures.place c.after-progress.ensures.fields (omega (arith, few)) in
+    let byte = front-byte c.loop-i.progress.fields c.after-progress.result.fields (state_of c.loop-i.progress.place)
+    (state_of c.after-progress.result.place) text c.loop-i.i c.loop-i-test.true c.after-progress.ensures.place
+    c.after-progress.ensures.fields (omega (arith, few)) in
     let more = take_more text c.loop-i.i 0 c.loop-i-test.true in
     record {
       few = omega (arith, few);

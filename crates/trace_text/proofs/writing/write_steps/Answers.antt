@@ -40,4 +40,6 @@ loop-step-preserved c =
 pub returns-clause-text : goal.returns-clause-text
 returns-clause-text c =
     c.loop-step.invariant.text
-    ∙ ap (λ (steps : List Step). written c.args.writer.now ++ text_of_records (step_records c.args.version c.args.trace.now.ticks 1 steps)) (take-all_steps c.args.trace.now.steps c.loop-step.no c.loop-step.invariant.first (sym c.in_default.ensures.value))
+    ∙ ap (λ (steps : List Step). written c.args.writer.now
+    ++ text_of_records (step_records c.args.version c.args.trace.now.ticks 1 steps))
+    (take-all_steps c.args.trace.now.steps c.loop-step.no c.loop-step.invariant.first (sym c.in_default.ensures.value))

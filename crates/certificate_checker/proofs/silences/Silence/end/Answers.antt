@@ -22,7 +22,9 @@ returns-then-passed-len c = λ p s high.
     let len = c.len.ensures in
     let read = get_or_default c.args.self.now.ticks.items place c.index.result.now 0 (omega (arith, inside, len)) in
     let known = passed (goal.at.returns-then-passed-len c).After-partition_point-passed s.rising in
-    subst (λ (next : ℕ). IsNextStep t p c.args.x next) (sym (c.from.ensures ∙ c.index.ensures ∙ read)) (IsNextStep-at t p c.args.x place c.args.self.now c.last_tick-after.ensures.timed s known (omega (arith, inside, len)))
+    subst (λ (next : ℕ). IsNextStep t p c.args.x next) (sym (c.from.ensures ∙ c.index.ensures ∙ read))
+    (IsNextStep-at t p c.args.x place c.args.self.now c.last_tick-after.ensures.timed s known
+    (omega (arith, inside, len)))
 
 pub returns-else-passed-len : goal.returns-else-passed-len
 returns-else-passed-len c = λ p s high.

@@ -15,7 +15,10 @@ loop-tick-preserved c =
     record {
       long = c.raise.ensures.long ∙ known.long;
       before = λ p own k upto. (let rise = own.rising k i 0 (omega (arith, upto)) inside in omega (arith, rise, at, tick));
-      puts = λ p own. rw tick (PutsEnds-tick t p i c.loop-tick.from _ s c.args.ends.now.items c.loop-tick.ends.items c.raise.new.ends.items c.last_tick.ensures.timed own c.requires (known.before p own) inside at (known.puts p own) c.raise.ensures);
+      puts = λ p own.
+          rw tick (PutsEnds-tick t p i c.loop-tick.from _ s c.args.ends.now.items c.loop-tick.ends.items
+          c.raise.new.ends.items c.last_tick.ensures.timed own c.requires
+          (known.before p own) inside at (known.puts p own) c.raise.ensures);
     }
 
 pub returns : goal.returns

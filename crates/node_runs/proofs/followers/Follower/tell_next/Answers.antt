@@ -16,5 +16,7 @@ returns-clause-told g c =
 pub returns-clause-whole : goal.returns-clause-whole
 returns-clause-whole g c =
     let stands = c.standing_of.ensures c.args.self.now.analyst.set c.args.trace.now c.in_ok-stairs.ensures.stairs in
-    rw (← c.stairs.ensures.writer) (told_whole c.args.self.now.analyst.set c.args.trace.now c.standing_of.result c.args.news.now g.W.Write.contents c.stairs.new.self.writer c.tell_standing.new.writer c.tell_standing.result
+    rw (← c.stairs.ensures.writer)
+    (told_whole c.args.self.now.analyst.set c.args.trace.now c.standing_of.result c.args.news.now g.W.Write.contents
+    c.stairs.new.self.writer c.tell_standing.new.writer c.tell_standing.result
     stands c.tell_standing.ensures.told)

@@ -18,7 +18,16 @@ returns-then-len c =
     let last : c.other.inside.last ≤ c.self.inside.last = omega arith in
     let b = c.len-2.ensures.steps in let d = c.len-3.ensures.steps in let e = c.if-len.true in
     let equal : length longer.steps ≡ length shorter.steps = grind (arith, nat_tests) in
-    rw (← c.self.view_is, ← c.other.view_is) (λ _. record { config = config; steps = begins.0; ticks = begins.1; last = last; later = further_from_first longer shorter c.self.invariant.0.time (inl equal) }, λ _. eq-eqb _ _ e)
+    rw (← c.self.view_is, ← c.other.view_is) (
+      λ _. record {
+        config = config;
+        steps = begins.0;
+        ticks = begins.1;
+        last = last;
+        later = further_from_first longer shorter c.self.invariant.0.time (inl equal);
+      },
+      λ _. eq-eqb _ _ e,
+    )
 
 pub returns-else-len : goal.returns-else-len
 returns-else-len c =

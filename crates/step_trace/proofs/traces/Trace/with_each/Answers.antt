@@ -14,7 +14,9 @@ pub returns-in_err-push_next-clause-refused : goal.returns-in_err-push_next-clau
 returns-in_err-push_next-clause-refused c =
     let next = c.in-Some.ensures.steps in
     let p = err_from_is_err_and c.from_residual.result c.from_residual.ensures.1 in
-    rw (p.1, p.2, c.loop-tick.invariant.0, next.0.0, next.1.0) (appended-refused c.loop-tick.trace c.in-Some.step c.next.new.self.b.rest.items c.in-Some.tick c.next.new.self.a.rest.items _ c.in_err-push_next.ensures.refused)
+    rw (p.1, p.2, c.loop-tick.invariant.0, next.0.0, next.1.0)
+    (appended-refused c.loop-tick.trace c.in-Some.step c.next.new.self.b.rest.items c.in-Some.tick
+    c.next.new.self.a.rest.items _ c.in_err-push_next.ensures.refused)
 
 pub returns-clause-appended : goal.returns-clause-appended
 returns-clause-appended c =

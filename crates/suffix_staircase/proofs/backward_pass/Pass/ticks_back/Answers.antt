@@ -17,7 +17,9 @@ lowered c =
     let g = c.loop-g.g - 1 in
     let next : c.loop-g.g ≡ g + 1 = omega (arith, c.loop-g-test.true) in
     TickLowered-with_gap c.args.self.now.set c.args.trace.now c.args.done c.args.high g c.loop-g.self c.tick_back.new.self c.loop-g.builder
-    c.requires.timed c.requires.within c.requires.done c.requires.idle (omega (arith, c.loop-g-test.true, c.tick_of-tick.ensures.value)) (omega (arith, c.loop-g.invariant.high, c.loop-g-test.true)) (rw next at c.loop-g.invariant.known)
+    c.requires.timed c.requires.within c.requires.done c.requires.idle
+    (omega (arith, c.loop-g-test.true, c.tick_of-tick.ensures.value))
+    (omega (arith, c.loop-g.invariant.high, c.loop-g-test.true)) (rw next at c.loop-g.invariant.known)
     (record { set = c.tick_back.ensures.set; receives = c.tick_back.ensures.receives; next_steps = c.tick_back.ensures.next_steps })
     (c.tick_back.ensures.kept ∙ c.tick_back.ensures.level)
 

@@ -27,7 +27,10 @@ pub returns-else-proc-self : goal.returns-else-proc-self
 returns-else-proc-self c =
     let proc = c.step_of.ensures.sound.procs c.args.no c.step_of.result.now c.step_of.ensures.step in
     let known = c.requires.known.next in
-    let later = next_tick_above c.args.trace.now c.requires.timed c.step_of.result.now.proc c.args.no _ c.step_of.result.now c.step_of.ensures.step (known.each c.step_of.result.now.proc proc.0 proc.1 (c.requires.member c.step_of.result.now c.step_of.ensures.step)) in
+    let later = next_tick_above c.args.trace.now c.requires.timed c.step_of.result.now.proc c.args.no _
+    c.step_of.result.now c.step_of.ensures.step
+    (known.each c.step_of.result.now.proc proc.0 proc.1
+    (c.requires.member c.step_of.result.now c.step_of.ensures.step)) in
     record {
       next = known_next (goal.at.returns-else-proc-self c).After-step_of;
       latest = IsLatest-kept c.args.set c.args.self.now.latest c.step_of.result.now.proc c.args.tick c.args.self.now.by_processor.items
