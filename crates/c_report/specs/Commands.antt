@@ -21,7 +21,7 @@ use Rattle.text_commands.specs.Briefs.{IsBriefOf, IsNoBrief}
 use Rattle.text_commands.specs.Checks.{IsUnchecked}
 use Rattle.text_commands.specs.Drawings.{IsDrawingBy, IsUndrawnBy}
 use Rattle.text_commands.specs.EachBounds.{IsEachOf, IsNoEach}
-use Rattle.text_commands.specs.Imports.{IsImportOptionFault, IsImportTold, IsUnimported}
+use Rattle.text_commands.specs.Imports.{IsImportOptionFault, IsImportTold, IsUnimported, options_in}
 use Rattle.text_commands.specs.Judgings.{IsJudgementOn, IsUnjudged}
 use Rattle.text_commands.specs.Pages.{IsNoPageBy, IsPageBy}
 use Rattle.text_commands.specs.Replays.{IsOffRun, IsReplayOf}
@@ -108,12 +108,6 @@ pub record IsJudgementPrinted (file : List ℕ) (Judges : Judgement → List ℕ
   pub status_is : status ≡ status_of_judgement verdict
   pub written : out ≡ text
 
--- the texts encode these options of a log
-abbrev pub AreImportOptions : ImportOptions → Options → Type 0
-AreImportOptions given o = AreOptions (option_map string_bytes given.nodes) (option_map string_bytes given.unit)
-    (option_map string_bytes given.tick) (option_map string_bytes given.until)
-    (option_map string_bytes given.idle) given.spread given.align given.drop_lost given.merge o
-
 -- the log is read by these options, and the text is what is printed of it, without notes
 abbrev pub IsTextOfLog : ImportForm → Options → List ℕ → List ℕ → Type 0
 IsTextOfLog form o log out = IsImportTold form o (λ notes. ⊤) log out
@@ -121,14 +115,12 @@ IsTextOfLog form o log out = IsImportTold form o (λ notes. ⊤) log out
 -- the same, by the options that are given, of a whole log
 abbrev pub IsImportFor : ImportOptions → List ℕ → List ℕ → Type 0
 IsImportFor given log out = (is_some given.from ≡ false)
-    × ((o : Options) × AreImportOptions given o × IsTextOfLog given.form o log out)
+    × ((o : Options) × AreOptions (options_in given) o × IsTextOfLog given.form o log out)
 
 -- why there is none of a whole log: the options; or else the log
 abbrev pub IsUnimportedWhole : ImportOptions → List ℕ → Fault → Type 0
-IsUnimportedWhole given log w = IsImportOptionFault (option_map string_bytes given.nodes)
-    (option_map string_bytes given.unit) (option_map string_bytes given.tick) (option_map string_bytes given.until)
-    (option_map string_bytes given.idle) w
-    ⊎ ((o : Options) × AreImportOptions given o × IsUnimported given.form o log w)
+IsUnimportedWhole given log w = IsImportOptionFault (options_in given) w
+    ⊎ ((o : Options) × AreOptions (options_in given) o × IsUnimported given.form o log w)
 
 -- why there is none: a window is asked for; or why there is none of the whole log
 abbrev pub IsUnimportedFor : ImportOptions → List ℕ → Fault → Type 0

@@ -192,18 +192,7 @@ fn imported(alloc: Global, given: &ImportOptions, text: &[u8]) -> Result<Vec<u8>
     if given.from.is_some() {
         return Err(refused_window(alloc));
     }
-    let options = import_options(
-        alloc,
-        text_in(&given.nodes),
-        text_in(&given.unit),
-        text_in(&given.tick),
-        text_in(&given.until),
-        text_in(&given.idle),
-        given.spread,
-        given.align,
-        given.drop_lost,
-        given.merge,
-    )?;
+    let options = import_options(alloc, given)?;
     log_text(alloc, text, &options, given.form)
 }
 
@@ -251,16 +240,6 @@ fn ticks_text_of(alloc: Global, text: &[u8], options: &Options) -> Result<Vec<u8
 {
     let table = log_ticks(alloc, text, options)?;
     Ok(ticks_text(alloc, &table)?)
-}
-
-/// The text, if there is one.
-fn text_in(text: &Option<String>) -> Option<&str>
-    ensures { option_map (λ t. t.now) result ≡ option_map string_bytes text.now }
-{
-    match text {
-        Some(text) => Some(text.as_str()),
-        None => None,
-    }
 }
 
 /// Refuses a file of another name than that of the text which is lent.

@@ -5,7 +5,7 @@ use Rattle.clap.specs.Words.{Text}
 use Rattle.command_line.specs.Arguments.{IsListFault, IsMemory, is_flag}
 use Rattle.command_line.specs.Commands.Check.{IsCheck, IsFilesFault, check_line}
 use Rattle.command_line.specs.Commands.Draw.{IsDraw, IsDrawFault, draw_line}
-use Rattle.command_line.specs.Commands.Import.{IsImport, form_of, import_line}
+use Rattle.command_line.specs.Commands.Import.{IsImport, import_line, no_flags, no_texts}
 use Rattle.command_line.specs.Commands.Replay.{IsReplay, replay_line}
 use Rattle.command_line.specs.Commands.Report.{IsReport, report_line}
 use Rattle.command_line.specs.Commands.Upgrade.{IsUpgrade, upgrade_line}
@@ -44,7 +44,7 @@ plain_draw name file list plain_file plain_list = plain_line (codes "draw") (fil
     (after_value _ _ file _ _ plain_file refl refl refl refl (after_word _ _ _ (codes "--correct") _ _ refl refl (after_value _ _ list _ _ plain_list refl refl refl refl (at_end _ _))))
     refl refl refl refl (inl tt) (λ given h. h)
 
-pub plain_import : (name log : Text) → is_flag log ≡ false → IsPlain (import_line name log) (IsImport log None None None None None None false false false false (form_of false)) IsMemory
+pub plain_import : (name log : Text) → is_flag log ≡ false → IsPlain (import_line name log) (IsImport log no_flags no_texts) IsMemory
 unfolding clap_on_literals
 plain_import name log plain_log = plain_line (codes "import") (log ∷ []) _ _ _ _
     (after_value _ _ log _ _ plain_log refl refl refl refl (at_end _ _)) refl refl refl refl tt (λ given h. h)

@@ -1,7 +1,9 @@
 -- The options of a log, as texts give them.
-use Rattle.std.specs.Prelude.{ℕ, ◌≡◌, ◌≤◌, Bool, true, List, length, Option, Some, None, ◌==◌, ◌&&◌, nat_lt, not, ⊤}
+use Rattle.std.specs.Prelude.{ℕ, ◌≡◌, ◌≤◌, Bool, true, List, length, Option, Some, None}
+use Rattle.std.specs.Prelude.{◌==◌, ◌&&◌, nat_lt, not, option_map, ⊤}
 use Rattle.std.specs.List.{All, IsDistinct, slice_split}
 use Rattle.std.specs.Str.{bytes_eq}
+use Rattle.event_log.specs.declared.option_texts.OptionTexts.{OptionTexts}
 use Rattle.event_log.specs.declared.options.Options.{Options}
 use Rattle.event_log.specs.declared.options.OptionError.{OptionError}
 use Rattle.event_log.specs.declared.options.OptionError.TheVariants as option
@@ -61,18 +63,43 @@ abbrev pub IsIdleIn : Option (List ℕ) → Option Width → Type 0
 IsIdleIn None idle = idle ≡ None
 IsIdleIn (Some text) idle = (width : Width) × IsWidth text width × (idle ≡ Some width)
 
--- the options that the five texts give
-pub record AreOptions (nodes unit tick until idle : Option (List ℕ)) (spread align drop_lost merge : Bool)
-    (o : Options) : Type 0 where
-  pub nodes_are : AreNodesIn nodes o.nodes
-  pub unit_is : IsUnitIn unit o.unit
-  pub width_is : IsWidthIn tick o.width
-  pub until_is : IsUntilIn until o.until
-  pub idle_is : IsIdleIn idle o.idle
-  pub spread_is : o.spread ≡ spread
-  pub align_is : o.align ≡ align
-  pub drop_is : o.drop_lost ≡ drop_lost
-  pub merge_is : o.merge ≡ merge
+-- how a log is read: five texts, each of which may be left out, and four flags
+pub record ToldOptions : Type 0 where
+  pub nodes : Option (List ℕ)
+  pub unit : Option (List ℕ)
+  pub tick : Option (List ℕ)
+  pub until : Option (List ℕ)
+  pub idle : Option (List ℕ)
+  pub spread : Bool
+  pub align : Bool
+  pub drop_lost : Bool
+  pub merge : Bool
+
+-- what the texts say
+abbrev pub told_options : OptionTexts → ToldOptions
+told_options texts = record {
+  nodes = option_map (λ text. text.now) texts.nodes;
+  unit = option_map (λ text. text.now) texts.unit;
+  tick = option_map (λ text. text.now) texts.tick;
+  until = option_map (λ text. text.now) texts.until;
+  idle = option_map (λ text. text.now) texts.idle;
+  spread = texts.spread;
+  align = texts.align;
+  drop_lost = texts.drop_lost;
+  merge = texts.merge;
+}
+
+-- the options that they give
+pub record AreOptions (told : ToldOptions) (o : Options) : Type 0 where
+  pub nodes_are : AreNodesIn told.nodes o.nodes
+  pub unit_is : IsUnitIn told.unit o.unit
+  pub width_is : IsWidthIn told.tick o.width
+  pub until_is : IsUntilIn told.until o.until
+  pub idle_is : IsIdleIn told.idle o.idle
+  pub spread_is : o.spread ≡ told.spread
+  pub align_is : o.align ≡ told.align
+  pub drop_is : o.drop_lost ≡ told.drop_lost
+  pub merge_is : o.merge ≡ told.merge
 
 -- a text that lists no nodes; one that names no unit; one that gives no length of a tick or of a silence; and one that
 -- gives no end
@@ -99,14 +126,13 @@ IsTimeFault unit tick until idle option.Idle = (¬ HasBadUnit unit) × (¬ HasBa
     × HasBadTick idle
 IsTimeFault unit tick until idle option.Memory = ⊥
 
--- why the texts give no options: the first that is bad, in this order; or out of memory
-abbrev pub IsOptionFault : Option (List ℕ) → Option (List ℕ) → Option (List ℕ) → Option (List ℕ) → Option (List ℕ)
-    → OptionError → Type 0
-IsOptionFault nodes unit tick until idle option.Nodes = HasBadNodes nodes
-IsOptionFault nodes unit tick until idle option.Unit = (¬ HasBadNodes nodes) × HasBadUnit unit
-IsOptionFault nodes unit tick until idle option.Tick = (¬ HasBadNodes nodes) × (¬ HasBadUnit unit) × HasBadTick tick
-IsOptionFault nodes unit tick until idle option.Until = (¬ HasBadNodes nodes) × (¬ HasBadUnit unit)
-    × (¬ HasBadTick tick) × HasBadUntil until
-IsOptionFault nodes unit tick until idle option.Idle = (¬ HasBadNodes nodes) × (¬ HasBadUnit unit) × (¬ HasBadTick tick)
-    × (¬ HasBadUntil until) × HasBadTick idle
-IsOptionFault nodes unit tick until idle option.Memory = ⊤
+-- why there are no options: the first text that is bad, in this order; or out of memory
+abbrev pub IsOptionFault : ToldOptions → OptionError → Type 0
+IsOptionFault told option.Nodes = HasBadNodes told.nodes
+IsOptionFault told option.Unit = (¬ HasBadNodes told.nodes) × HasBadUnit told.unit
+IsOptionFault told option.Tick = (¬ HasBadNodes told.nodes) × (¬ HasBadUnit told.unit) × HasBadTick told.tick
+IsOptionFault told option.Until = (¬ HasBadNodes told.nodes) × (¬ HasBadUnit told.unit) × (¬ HasBadTick told.tick)
+    × HasBadUntil told.until
+IsOptionFault told option.Idle = (¬ HasBadNodes told.nodes) × (¬ HasBadUnit told.unit) × (¬ HasBadTick told.tick)
+    × (¬ HasBadUntil told.until) × HasBadTick told.idle
+IsOptionFault told option.Memory = ⊤

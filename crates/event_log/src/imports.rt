@@ -21,7 +21,7 @@ use crate::event_refusals::error_of;
 use crate::idle_limits::limit_for;
 use crate::left_imports::left_import;
 use crate::log_places::LogPlaces;
-use crate::log_traces::{LogTrace, PassedEvents, passed_events, trace_of_passed};
+use crate::log_traces::{LogTrace, PassedEvents, TraceOptions, passed_events, trace_of_passed};
 use crate::logs::{NamedEvents, events_of_log};
 use crate::names::NameSet;
 use crate::options::Options;
@@ -139,19 +139,17 @@ pub(crate) fn placed_import(
     let limit = limit_for(options, log.kind, &clock)?;
     let aligned = aligned_log(alloc, &text, log, options.align)?;
     let lateness = lateness_in(alloc, &aligned.log)?;
-    let spread = options.spread;
-    let merge = options.merge;
-    if options.drop_lost {
-        return left_import(
-            alloc, text, aligned, lateness, clock, limit, spread, true, merge,
-        );
+    let how = TraceOptions {
+        clock,
+        limit,
+        spread: options.spread,
+        drop_lost: options.drop_lost,
+        merge: options.merge,
+    };
+    if how.drop_lost || how.merge {
+        return left_import(alloc, text, aligned, lateness, how);
     }
-    if merge {
-        return left_import(
-            alloc, text, aligned, lateness, clock, limit, spread, false, true,
-        );
-    }
-    whole_import(alloc, text, aligned, lateness, clock, limit, spread)
+    whole_import(alloc, text, aligned, lateness, how)
 }
 
 /// The import of all events of an aligned log.
@@ -162,31 +160,29 @@ fn whole_import(
     text: CowSlice<'_, u8, Global>,
     aligned: AlignedLog,
     lateness: Lateness,
-    clock: Clock,
-    limit: Option<u128>,
-    spread: bool,
+    how: TraceOptions,
 ) -> Result<PlacedImport, LogError>
     requires sound { IsSound (seen_log aligned.log) }
-    requires width { 0 < clock.width }
+    requires width { 0 < how.clock.width }
     ensures made { IfOk result
-        (λ p. IsPlacedOfLog false false limit spread (length aligned.log.nodes)
-        aligned.log.events.items clock p.import p.events.items p.logged p.left_at
+        (λ p. IsPlacedOfLog false false how.limit how.spread (length aligned.log.nodes)
+        aligned.log.events.items how.clock p.import p.events.items p.logged p.left_at
         (parts_seen p.parts) p.first p.places.items) }
-    ensures given { IfOk result (λ p. AreGiven aligned lateness clock p) }
+    ensures given { IfOk result (λ p. AreGiven aligned lateness how.clock p) }
     ensures long { IfOk result (λ p. length p.places.items ≡ length p.import.trace.steps) }
     ensures refused { IfErr result
-        (IsUnmadeUnlessMemory false false limit spread (cow_slice_items text.entry)
-        aligned.log.nodes aligned.log.events.items clock) }
+        (IsUnmadeUnlessMemory false false how.limit how.spread (cow_slice_items text.entry)
+        aligned.log.nodes aligned.log.events.items how.clock) }
 {
     let mut aligned = aligned;
-    let passed = passed_log(alloc, &text, &aligned.log, &clock, spread, limit)?;
+    let passed = passed_log(alloc, &text, &aligned.log, how)?;
     drop(text);
     let n = aligned.log.nodes.len() as u64;
     let logged = aligned.log.events.len();
     let first = least_time(aligned.log.events.as_slice());
     let events = &mut aligned.log.events;
-    let made = trace_of_passed(alloc, n, events, &clock, spread, limit, passed)?;
-    Ok(import_of(aligned, made, lateness, logged, first, clock))
+    let made = trace_of_passed(alloc, n, events, how, passed)?;
+    Ok(import_of(aligned, made, lateness, logged, first, how.clock))
 }
 
 /// Tests whether the events of a log make a trace.
@@ -196,20 +192,18 @@ fn passed_log(
     alloc: Global,
     text: &[u8],
     log: &NamedEvents,
-    clock: &Clock,
-    spread: bool,
-    limit: Option<u128>,
+    how: TraceOptions,
 ) -> Result<PassedEvents, LogError>
     requires sound { IsSound (seen_log log.now) }
-    requires width { 0 < clock.now.width }
+    requires width { 0 < how.clock.width }
     ensures passed { IfOk result
-        (HavePassed limit spread (length log.now.nodes) log.now.events.items clock.now) }
+        (HavePassed how.limit how.spread (length log.now.nodes) log.now.events.items how.clock) }
     ensures refused { IfErr result
-        (IsUnmadeUnlessMemory false false limit spread text.now log.now.nodes
-        log.now.events.items clock.now) }
+        (IsUnmadeUnlessMemory false false how.limit how.spread text.now log.now.nodes
+        log.now.events.items how.clock) }
 {
     let n = log.nodes.len() as u64;
-    match passed_events(alloc, n, log.events.as_slice(), clock, spread, limit) {
+    match passed_events(alloc, n, log.events.as_slice(), how) {
         Ok(passed) => Ok(passed),
         Err(why) => Err(log_error(alloc, text, log, why)),
     }

@@ -18,18 +18,17 @@ use crate::event_refusals::error_of;
 use crate::hop_lines::hop_lines;
 use crate::imports::{Import, PlacedImport};
 use crate::log_places::{LogPlaces, hops_in, moved_in, place_in, reason_in};
-use crate::log_traces::{LogTrace, passed_events, trace_of_passed};
+use crate::log_traces::{LogTrace, TraceOptions, passed_events, trace_of_passed};
 use crate::logs::NamedEvents;
 use crate::reading::MAX_EVENTS;
 use crate::refusals::LogError;
 use crate::taken_events::{TakenEvents, taken_events};
 use std::alloc::{AllocError, Global};
 use std::borrow::CowSlice;
-use std::mem;
 use timed_events::{Clock, EventError, IdleError, Lateness, cycle_of_causes, least_time};
 
-/// The import of the events of an aligned log without lost sends, if `drop`, and then with merged receives, if `merge`.
-/// Asks for one of the two.
+/// The import of the events of an aligned log without lost sends, and then with merged receives. Asks for one of the
+/// two.
 ///
 /// Refuses NoEvents if none is left; UntilUnfit and TooManyTicks before receives are merged; then the first reason
 /// against the events that are left. Memory may come at any step.
@@ -38,45 +37,41 @@ pub(crate) fn left_import(
     text: CowSlice<'_, u8, Global>,
     aligned: AlignedLog,
     lateness: Lateness,
-    clock: Clock,
-    limit: Option<u128>,
-    spread: bool,
-    drop: bool,
-    merge: bool,
+    how: TraceOptions,
 ) -> Result<PlacedImport, LogError>
     requires sound { IsSound (seen_log aligned.log) }
-    requires width { 0 < clock.width }
-    requires asked { drop ≡ false → merge ≡ true }
+    requires width { 0 < how.clock.width }
+    requires asked { how.drop_lost ≡ false → how.merge ≡ true }
     ensures made { IfOk result
-        (λ p. IsPlacedOfLog drop merge limit spread (length aligned.log.nodes)
-        aligned.log.events.items clock p.import p.events.items p.logged p.left_at
+        (λ p. IsPlacedOfLog how.drop_lost how.merge how.limit how.spread (length aligned.log.nodes)
+        aligned.log.events.items how.clock p.import p.events.items p.logged p.left_at
         (parts_seen p.parts) p.first p.places.items) }
-    ensures given { IfOk result (λ p. AreGiven aligned lateness clock p) }
+    ensures given { IfOk result (λ p. AreGiven aligned lateness how.clock p) }
     ensures long { IfOk result (λ p. length p.places.items ≡ length p.import.trace.steps) }
     ensures refused { IfErr result
-        (IsUnmadeUnlessMemory drop merge limit spread (cow_slice_items text.entry) aligned.log.nodes
-        aligned.log.events.items clock) }
+        (IsUnmadeUnlessMemory how.drop_lost how.merge how.limit how.spread
+        (cow_slice_items text.entry) aligned.log.nodes aligned.log.events.items how.clock) }
 {
-    let mut left = taken_events(alloc, &aligned.log, &clock, drop, merge)?;
+    let mut left = taken_events(alloc, &aligned.log, &how.clock, how.drop_lost, how.merge)?;
     let n = aligned.log.nodes.len() as u64;
     let all = aligned.log.events.len();
     let logged = left.events.len();
-    let lost = removed(drop, all, left.kept);
-    let merged = removed(merge, left.kept, logged);
+    let lost = removed(how.drop_lost, all, left.kept);
+    let merged = removed(how.merge, left.kept, logged);
     let counts = Counts {
         lost,
         merged,
         logged,
     };
     let first = least_time(left.events.as_slice());
-    let passed = match passed_events(alloc, n, left.events.as_slice(), &clock, spread, limit) {
+    let passed = match passed_events(alloc, n, left.events.as_slice(), how) {
         Ok(passed) => passed,
         Err(why) => return Err(left_error(alloc, &text, &aligned.log, &left, why)),
     };
-    mem::drop(text);
+    drop(text);
     let events = &mut left.events;
-    let made = trace_of_passed(alloc, n, events, &clock, spread, limit, passed)?;
-    Ok(left_import_of(aligned, left, made, lateness, counts, first, clock))
+    let made = trace_of_passed(alloc, n, events, how, passed)?;
+    Ok(left_import_of(aligned, left, made, lateness, counts, first, how.clock))
 }
 
 /// How many events are lost sends and how many receives are merged into others, if these are counted, and how many are

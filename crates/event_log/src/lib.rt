@@ -45,7 +45,7 @@ pub use imports::{IdleReceives, Import, end_in, read_log};
 pub use laws::log_laws;
 pub use logs::{NamedEvents, events_of_log};
 pub use names::{Name, NameSet, are_message_names};
-pub use option_texts::read_options;
+pub use option_texts::{OptionTexts, read_options};
 pub use options::{OptionError, Options};
 pub use reading::MAX_EVENTS;
 pub use refusal_texts::printed;

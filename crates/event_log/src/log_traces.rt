@@ -31,42 +31,47 @@ pub(crate) enum PassedEvents {
     Filled(Filling),
 }
 
-/// Tests whether the events of a log make a trace, with receives of nothing in silences of at most so many ticks, if
-/// there is a limit.
+/// How a trace is made of the events of a log.
+#[derive(Clone, Copy)]
+pub(crate) struct TraceOptions {
+    pub(crate) clock: Clock,
+    /// Silences of at most so many ticks get a receive of nothing; none gets one without a limit.
+    pub(crate) limit: Option<u128>,
+    /// The flags as `Options` has them.
+    pub(crate) spread: bool,
+    pub(crate) drop_lost: bool,
+    pub(crate) merge: bool,
+}
+
+/// Tests whether the events of a log make a trace. Which events are left is settled before.
 pub(crate) fn passed_events(
     alloc: Global,
     n: u64,
     events: &[Event],
-    clock: &Clock,
-    spread: bool,
-    limit: Option<u128>,
+    how: TraceOptions,
 ) -> Result<PassedEvents, IdleError>
     requires most { n ≤ MAX_PROCESSORS }
     requires some { 0 < length events.now }
     requires few { length events.now ≤ MAX_STEPS }
     requires meant { AreMeant events.now n }
-    requires width { 0 < clock.now.width }
-    ensures passed { IfOk result (HavePassed limit spread n events.now clock.now) }
-    ensures refused { IfErr result (λ why. IsUnmadeFor limit spread n events.now clock.now why) }
+    requires width { 0 < how.clock.width }
+    ensures passed { IfOk result (HavePassed how.limit how.spread n events.now how.clock) }
+    ensures refused { IfErr result (IsUnmadeFor how.limit how.spread n events.now how.clock) }
 {
-    let Some(limit) = limit else {
-        let ticked = event_ticks(alloc, n, events, clock, spread)?;
+    let Some(limit) = how.limit else {
+        let ticked = event_ticks(alloc, n, events, &how.clock, how.spread)?;
         return Ok(PassedEvents::Plain(ticked));
     };
-    let filling = filling_of(alloc, n, events, clock, spread, limit)?;
+    let filling = filling_of(alloc, n, events, &how.clock, how.spread, limit)?;
     Ok(PassedEvents::Filled(filling))
 }
 
 /// The trace of events that have passed. The receives of nothing that are added are behind the events then.
-///
-/// `clock` and `spread` are read by the clauses alone.
 pub(crate) fn trace_of_passed(
     alloc: Global,
     n: u64,
     events: &mut Vec<Event>,
-    clock: &Clock,
-    spread: bool,
-    limit: Option<u128>,
+    how: TraceOptions,
     passed: PassedEvents,
 ) -> Result<LogTrace, AllocError>
     requires least { MIN_PROCESSORS ≤ n }
@@ -74,22 +79,22 @@ pub(crate) fn trace_of_passed(
     requires some { 0 < length events.old.items }
     requires few { length events.old.items ≤ MAX_STEPS }
     requires meant { AreMeant events.old.items n }
-    requires passed { HavePassed limit spread n events.old.items clock.now passed }
+    requires passed { HavePassed how.limit how.spread n events.old.items how.clock passed }
     ensures trace { IfOk result
-        (λ made. IsMadeBy limit spread n events.old.items clock.now made.trace
+        (λ made. IsMadeBy how.limit how.spread n events.old.items how.clock made.trace
         made.moved made.idle) }
     ensures places { IfOk result
-        (λ made. ArePlacedBy limit spread n events.old.items clock.now events.new.items
+        (λ made. ArePlacedBy how.limit how.spread n events.old.items how.clock events.new.items
         made.places.items) }
     ensures long { IfOk result (λ made. length made.places.items ≡ length made.trace.steps) }
 {
-    match (limit, passed) {
+    match (how.limit, passed) {
         (None, PassedEvents::Plain(ticked)) => {
-            let placed = placed_trace(alloc, n, events.as_slice(), clock, spread, ticked)?;
+            let placed = placed_trace(alloc, n, events.as_slice(), &how.clock, how.spread, ticked)?;
             Ok(plain_trace(placed))
         }
         (Some(limit), PassedEvents::Filled(filling)) => {
-            let placed = idle_trace(alloc, n, events, clock, spread, limit, filling)?;
+            let placed = idle_trace(alloc, n, events, &how.clock, how.spread, limit, filling)?;
             Ok(filled_trace(placed, limit))
         }
         _ => unreachable!(),

@@ -4,7 +4,7 @@ ghost use Rattle.std.specs.Prelude.{◌≡◌, ◌<◌, ◌^◌, ◌∷◌, [], 
 ghost use Rattle.std.specs.Prelude.{IsSome, OnOk, option_map, true, false, None};
 ghost use Rattle.event_log.specs.Options.{AreNodes, AreNodesIn, AreOptions, HasBadNodes, HasBadTick, HasBadUnit};
 ghost use Rattle.event_log.specs.Options.{HasBadUntil, IsIdleIn, IsNodeFault, IsOptionFault, IsTimeFault, IsUnitIn};
-ghost use Rattle.event_log.specs.Options.{IsUntilIn, IsWidthIn, is_next_node, parts_between_commas};
+ghost use Rattle.event_log.specs.Options.{IsUntilIn, IsWidthIn, is_next_node, parts_between_commas, told_options};
 ghost use Rattle.event_log.specs.Times.{nanoseconds_of};
 
 use crate::names::{MAX_NODES, NameSet, is_node_name};
@@ -13,38 +13,36 @@ use crate::results::both;
 use crate::times::{LogEnd, TimeUnit, Width, read_end, read_unit, read_width};
 use std::alloc::Global;
 
-/// The options that texts give:
-/// - the nodes, with one comma between each two;
-/// - the unit of the times, if they are whole numbers of one;
-/// - the length of a tick, which is 1 if it is left out;
-/// - when the log ends;
-/// - the longest time without an event that is filled.
+/// How a log is read: texts that are still to be read themselves, and flags.
+#[derive(Clone, Copy)]
+pub struct OptionTexts<'a> {
+    /// The nodes, with one comma between each two.
+    pub nodes: Option<&'a str>,
+    /// The unit of the times, if they are whole numbers of one.
+    pub unit: Option<&'a str>,
+    /// The length of a tick, which is 1 if it is left out.
+    pub tick: Option<&'a str>,
+    /// When the log ends.
+    pub until: Option<&'a str>,
+    /// The longest time without an event that is filled.
+    pub idle: Option<&'a str>,
+    /// This and the other flags as `Options` has them.
+    pub spread: bool,
+    pub align: bool,
+    pub drop_lost: bool,
+    pub merge: bool,
+}
+
+/// The options that texts and flags give.
 ///
 /// Refuses in the order of `OptionError`. Memory comes only if nodes are listed.
-pub fn read_options(
-    alloc: Global,
-    nodes: Option<&str>,
-    unit: Option<&str>,
-    tick: Option<&str>,
-    until: Option<&str>,
-    idle: Option<&str>,
-    spread: bool,
-    align: bool,
-    drop_lost: bool,
-    merge: bool,
-) -> Result<Options, OptionError>
-    ensures options { IfOk result
-        (λ o. AreOptions (option_map (λ t. t.now) nodes.entry) (option_map (λ t. t.now) unit.entry)
-        (option_map (λ t. t.now) tick.entry) (option_map (λ t. t.now) until.entry)
-        (option_map (λ t. t.now) idle.entry) spread align drop_lost merge o) }
-    ensures refused { IfErr result
-        (λ why. IsOptionFault (option_map (λ t. t.now) nodes.entry)
-        (option_map (λ t. t.now) unit.entry) (option_map (λ t. t.now) tick.entry)
-        (option_map (λ t. t.now) until.entry) (option_map (λ t. t.now) idle.entry) why) }
-    ensures more { result ≡ Err OptionError.Memory → IsSome nodes.entry }
+pub fn read_options(alloc: Global, given: &OptionTexts<'_>) -> Result<Options, OptionError>
+    ensures options { IfOk result (AreOptions (told_options given.now)) }
+    ensures refused { IfErr result (IsOptionFault (told_options given.now)) }
+    ensures more { result ≡ Err OptionError.Memory → IsSome given.now.nodes }
 {
-    let nodes = listed_nodes(alloc, nodes);
-    let times = told_times(unit, tick, until, idle);
+    let nodes = listed_nodes(alloc, given.nodes);
+    let times = told_times(given.unit, given.tick, given.until, given.idle);
     let (nodes, (unit, width, until, idle)) = both(nodes, times)?;
     Ok(Options {
         nodes,
@@ -52,10 +50,10 @@ pub fn read_options(
         width,
         until,
         idle,
-        spread,
-        align,
-        drop_lost,
-        merge,
+        spread: given.spread,
+        align: given.align,
+        drop_lost: given.drop_lost,
+        merge: given.merge,
     })
 }
 

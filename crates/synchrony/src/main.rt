@@ -236,18 +236,7 @@ fn text_in(text: &Option<String>) -> Option<&str> {
 /// Prints the trace of the log in a file, or the table of its steps, and reports on standard error how it was read. The
 /// options are read first.
 fn import(rt: &HostRuntime, job: ImportJob) -> Result<u8, Fault> {
-    let options = import_options(
-        rt.alloc(),
-        text_in(&job.options.nodes),
-        text_in(&job.options.unit),
-        text_in(&job.options.tick),
-        text_in(&job.options.until),
-        text_in(&job.options.idle),
-        job.options.spread,
-        job.options.align,
-        job.options.drop_lost,
-        job.options.merge,
-    )?;
+    let options = import_options(rt.alloc(), &job.options)?;
     let start = window_start(text_in(&job.options.from))?;
     let mut log = Input::open(rt, job.file)?;
     let mut output = Output::new(rt.stdout());

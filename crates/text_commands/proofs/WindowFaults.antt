@@ -1,6 +1,5 @@
 -- The causes of the faults of an import of a window.
 use Rattle.std.proofs.Common.{◌≡◌, ℕ, List, Option, Some, None, IfSome, Err, inl, inr, refl, subst}
-use Rattle.std.specs.Prelude.{⊤}
 use Rattle.trace_text.specs.declared.counting.Counting.{Counting}
 use Rattle.trace_text.specs.Faults.{Rose}
 use Rattle.trace_text.proofs.Bytes.{rose_by_one}

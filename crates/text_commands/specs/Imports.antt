@@ -1,10 +1,6 @@
 -- What the program makes of a log in an import.
-use Rattle.std.specs.Prelude.{ℕ, ◌≡◌, ◌≢◌, ◌⊎◌, List, Option, Some, IsTrue, ⊤, string_bytes}
+use Rattle.std.specs.Prelude.{ℕ, ◌≡◌, ◌≢◌, List, Some, ⊤, option_map, string_bytes}
 use Rattle.trace_text.specs.declared.counting.Counting.{Counting}
-use Rattle.trace_text.specs.declared.refusals.WriteError.{WriteError}
-use Rattle.trace_text.specs.ByteLoops.{MetOneFault, WroteFront}
-use Rattle.trace_text.specs.Faults.{inner_of, is_flushed}
-use Rattle.trace_text.specs.TextWriting.{Wrote}
 use Rattle.event_log.specs.declared.imports.Import.{Import}
 use Rattle.event_log.specs.declared.options.OptionError.TheVariants as no_options
 use Rattle.event_log.specs.declared.options.Options.{Options}
@@ -12,10 +8,11 @@ use Rattle.event_log.specs.declared.refusals.LogError.{LogError}
 use Rattle.event_log.specs.declared.refusals.LogError.TheVariants as no_log
 use Rattle.event_log.specs.declared.tick_rows.TickRow.{TickRow}
 use Rattle.event_log.specs.declared.times.TimeKind.{TimeKind}
-use Rattle.event_log.specs.Options.{IsOptionFault}
+use Rattle.event_log.specs.Options.{IsOptionFault, ToldOptions}
 use Rattle.log_windows.specs.LogImports.{AreLogTicks, IsLogImport, IsLogImportRefusal, IsLogTable, IsLogTicksRefusal}
 use Rattle.command_options.specs.declared.ImportForm.{ImportForm}
 use Rattle.command_options.specs.declared.ImportForm.TheVariants as forms
+use Rattle.command_options.specs.declared.ImportOptions.{ImportOptions}
 use Rattle.command_faults.specs.declared.faults.Fault.{Fault}
 use Rattle.command_faults.specs.declared.faults.Fault.TheVariants as fault
 use Rattle.command_faults.specs.declared.faults.ImportOption.{ImportOption}
@@ -30,21 +27,31 @@ IsNoLength o text (fault.Length named given) = (named ≡ o) × (string_bytes gi
 IsNoLength o text fault.Memory = ⊤
 IsNoLength o text _ = ⊥
 
--- why five texts give no options: the first of them that is bad; or out of memory
-abbrev pub IsImportOptionFault : Option (List ℕ) → Option (List ℕ) → Option (List ℕ) → Option (List ℕ) → Option (List ℕ)
-    → Fault → Type 0
-IsImportOptionFault nodes unit tick until idle (fault.Import option.Nodes) =
-    IsOptionFault nodes unit tick until idle no_options.Nodes
-IsImportOptionFault nodes unit tick until idle (fault.Import option.Unit) =
-    IsOptionFault nodes unit tick until idle no_options.Unit
-IsImportOptionFault nodes unit tick until idle (fault.Import option.Until) =
-    IsOptionFault nodes unit tick until idle no_options.Until
-IsImportOptionFault nodes unit tick until idle (fault.Length option.Tick given) =
-    IsOptionFault nodes unit tick until idle no_options.Tick × (tick ≡ Some (string_bytes given))
-IsImportOptionFault nodes unit tick until idle (fault.Length option.Idle given) =
-    IsOptionFault nodes unit tick until idle no_options.Idle × (idle ≡ Some (string_bytes given))
-IsImportOptionFault nodes unit tick until idle fault.Memory = ⊤
-IsImportOptionFault nodes unit tick until idle _ = ⊥
+-- how a log is read, as the command line says it
+abbrev pub options_in : ImportOptions → ToldOptions
+options_in given = record {
+  nodes = option_map string_bytes given.nodes;
+  unit = option_map string_bytes given.unit;
+  tick = option_map string_bytes given.tick;
+  until = option_map string_bytes given.until;
+  idle = option_map string_bytes given.idle;
+  spread = given.spread;
+  align = given.align;
+  drop_lost = given.drop_lost;
+  merge = given.merge;
+}
+
+-- why there are no options of a log: the first text that is bad; or out of memory
+abbrev pub IsImportOptionFault : ToldOptions → Fault → Type 0
+IsImportOptionFault told (fault.Import option.Nodes) = IsOptionFault told no_options.Nodes
+IsImportOptionFault told (fault.Import option.Unit) = IsOptionFault told no_options.Unit
+IsImportOptionFault told (fault.Import option.Until) = IsOptionFault told no_options.Until
+IsImportOptionFault told (fault.Length option.Tick given) =
+    IsOptionFault told no_options.Tick × (told.tick ≡ Some (string_bytes given))
+IsImportOptionFault told (fault.Length option.Idle given) =
+    IsOptionFault told no_options.Idle × (told.idle ≡ Some (string_bytes given))
+IsImportOptionFault told fault.Memory = ⊤
+IsImportOptionFault told _ = ⊥
 
 -- The text is what is printed of an import of a log by these options. That is the text of its trace in version 2, which
 -- is read back as that trace; or the table of its steps.

@@ -2,10 +2,10 @@
 
 ghost use Rattle.std.specs.Prelude.{◌≡◌, IfOk, IfErr, option_map, string_bytes};
 ghost use Rattle.command_faults.specs.Printing.{WentOut};
-ghost use Rattle.event_log.specs.Options.{AreOptions};
+ghost use Rattle.event_log.specs.Options.{AreOptions, told_options};
 ghost use Rattle.log_windows.specs.LogImports.{AreLogTicks, IsLogImport, IsLogTable};
 ghost use Rattle.text_commands.specs.Imports.{IsImportOptionFault, IsImportTold, IsNoLength};
-ghost use Rattle.text_commands.specs.Imports.{IsQuietFault, IsToldOfLogs, IsUnimported};
+ghost use Rattle.text_commands.specs.Imports.{IsQuietFault, IsToldOfLogs, IsUnimported, options_in};
 ghost use Rattle.text_commands.specs.Serving.{Serves};
 
 use crate::import_lines::notes_text;
@@ -13,51 +13,72 @@ use crate::texts::read_whole;
 use crate::tick_lines::{tick_notes, ticks_text};
 use crate::upgrades::text_2_of;
 use command_faults::{Fault, ImportOption, print_notes};
-use command_options::ImportForm;
-use event_log::{Import, LogError, LogTable, OptionError, Options, TickTable, read_options};
+use command_options::{ImportForm, ImportOptions};
+use event_log::{
+    Import, LogError, LogTable, OptionError, OptionTexts, Options, TickTable, read_options,
+};
 use log_windows::{log_import, log_table, log_ticks};
 use std::alloc::Global;
 use std::borrow::CowSlice;
 use std::io::{Read, Write};
 use trace_text::{Counting, write_text};
 
-/// How a log is read, as texts give it:
-/// - the nodes, with one comma between each two;
-/// - the unit of the times, if they are whole numbers of one;
-/// - the length of a tick, which is 1 if it is left out;
-/// - when the log ends;
-/// - the longest time without an event that gets a receive of nothing.
+/// How a log is read, by the options that are given.
 ///
-/// Refuses Import for the first of the five that gives nothing, in this order, but Length for a tick or a longest time;
-/// and Memory.
-pub fn import_options(
-    alloc: Global,
-    nodes: Option<&str>,
-    unit: Option<&str>,
-    tick: Option<&str>,
-    until: Option<&str>,
-    idle: Option<&str>,
-    spread: bool,
-    align: bool,
-    drop_lost: bool,
-    merge: bool,
-) -> Result<Options, Fault>
-    ensures options { IfOk result
-        (λ o. AreOptions (option_map (λ t. t.now) nodes.entry) (option_map (λ t. t.now) unit.entry)
-        (option_map (λ t. t.now) tick.entry) (option_map (λ t. t.now) until.entry)
-        (option_map (λ t. t.now) idle.entry) spread align drop_lost merge o) }
-    ensures refused { IfErr result
-        (IsImportOptionFault (option_map (λ t. t.now) nodes.entry)
-        (option_map (λ t. t.now) unit.entry) (option_map (λ t. t.now) tick.entry)
-        (option_map (λ t. t.now) until.entry) (option_map (λ t. t.now) idle.entry)) }
+/// Refuses Import for the first text of these that gives nothing, in this order, but Length for a tick or a longest
+/// time: the nodes, the unit, the tick, the end, and the longest time without an event. Memory may come instead.
+pub fn import_options(alloc: Global, given: &ImportOptions) -> Result<Options, Fault>
+    ensures options { IfOk result (AreOptions (options_in given.now)) }
+    ensures refused { IfErr result (IsImportOptionFault (options_in given.now)) }
 {
-    match read_options(
-        alloc, nodes, unit, tick, until, idle, spread, align, drop_lost, merge,
-    ) {
+    options_of(alloc, &texts_in(given))
+}
+
+/// How a log is read, by these texts.
+fn options_of(alloc: Global, texts: &OptionTexts<'_>) -> Result<Options, Fault>
+    ensures options { IfOk result (AreOptions (told_options texts.now)) }
+    ensures refused { IfErr result (IsImportOptionFault (told_options texts.now)) }
+{
+    match read_options(alloc, texts) {
         Ok(options) => Ok(options),
-        Err(OptionError::Tick) => Err(no_length(alloc, ImportOption::Tick, tick.unwrap_or(""))),
-        Err(OptionError::Idle) => Err(no_length(alloc, ImportOption::Idle, idle.unwrap_or(""))),
+        Err(OptionError::Tick) => Err(no_length(
+            alloc,
+            ImportOption::Tick,
+            texts.tick.unwrap_or(""),
+        )),
+        Err(OptionError::Idle) => Err(no_length(
+            alloc,
+            ImportOption::Idle,
+            texts.idle.unwrap_or(""),
+        )),
         Err(why) => Err(Fault::from(why)),
+    }
+}
+
+/// The options that are given, as texts.
+fn texts_in(given: &ImportOptions) -> OptionTexts<'_>
+    ensures { told_options result ≡ options_in given.now }
+{
+    OptionTexts {
+        nodes: text_in(&given.nodes),
+        unit: text_in(&given.unit),
+        tick: text_in(&given.tick),
+        until: text_in(&given.until),
+        idle: text_in(&given.idle),
+        spread: given.spread,
+        align: given.align,
+        drop_lost: given.drop_lost,
+        merge: given.merge,
+    }
+}
+
+/// The text, if one is given.
+fn text_in(text: &Option<String>) -> Option<&str>
+    ensures { option_map (λ t. t.now) result ≡ option_map string_bytes text.now }
+{
+    match text {
+        Some(text) => Some(text.as_str()),
+        None => None,
     }
 }
 

@@ -5,6 +5,8 @@ use Rattle.clap.specs.Words.{App, Row, first_of}
 use Rattle.step_trace.specs.declared.correct_sets.Correct.{Correct}
 use Rattle.step_trace.specs.declared.correct_sets.Correct.TheVariants as correct
 use Rattle.step_trace.specs.CorrectSets.{IsCorrectIn}
+use Rattle.command_options.specs.declared.Judging.{Judging}
+use Rattle.command_line.specs.declared.jobs.judge.JudgeAsked.{JudgeAsked}
 use Rattle.command_line.specs.declared.jobs.Job.{Job}
 use Rattle.command_line.specs.declared.jobs.Job.TheVariants as job
 use Rattle.command_line.specs.declared.line_errors.LineError.{LineError}
@@ -48,87 +50,96 @@ IsDecisionsFault name (Some decided) true e = IsEitherRefusal e
 IsDecisionsFault name (Some decided) false e = IsOneInputRefusal name decided e
 IsDecisionsFault name None true e = ⊥
 
+-- what decisions are judged for: within a formula, by what is asked
+pub record IsJudging (correct : Correct) (within : List ℕ) (asked : JudgeAsked) (j : Judging) : Type 0 where
+  pub correct_is : j.correct ≡ correct
+  pub within_is : string_bytes j.within ≡ within
+  pub start_is : j.start ≡ asked.start
+  pub valid_is : j.valid ≡ asked.valid
+  pub whole_is : j.whole ≡ asked.whole
+  pub due_is : j.due ≡ asked.due
+  pub factor_is : j.factor ≡ asked.factor
+  pub rows_are : j.rows ≡ asked.rows
+  pub replay_is : j.replay ≡ asked.replay
+
+-- the judgement of the decisions of the second file, or of the replay, for the processors of this list
+abbrev pub IsJudge : List ℕ → Option (List ℕ) → List ℕ → List ℕ → JudgeAsked → Job → Type 0
+IsJudge name decided list within asked (job.Judge j) = (string_bytes j.file ≡ name)
+    × AreDecisionsIn name decided asked.replay (option_map string_bytes j.decisions)
+    × ((correct : Correct) × IsCorrectIn list correct × IsJudging correct within asked j.judging)
+IsJudge name decided list within asked _ = ⊥
+
+-- of one run there must be such a list
+abbrev pub IsOneOf : List ℕ → Option (List ℕ) → Option (List ℕ) → List ℕ → JudgeAsked → Job → Type 0
+IsOneOf name decided None within asked j = ⊥
+IsOneOf name decided (Some list) within asked j = IsJudge name decided list within asked j
+
 -- the refusal of a text that is no list, or else of the decisions; or out of memory
 abbrev pub IsJudgeFault : List ℕ → Option (List ℕ) → List ℕ → Bool → LineError → Type 0
 IsJudgeFault name decided list replay e = IsListFault list e
     ⊎ (((correct : Correct) × IsCorrectIn list correct) × IsDecisionsFault name decided replay e)
 
--- the judgement of the decisions of the second file, or of the replay, for the processors of this list, within a
--- formula, with these options
-abbrev pub IsJudge : List ℕ → Option (List ℕ) → List ℕ → List ℕ → Option ℕ → Bool → Bool → Option ℕ → Bool → Bool → Bool
-    → Job → Type 0
-IsJudge name decided list within start valid whole due factor table replay (job.Judge j) =
-    (string_bytes j.file ≡ name) × AreDecisionsIn name decided replay (option_map string_bytes j.decisions)
-    × IsCorrectIn list j.judging.correct × (string_bytes j.judging.within ≡ within)
-    × (j.judging.start ≡ start) × (j.judging.valid ≡ valid) × (j.judging.whole ≡ whole) × (j.judging.due ≡ due)
-    × (j.judging.factor ≡ factor) × (j.judging.rows ≡ table)
-    × (j.judging.replay ≡ replay)
-IsJudge name decided list within start valid whole due factor table replay _ = ⊥
+-- a run with no list of its correct processors is refused in these words; or out of memory
+abbrev pub IsNoListRefusal : LineError → Type 0
+IsNoListRefusal (unread.Refused text) =
+    string_bytes text ≡ codes "synchrony: judge takes either --correct LIST or --runs"
+IsNoListRefusal _ = ⊥
+
+abbrev pub IsNoListFault : LineError → Type 0
+IsNoListFault unread.Memory = Unit {0}
+IsNoListFault e = IsNoListRefusal e
+
+-- why one run isn't judged
+abbrev pub IsOneFault : List ℕ → Option (List ℕ) → Option (List ℕ) → Bool → LineError → Type 0
+IsOneFault name decided None replay e = IsNoListFault e
+IsOneFault name decided (Some list) replay e = IsJudgeFault name decided list replay e
 
 -- the correct processors of a run for which the list of runs names none: all, if no list of processors is given
 abbrev pub IsSetOfRuns : Option (List ℕ) → Correct → Type 0
 IsSetOfRuns None found = found ≡ correct.All
 IsSetOfRuns (Some list) found = IsCorrectIn list found
 
--- the judgement of the runs that the file of this name lists, within a formula, with these options
-abbrev pub IsRuns : List ℕ → Option (List ℕ) → List ℕ → Option ℕ → Bool → Bool → Option ℕ → Job → Type 0
-IsRuns name list within start valid whole due (job.JudgeRuns j) =
-    (string_bytes j.list ≡ name) × IsSetOfRuns list j.judging.correct × (string_bytes j.judging.within ≡ within)
-    × (j.judging.start ≡ start) × (j.judging.valid ≡ valid) × (j.judging.whole ≡ whole) × (j.judging.due ≡ due)
-    × (j.judging.factor ≡ false) × (j.judging.rows ≡ false)
-    × (j.judging.replay ≡ false)
-IsRuns name list within start valid whole due _ = ⊥
+-- the judgement of the runs that the file of this name lists
+abbrev pub IsRuns : List ℕ → Option (List ℕ) → List ℕ → JudgeAsked → Job → Type 0
+IsRuns name list within asked (job.JudgeRuns j) = (string_bytes j.list ≡ name)
+    × ((correct : Correct) × IsSetOfRuns list correct × IsJudging correct within asked j.judging)
+IsRuns name list within asked _ = ⊥
+
+-- whether something is asked for that goes with one run alone
+abbrev pub is_for_one : Option (List ℕ) → JudgeAsked → Bool
+is_for_one decided asked = is_some decided || (asked.factor || (asked.rows || asked.replay))
+
+-- which is refused in these words; or out of memory
+abbrev pub IsForOneRefusal : LineError → Type 0
+IsForOneRefusal (unread.Refused text) =
+    string_bytes text ≡ codes "synchrony: judge --runs takes no DECISIONS, --factor, --rows or --replay"
+IsForOneRefusal _ = ⊥
+
+abbrev pub IsForOneFault : LineError → Type 0
+IsForOneFault unread.Memory = Unit {0}
+IsForOneFault e = IsForOneRefusal e
+
+-- the judgement of runs for which nothing of that is asked
+abbrev pub IsRunsOf : List ℕ → Option (List ℕ) → Option (List ℕ) → List ℕ → JudgeAsked → Job → Type 0
+IsRunsOf name decided list within asked j = (is_for_one decided asked ≡ false) × IsRuns name list within asked j
 
 -- the refusal of a text that is no list of processors; or out of memory
 abbrev pub IsRunsFault : Option (List ℕ) → LineError → Type 0
 IsRunsFault None e = IsMemory e
 IsRunsFault (Some list) e = IsListFault list e
 
--- whether something is asked for that goes with one run alone
-abbrev pub is_for_one : Option (List ℕ) → Bool → Bool → Bool → Bool
-is_for_one decided factor table replay = is_some decided || (factor || (table || replay))
-
--- which is refused in these words
-abbrev pub IsForOneRefusal : LineError → Type 0
-IsForOneRefusal (unread.Refused text) =
-    string_bytes text ≡ codes "synchrony: judge --runs takes no DECISIONS, --factor, --rows or --replay"
-IsForOneRefusal _ = ⊥
-
--- a run with no list of its correct processors is refused in these words
-abbrev pub IsNoListRefusal : LineError → Type 0
-IsNoListRefusal (unread.Refused text) =
-    string_bytes text ≡ codes "synchrony: judge takes either --correct LIST or --runs"
-IsNoListRefusal _ = ⊥
-
--- the judgement of one run, or of those of a list
-abbrev pub IsJudgeOf : Bool → List ℕ → Option (List ℕ) → Option (List ℕ) → List ℕ → Option ℕ → Bool → Bool → Option ℕ
-    → Bool → Bool → Bool → Job → Type 0
-IsJudgeOf true name decided list within start valid whole due factor table replay j =
-    (is_for_one decided factor table replay ≡ false) × IsRuns name list within start valid whole due j
-IsJudgeOf false name decided (Some list) within start valid whole due factor table replay j =
-    IsJudge name decided list within start valid whole due factor table replay j
-IsJudgeOf false name decided None within start valid whole due factor table replay j = ⊥
-
 -- why the runs of a list aren't judged: an argument is for one run alone, or else their set is none; or out of memory
-abbrev pub IsForOneFault : LineError → Type 0
-IsForOneFault unread.Memory = Unit {0}
-IsForOneFault e = IsForOneRefusal e
-
 abbrev pub IsRunsFaultOf : Bool → Option (List ℕ) → LineError → Type 0
 IsRunsFaultOf true list e = IsForOneFault e
 IsRunsFaultOf false list e = IsRunsFault list e
 
--- why one run without a list of processors isn't judged; or out of memory
-abbrev pub IsNoListFault : LineError → Type 0
-IsNoListFault unread.Memory = Unit {0}
-IsNoListFault e = IsNoListRefusal e
-
--- why there is no judgement of the runs of a list, or of one run
-abbrev pub IsJudgeFaultOf : Bool → List ℕ → Option (List ℕ) → Option (List ℕ) → Bool → Bool → Bool → LineError → Type 0
-IsJudgeFaultOf true name decided list factor table replay e =
-    IsRunsFaultOf (is_for_one decided factor table replay) list e
-IsJudgeFaultOf false name decided None factor table replay e = IsNoListFault e
-IsJudgeFaultOf false name decided (Some list) factor table replay e = IsJudgeFault name decided list replay e
+-- what files of these names give, for this list, within a formula, by what is asked: the judgement of the runs of a
+-- list, or that of one run
+abbrev pub judge_gives : Bool → List ℕ → Option (List ℕ) → Option (List ℕ) → List ℕ → JudgeAsked → Given → Type 0
+judge_gives true name decided list within asked =
+    answers (IsRunsOf name decided list within asked) (IsRunsFaultOf (is_for_one decided asked) list)
+judge_gives false name decided list within asked =
+    answers (IsOneOf name decided list within asked) (IsOneFault name decided list asked.replay)
 
 -- what the rows below `judge` give
 abbrev pub judge_given : List Row → Given → Type 0
@@ -143,7 +154,12 @@ judge_given rows = do
   table ← flag_in rows (codes "rows")
   replay ← flag_in rows (codes "replay")
   runs ← flag_in rows (codes "runs")
-  answers (IsJudgeOf runs file (first_of (codes "decisions") rows)
-      (first_of (codes "correct") rows) within start valid whole due factor table replay)
-      (IsJudgeFaultOf runs file (first_of (codes "decisions") rows)
-      (first_of (codes "correct") rows) factor table replay)
+  judge_gives runs file (first_of (codes "decisions") rows) (first_of (codes "correct") rows) within (record {
+    start = start;
+    valid = valid;
+    whole = whole;
+    due = due;
+    factor = factor;
+    rows = table;
+    replay = replay;
+  })

@@ -14,6 +14,7 @@ use Rattle.command_options.specs.declared.simulations.SimulationOptions.{Simulat
 use Rattle.command_options.specs.declared.simulations.TheConstants.{MAX_BOUND}
 use Rattle.command_line.specs.declared.jobs.Job.{Job}
 use Rattle.command_line.specs.declared.jobs.Job.TheVariants as job
+use Rattle.command_line.specs.declared.jobs.simulate.SimulateNumbers.{SimulateNumbers}
 use Rattle.command_line.specs.declared.jobs.simulate.TheConstants.{MAX_PATIENCE}
 use Rattle.command_line.specs.declared.line_errors.LineError.{LineError}
 use Rattle.command_line.specs.declared.line_errors.LineError.TheVariants as unread
@@ -116,24 +117,23 @@ IsBoundsFault lives gst delta phi (unread.Refused words) =
     bounds_refusal lives gst delta phi ≡ Some (string_bytes words)
 IsBoundsFault lives gst delta phi unread.Memory = ⊤
 
--- The job is the simulation of this configuration, with these numbers, this schedule, these bounds and these crashes.
-pub record IsSimulationOf (n t : ℕ) (values : List ℕ) (patience steps seed : ℕ) (name : Option Text)
-    (gst delta phi : Option ℕ) (crash : Option Text) (loss : Option ℕ) (o : SimulationOptions) : Type 0 where
-  pub config : IsConfigOf n t values o.config
-  pub patience_is : o.patience ≡ patience
-  pub steps_is : o.steps ≡ steps
-  pub seed_is : o.seed ≡ seed
+-- The job is the simulation with these numbers, of the configuration with these values, by this schedule, with these
+-- crashes.
+pub record IsSimulationOf (x : SimulateNumbers) (values : List ℕ) (name crash : Option Text)
+    (o : SimulationOptions) : Type 0 where
+  pub config : IsConfigOf x.n x.t values o.config
+  pub patience_is : o.patience ≡ x.patience
+  pub steps_is : o.steps ≡ x.steps
+  pub seed_is : o.seed ≡ x.seed
   pub schedule_is : schedule_of name ≡ Some o.schedule
-  pub bounds_are : AreStated gst delta phi o.bounds
+  pub bounds_are : AreStated x.gst x.delta x.phi o.bounds
   pub crashes_are : AreNamed crash o.crashes.items
   pub one_each : AreOfEach o.config o.crashes.items
-  pub loss_is : o.loss ≡ unwrap_or loss 0
+  pub loss_is : o.loss ≡ unwrap_or x.loss 0
 
-abbrev pub IsSimulation : ℕ → ℕ → List ℕ → ℕ → ℕ → ℕ → Option Text → Option ℕ → Option ℕ → Option ℕ → Option Text
-    → Option ℕ → Job → Type 0
-IsSimulation n t values patience steps seed name gst delta phi crash loss (job.Simulate o) =
-    IsSimulationOf n t values patience steps seed name gst delta phi crash loss o
-IsSimulation n t values patience steps seed name gst delta phi crash loss _ = ⊥
+abbrev pub IsSimulation : SimulateNumbers → List ℕ → Option Text → Option Text → Job → Type 0
+IsSimulation x values name crash (job.Simulate o) = IsSimulationOf x values name crash o
+IsSimulation x values name crash _ = ⊥
 
 -- There is such a schedule, but the crashes are no list.
 pub record IsOfNoCrashes (name crash : Option Text) (why : LineError) : Type 0 where
@@ -142,41 +142,46 @@ pub record IsOfNoCrashes (name crash : Option Text) (why : LineError) : Type 0 w
   pub refused : IsCrashListFault crash why
 
 -- Schedule and crashes are what they should be, but there is no such configuration.
-pub record IsOfNoConfig (n t : ℕ) (values : List ℕ) (name crash : Option Text) (why : LineError) : Type 0 where
-  pub schedule : Schedule
-  pub scheduled : schedule_of name ≡ Some schedule
-  pub crashes : List Crash
-  pub named : AreNamed crash crashes
-  pub refused : IsConfigFault n t values why
-
--- There is such a configuration too, but the bounds are refused for its live processors, or else the crashes are.
-pub record IsUnkept (n t : ℕ) (values : List ℕ) (name : Option Text) (gst delta phi : Option ℕ) (crash : Option Text)
+pub record IsOfNoConfig (x : SimulateNumbers) (values : List ℕ) (name crash : Option Text)
     (why : LineError) : Type 0 where
   pub schedule : Schedule
   pub scheduled : schedule_of name ≡ Some schedule
   pub crashes : List Crash
   pub named : AreNamed crash crashes
+  pub refused : IsConfigFault x.n x.t values why
+
+-- There is such a configuration too, but the bounds are refused for its live processors, or else the crashes are.
+pub record IsUnkept (x : SimulateNumbers) (values : List ℕ) (name crash : Option Text) (why : LineError) : Type 0 where
+  pub schedule : Schedule
+  pub scheduled : schedule_of name ≡ Some schedule
+  pub crashes : List Crash
+  pub named : AreNamed crash crashes
   pub config : Setup
-  pub configured : IsConfigOf n t values config
-  pub refused : IsBoundsFault (length (live config.n crashes)) gst delta phi why
-      ⊎ ((bounds_refusal (length (live config.n crashes)) gst delta phi ≡ None) × IsCrashFault config crashes why)
+  pub configured : IsConfigOf x.n x.t values config
+  pub refused : IsBoundsFault (length (live config.n crashes)) x.gst x.delta x.phi why
+      ⊎ ((bounds_refusal (length (live config.n crashes)) x.gst x.delta x.phi ≡ None)
+      × IsCrashFault config crashes why)
 
 -- the first refusal: of the schedule, the list of crashes, the configuration, the bounds, or who crashes; or out of
 -- memory
-abbrev pub IsSimulationFault : ℕ → ℕ → List ℕ → Option Text → Option ℕ → Option ℕ → Option ℕ → Option Text
-    → LineError → Type 0
-IsSimulationFault n t values name gst delta phi crash (unread.Refused words) =
+abbrev pub IsSimulationFault : SimulateNumbers → List ℕ → Option Text → Option Text → LineError → Type 0
+IsSimulationFault x values name crash (unread.Refused words) =
     IsScheduleFault name (unread.Refused words)
-    ⊎ (IsOfNoCrashes name crash (unread.Refused words) ⊎ (IsOfNoConfig n t values name crash (unread.Refused words)
-    ⊎ IsUnkept n t values name gst delta phi crash (unread.Refused words)))
-IsSimulationFault n t values name gst delta phi crash unread.Memory = ⊤
+    ⊎ (IsOfNoCrashes name crash (unread.Refused words) ⊎ (IsOfNoConfig x values name crash (unread.Refused words)
+    ⊎ IsUnkept x values name crash (unread.Refused words)))
+IsSimulationFault x values name crash unread.Memory = ⊤
+
+-- what the command line gives with these numbers
+abbrev pub simulate_gives : SimulateNumbers → List ℕ → Option Text → Option Text → Given → Type 0
+simulate_gives x values name crash =
+    answers (IsSimulation x values name crash) (IsSimulationFault x values name crash)
 
 -- what the rows below `simulate` give
 abbrev pub simulate_given : List Row → Given → Type 0
 simulate_given rows = do
+  values ← first_of (codes "values") rows
   n ← number_in rows (codes "nodes") 0 (2 ^ 64 - 1)
   t ← number_in rows (codes "faults") 0 (2 ^ 64 - 1)
-  values ← first_of (codes "values") rows
   patience ← number_in rows (codes "patience") 1 MAX_PATIENCE
   steps ← number_in rows (codes "steps") 0 MAX_STEPS
   seed ← number_in rows (codes "seed") 0 (2 ^ 64 - 1)
@@ -184,6 +189,14 @@ simulate_given rows = do
   delta ← optional_number_in rows (codes "delta") 1 MAX_BOUND
   phi ← optional_number_in rows (codes "phi") 1 MAX_BOUND
   loss ← optional_number_in rows (codes "loss") 0 100
-  answers (IsSimulation n t values patience steps seed (first_of (codes "schedule") rows) gst delta phi
-      (first_of (codes "crash") rows) loss)
-      (IsSimulationFault n t values (first_of (codes "schedule") rows) gst delta phi (first_of (codes "crash") rows))
+  simulate_gives (record {
+    n = n;
+    t = t;
+    patience = patience;
+    steps = steps;
+    seed = seed;
+    gst = gst;
+    delta = delta;
+    phi = phi;
+    loss = loss;
+  }) values (first_of (codes "schedule") rows) (first_of (codes "crash") rows)

@@ -1,10 +1,10 @@
 //! The command `import`: its words and its help text, and the job that they give.
 
-ghost use Rattle.std.specs.Prelude.{◌≡◌, IfOk, IfErr, option_map};
+ghost use Rattle.std.specs.Prelude.{◌≡◌, IfOk, IfErr};
 ghost use Rattle.clap.specs.Words.{found_of, rows_of};
 ghost use Rattle.command_line.specs.Arguments.{IsCommand, IsMemory};
 ghost use Rattle.command_line.specs.Commands.Import.{IsImport, IsImportFault, IsImportOf, IsOneLengthRefusal};
-ghost use Rattle.command_line.specs.Commands.Import.{form_of, import_app, import_given, is_for_one_length};
+ghost use Rattle.command_line.specs.Commands.Import.{form_of, import_app, import_given, is_refused, texts_in};
 
 use crate::jobs::Job;
 use crate::jobs::arguments::{
@@ -74,6 +74,17 @@ pub fn command<'a>(alloc: Global) -> Result<Command<'a>, AllocError>
     new_command(alloc, "import", ABOUT, help(), arguments)
 }
 
+/// What the flags of `import` ask for.
+#[derive(Clone, Copy)]
+pub(crate) struct ImportFlags {
+    spread: bool,
+    align: bool,
+    drop_lost: bool,
+    merge: bool,
+    table: bool,
+    ticks: bool,
+}
+
 /// The job that the words after `import` ask for; None if one is missing. The texts of its options are read
 /// elsewhere.
 ///
@@ -82,71 +93,40 @@ pub fn job(alloc: Global, found: &ArgMatches<'_>) -> Option<Result<Job, LineErro
     ensures { import_given (rows_of (found_of found.now)) result }
 {
     let log = text(found, "log")?;
-    let spread = flag(found, "spread")?;
-    let align = flag(found, "align")?;
-    let drop_lost = flag(found, "drop-lost")?;
-    let merge = flag(found, "merge")?;
-    let table = flag(found, "table")?;
-    let ticks = flag(found, "ticks")?;
-    let nodes = text(found, "nodes");
-    let unit = text(found, "unit");
-    let tick = text(found, "tick");
-    let until = text(found, "until");
-    let from = text(found, "from");
-    let idle = text(found, "idle");
-    Some(import_of(
-        alloc, ticks, log, nodes, unit, tick, until, from, idle, spread, align, drop_lost, merge,
-        table,
-    ))
+    let flags = ImportFlags {
+        spread: flag(found, "spread")?,
+        align: flag(found, "align")?,
+        drop_lost: flag(found, "drop-lost")?,
+        merge: flag(found, "merge")?,
+        table: flag(found, "table")?,
+        ticks: flag(found, "ticks")?,
+    };
+    Some(import_of(alloc, found, log, flags))
 }
 
 /// The job of an import, or of the table of the lengths of a tick.
 fn import_of(
     alloc: Global,
-    ticks: bool,
+    found: &ArgMatches<'_>,
     log: &str,
-    nodes: Option<&str>,
-    unit: Option<&str>,
-    tick: Option<&str>,
-    until: Option<&str>,
-    from: Option<&str>,
-    idle: Option<&str>,
-    spread: bool,
-    align: bool,
-    drop_lost: bool,
-    merge: bool,
-    table: bool,
+    flags: ImportFlags,
 ) -> Result<Job, LineError>
-    ensures job { IfOk result
-        (IsImportOf ticks log.now (option_map (λ t. t.now) nodes.entry)
-        (option_map (λ t. t.now) unit.entry) (option_map (λ t. t.now) tick.entry)
-        (option_map (λ t. t.now) until.entry) (option_map (λ t. t.now) from.entry)
-        (option_map (λ t. t.now) idle.entry) spread align drop_lost merge table) }
+    ensures job { IfOk result (IsImportOf log.now flags (texts_in (rows_of (found_of found.now)))) }
     ensures refused { IfErr result
-        (IsImportFault ticks (option_map (λ t. t.now) tick.entry)
-        (option_map (λ t. t.now) idle.entry) merge table) }
+        (IsImportFault (is_refused flags (texts_in (rows_of (found_of found.now))))) }
 {
-    if ticks {
-        if is_for_one_length(tick, idle, merge, table) {
-            return Err(for_one_length(alloc)?);
-        }
-        let form = ImportForm::Ticks;
-        return import(
-            alloc, log, nodes, unit, tick, until, from, idle, spread, align, drop_lost, merge, form,
-        );
+    if is_refused(found, flags) {
+        return Err(for_one_length(alloc)?);
     }
-    let form = form_of(table);
-    import(
-        alloc, log, nodes, unit, tick, until, from, idle, spread, align, drop_lost, merge, form,
-    )
+    import(alloc, found, log, flags)
 }
 
-/// Whether something is asked for that goes with ticks of one length.
-fn is_for_one_length(tick: Option<&str>, idle: Option<&str>, merge: bool, table: bool) -> bool
-    ensures { result ≡ is_for_one_length (option_map (λ t. t.now) tick.entry)
-        (option_map (λ t. t.now) idle.entry) merge table }
+/// Whether something goes with ticks of one length, though the table of lengths is asked for.
+fn is_refused(found: &ArgMatches<'_>, flags: ImportFlags) -> bool
+    ensures { result ≡ is_refused flags (texts_in (rows_of (found_of found.now))) }
 {
-    tick.is_some() || idle.is_some() || merge || table
+    let has_length = text(found, "tick").is_some() || text(found, "idle").is_some();
+    flags.ticks && (has_length || flags.merge || flags.table)
 }
 
 /// The refusal of what goes with ticks of one length.
@@ -160,11 +140,14 @@ fn for_one_length(alloc: Global) -> Result<LineError, AllocError>
     Ok(LineError::Refused(text))
 }
 
-/// What is printed, by whether the table is asked for.
-fn form_of(table: bool) -> ImportForm
-    ensures { result ≡ form_of table }
+/// What is printed.
+fn form_of(flags: ImportFlags) -> ImportForm
+    ensures { result ≡ form_of flags }
 {
-    if table {
+    if flags.ticks {
+        return ImportForm::Ticks;
+    }
+    if flags.table {
         return ImportForm::Table;
     }
     ImportForm::Trace
@@ -173,39 +156,26 @@ fn form_of(table: bool) -> ImportForm
 /// The job of an import with these words.
 fn import(
     alloc: Global,
+    found: &ArgMatches<'_>,
     log: &str,
-    nodes: Option<&str>,
-    unit: Option<&str>,
-    tick: Option<&str>,
-    until: Option<&str>,
-    from: Option<&str>,
-    idle: Option<&str>,
-    spread: bool,
-    align: bool,
-    drop_lost: bool,
-    merge: bool,
-    form: ImportForm,
+    flags: ImportFlags,
 ) -> Result<Job, LineError>
-    ensures job { IfOk result
-        (IsImport log.now (option_map (λ t. t.now) nodes.entry) (option_map (λ t. t.now) unit.entry)
-        (option_map (λ t. t.now) tick.entry) (option_map (λ t. t.now) until.entry)
-        (option_map (λ t. t.now) from.entry) (option_map (λ t. t.now) idle.entry) spread align
-        drop_lost merge form) }
+    ensures job { IfOk result (IsImport log.now flags (texts_in (rows_of (found_of found.now)))) }
     ensures refused { IfErr result IsMemory }
 {
     let file = String::from_str(alloc, log)?;
     let options = ImportOptions {
-        nodes: kept(alloc, nodes)?,
-        unit: kept(alloc, unit)?,
-        tick: kept(alloc, tick)?,
-        until: kept(alloc, until)?,
-        from: kept(alloc, from)?,
-        idle: kept(alloc, idle)?,
-        spread,
-        align,
-        drop_lost,
-        merge,
-        form,
+        nodes: kept(alloc, text(found, "nodes"))?,
+        unit: kept(alloc, text(found, "unit"))?,
+        tick: kept(alloc, text(found, "tick"))?,
+        until: kept(alloc, text(found, "until"))?,
+        from: kept(alloc, text(found, "from"))?,
+        idle: kept(alloc, text(found, "idle"))?,
+        spread: flags.spread,
+        align: flags.align,
+        drop_lost: flags.drop_lost,
+        merge: flags.merge,
+        form: form_of(flags),
     };
     Ok(Job::Import(ImportJob { file, options }))
 }

@@ -4,8 +4,8 @@ ghost use Rattle.std.specs.Prelude.{◌≡◌, IfOk, IfErr, codes, option_map, s
 ghost use Rattle.clap.specs.Words.{found_of, rows_of};
 ghost use Rattle.command_line.specs.Arguments.{IsArgument, IsCommand, tick_rule};
 ghost use Rattle.command_line.specs.Commands.Judge.{AreDecisionsIn, IsDecisionsFault, IsEitherRefusal, IsForOneRefusal};
-ghost use Rattle.command_line.specs.Commands.Judge.{IsJudge, IsJudgeFault, IsJudgeOf, IsJudgeFaultOf, IsNoListRefusal};
-ghost use Rattle.command_line.specs.Commands.Judge.{IsRuns, IsRunsFault, is_for_one, judge_app, judge_given};
+ghost use Rattle.command_line.specs.Commands.Judge.{IsJudging, IsNoListRefusal, IsOneFault, IsOneOf, IsRunsFaultOf};
+ghost use Rattle.command_line.specs.Commands.Judge.{IsRunsOf, is_for_one, judge_app, judge_given};
 
 use crate::jobs::Job;
 use crate::jobs::arguments::{
@@ -93,6 +93,18 @@ fn due_argument<'a>(alloc: Global) -> Arg<'a>
     optional_argument(alloc, "due", "K", DUE_HELP).value_parser(ValueParser::unsigned(0, u64::MAX))
 }
 
+/// What is asked of a judgement besides its files, its processors and its formula.
+#[derive(Clone, Copy)]
+pub(crate) struct JudgeAsked {
+    start: Option<u64>,
+    valid: bool,
+    whole: bool,
+    due: Option<u64>,
+    factor: bool,
+    rows: bool,
+    replay: bool,
+}
+
 /// The job that the words after `judge` ask for; None if one is missing. The formula is read elsewhere.
 ///
 /// Refuses, without --runs: a missing list of processors, or one that isn't one; then decisions both of a file and of
@@ -103,62 +115,28 @@ pub fn job(alloc: Global, found: &ArgMatches<'_>) -> Option<Result<Job, LineErro
 {
     let file = text(found, "file")?;
     let within = text(found, "within")?;
-    let start = tick(found, "start")?;
-    let valid = flag(found, "valid")?;
-    let whole = flag(found, "whole")?;
-    let due = tick(found, "due")?;
-    let factor = flag(found, "factor")?;
-    let rows = flag(found, "rows")?;
-    let replay = flag(found, "replay")?;
-    let runs = flag(found, "runs")?;
+    let asked = JudgeAsked {
+        start: tick(found, "start")?,
+        valid: flag(found, "valid")?,
+        whole: flag(found, "whole")?,
+        due: tick(found, "due")?,
+        factor: flag(found, "factor")?,
+        rows: flag(found, "rows")?,
+        replay: flag(found, "replay")?,
+    };
     let decisions = text(found, "decisions");
     let list = text(found, "correct");
-    Some(judge_of(
-        alloc, runs, file, decisions, list, within, start, valid, whole, due, factor, rows, replay,
-    ))
-}
-
-/// The job of a judgement of one run, or of those of a list.
-fn judge_of(
-    alloc: Global,
-    runs: bool,
-    file: &str,
-    decisions: Option<&str>,
-    list: Option<&str>,
-    within: &str,
-    start: Option<u64>,
-    valid: bool,
-    whole: bool,
-    due: Option<u64>,
-    factor: bool,
-    rows: bool,
-    replay: bool,
-) -> Result<Job, LineError>
-    ensures job { IfOk result (IsJudgeOf runs file.now (option_map (λ d. d.now) decisions.entry)
-        (option_map (λ l. l.now) list.entry) within.now start valid whole due factor rows replay) }
-    ensures refused { IfErr result
-        (IsJudgeFaultOf runs file.now (option_map (λ d. d.now) decisions.entry)
-        (option_map (λ l. l.now) list.entry) factor rows replay) }
-{
-    if runs {
-        if is_for_one(decisions, factor, rows, replay) {
-            return Err(for_one(alloc)?);
-        }
-        return judge_runs(alloc, file, list, within, start, valid, whole, due);
+    if flag(found, "runs")? {
+        return Some(judge_runs(alloc, file, decisions, list, within, asked));
     }
-    match list {
-        Some(list) => judge(
-            alloc, file, decisions, list, within, start, valid, whole, due, factor, rows, replay,
-        ),
-        None => Err(no_list(alloc)?),
-    }
+    Some(judge_one(alloc, file, decisions, list, within, asked))
 }
 
 /// Whether something is asked for that goes with one run alone.
-fn is_for_one(decisions: Option<&str>, factor: bool, rows: bool, replay: bool) -> bool
-    ensures { result ≡ is_for_one (option_map (λ d. d.now) decisions.entry) factor rows replay }
+fn is_for_one(decisions: Option<&str>, asked: JudgeAsked) -> bool
+    ensures { result ≡ is_for_one (option_map (λ d. d.now) decisions.entry) asked }
 {
-    decisions.is_some() || factor || rows || replay
+    decisions.is_some() || asked.factor || asked.rows || asked.replay
 }
 
 /// The refusal of what goes with one run alone.
@@ -187,76 +165,80 @@ fn no_list(alloc: Global) -> Result<LineError, AllocError>
 fn judge_runs(
     alloc: Global,
     file: &str,
+    decisions: Option<&str>,
     list: Option<&str>,
     within: &str,
-    start: Option<u64>,
-    valid: bool,
-    whole: bool,
-    due: Option<u64>,
+    asked: JudgeAsked,
 ) -> Result<Job, LineError>
     ensures job { IfOk result
-        (IsRuns file.now (option_map (λ l. l.now) list.entry) within.now start valid whole due) }
-    ensures refused { IfErr result (IsRunsFault (option_map (λ l. l.now) list.entry)) }
+        (IsRunsOf file.now (option_map (λ d. d.now) decisions.entry)
+        (option_map (λ l. l.now) list.entry) within.now asked) }
+    ensures refused { IfErr result
+        (IsRunsFaultOf (is_for_one (option_map (λ d. d.now) decisions.entry) asked)
+        (option_map (λ l. l.now) list.entry)) }
 {
+    if is_for_one(decisions, asked) {
+        return Err(for_one(alloc)?);
+    }
     let correct = match list {
         Some(list) => correct_in(alloc, "correct", list)?,
         None => Correct::All,
     };
     let list = String::from_str(alloc, file)?;
-    let judging = Judging {
-        correct,
-        within: String::from_str(alloc, within)?,
-        start,
-        valid,
-        whole,
-        due,
-        factor: false,
-        rows: false,
-        replay: false,
-    };
+    let judging = judging_of(alloc, correct, within, asked)?;
     Ok(Job::JudgeRuns(RunsJob { list, judging }))
 }
 
-/// The job of a judgement with these words.
-fn judge(
+/// The job of one run with these words.
+fn judge_one(
     alloc: Global,
     file: &str,
     decisions: Option<&str>,
-    list: &str,
+    list: Option<&str>,
     within: &str,
-    start: Option<u64>,
-    valid: bool,
-    whole: bool,
-    due: Option<u64>,
-    factor: bool,
-    rows: bool,
-    replay: bool,
+    asked: JudgeAsked,
 ) -> Result<Job, LineError>
     ensures job { IfOk result
-        (IsJudge file.now (option_map (λ d. d.now) decisions.entry) list.now within.now start valid
-        whole due factor rows replay) }
+        (IsOneOf file.now (option_map (λ d. d.now) decisions.entry)
+        (option_map (λ l. l.now) list.entry) within.now asked) }
     ensures refused { IfErr result
-        (IsJudgeFault file.now (option_map (λ d. d.now) decisions.entry) list.now replay) }
+        (IsOneFault file.now (option_map (λ d. d.now) decisions.entry)
+        (option_map (λ l. l.now) list.entry) asked.replay) }
 {
-    let correct = correct_in(alloc, "correct", list)?;
-    let decisions = decisions_in(alloc, file, decisions, replay)?;
-    let file = String::from_str(alloc, file)?;
-    let judging = Judging {
-        correct,
-        within: String::from_str(alloc, within)?,
-        start,
-        valid,
-        whole,
-        due,
-        factor,
-        rows,
-        replay,
+    let Some(list) = list else {
+        return Err(no_list(alloc)?);
     };
+    let correct = correct_in(alloc, "correct", list)?;
+    let decisions = decisions_in(alloc, file, decisions, asked.replay)?;
+    let file = String::from_str(alloc, file)?;
+    let judging = judging_of(alloc, correct, within, asked)?;
     Ok(Job::Judge(JudgeJob {
         file,
         decisions,
         judging,
     }))
+}
+
+/// What decisions are judged for.
+fn judging_of(
+    alloc: Global,
+    correct: Correct,
+    within: &str,
+    asked: JudgeAsked,
+) -> Result<Judging, AllocError>
+    ensures { IfOk result (IsJudging correct within.now asked) }
+{
+    Ok(Judging {
+        correct,
+        within: String::from_str(alloc, within)?,
+        start: asked.start,
+        valid: asked.valid,
+        whole: asked.whole,
+        due: asked.due,
+        factor: asked.factor,
+        rows: asked.rows,
+        replay: asked.replay,
+    })
 }
 
 /// The path of the decisions' file, or none with --replay.

@@ -107,6 +107,20 @@ fn limited_option<'a>(
     ))
 }
 
+/// The numbers that are asked for.
+#[derive(Clone, Copy)]
+pub(crate) struct SimulateNumbers {
+    n: u64,
+    t: u64,
+    patience: u64,
+    steps: u64,
+    seed: u64,
+    gst: Option<u64>,
+    delta: Option<u64>,
+    phi: Option<u64>,
+    loss: Option<u64>,
+}
+
 /// The job that the words after `simulate` ask for; None if one is missing.
 ///
 /// Refuses, in this order:
@@ -124,67 +138,58 @@ fn limited_option<'a>(
 pub fn job(alloc: Global, found: &ArgMatches<'_>) -> Option<Result<Job, LineError>>
     ensures { simulate_given (rows_of (found_of found.now)) result }
 {
-    let n = number(found, "nodes", 0, u64::MAX)?;
-    let t = number(found, "faults", 0, u64::MAX)?;
     let values = text(found, "values")?;
-    let patience = number(found, "patience", 1, MAX_PATIENCE)?;
-    let steps = number(found, "steps", 0, MAX_STEPS as u64)?;
-    let seed = number(found, "seed", 0, u64::MAX)?;
+    let numbers = SimulateNumbers {
+        n: number(found, "nodes", 0, u64::MAX)?,
+        t: number(found, "faults", 0, u64::MAX)?,
+        patience: number(found, "patience", 1, MAX_PATIENCE)?,
+        steps: number(found, "steps", 0, MAX_STEPS as u64)?,
+        seed: number(found, "seed", 0, u64::MAX)?,
+        gst: optional_number(found, "gst", 0, MAX_BOUND)?,
+        delta: optional_number(found, "delta", 1, MAX_BOUND)?,
+        phi: optional_number(found, "phi", 1, MAX_BOUND)?,
+        loss: optional_number(found, "loss", 0, 100)?,
+    };
     let schedule = text(found, "schedule");
-    let gst = optional_number(found, "gst", 0, MAX_BOUND)?;
-    let delta = optional_number(found, "delta", 1, MAX_BOUND)?;
-    let phi = optional_number(found, "phi", 1, MAX_BOUND)?;
     let crash = text(found, "crash");
-    let loss = optional_number(found, "loss", 0, 100)?;
-    Some(simulation(
-        alloc, n, t, values, patience, steps, seed, schedule, gst, delta, phi, crash, loss,
-    ))
+    Some(simulation(alloc, numbers, values, schedule, crash))
 }
 
 /// The job of a simulation with these words.
 fn simulation(
     alloc: Global,
-    n: u64,
-    t: u64,
+    numbers: SimulateNumbers,
     values: &str,
-    patience: u64,
-    steps: u64,
-    seed: u64,
     schedule: Option<&str>,
-    gst: Option<u64>,
-    delta: Option<u64>,
-    phi: Option<u64>,
     crash: Option<&str>,
-    loss: Option<u64>,
 ) -> Result<Job, LineError>
-    requires room { steps ≤ MAX_STEPS }
-    requires early { IfSome gst (λ g. g ≤ MAX_BOUND) }
-    requires some { IfSome delta (λ d. 1 ≤ d) }
-    requires soon { IfSome delta (λ d. d ≤ MAX_BOUND) }
-    requires often { IfSome phi (λ f. f ≤ MAX_BOUND) }
-    ensures job { IfOk result (IsSimulation n t values.now patience steps seed
-        (option_map (λ text. text.now) schedule.entry) gst delta phi
-        (option_map (λ text. text.now) crash.entry) loss) }
+    requires room { numbers.steps ≤ MAX_STEPS }
+    requires early { IfSome numbers.gst (λ g. g ≤ MAX_BOUND) }
+    requires some { IfSome numbers.delta (λ d. 1 ≤ d) }
+    requires soon { IfSome numbers.delta (λ d. d ≤ MAX_BOUND) }
+    requires often { IfSome numbers.phi (λ f. f ≤ MAX_BOUND) }
+    ensures job { IfOk result
+        (IsSimulation numbers values.now (option_map (λ text. text.now) schedule.entry)
+        (option_map (λ text. text.now) crash.entry)) }
     ensures refused { IfErr result
-        (IsSimulationFault n t values.now
-        (option_map (λ text. text.now) schedule.entry) gst delta phi
+        (IsSimulationFault numbers values.now (option_map (λ text. text.now) schedule.entry)
         (option_map (λ text. text.now) crash.entry)) }
 {
     let schedule = scheduled(alloc, schedule)?;
     let crashes = crashed(alloc, crash)?;
-    let config = configuration(alloc, n, t, values)?;
+    let config = configuration(alloc, numbers.n, numbers.t, values)?;
     let live = live_count(&config, &crashes);
-    let bounds = stated(alloc, gst, delta, phi, live)?;
+    let bounds = stated(alloc, numbers.gst, numbers.delta, numbers.phi, live)?;
     are_possible(alloc, &config, &crashes, live)?;
     Ok(Job::Simulate(SimulationOptions {
         config,
-        patience,
-        steps,
-        seed,
+        patience: numbers.patience,
+        steps: numbers.steps,
+        seed: numbers.seed,
         schedule,
         bounds,
         crashes,
-        loss: loss.unwrap_or(0),
+        loss: numbers.loss.unwrap_or(0),
     }))
 }
 

@@ -1,4 +1,4 @@
-use Rattle.std.proofs.Common.{ℕ, ◌≡◌, ◌<◌, ◌^◌, List, Ok, inl, inr, refl, sym, subst, true, false, arith}
+use Rattle.std.proofs.Common.{ℕ, ◌≡◌, ◌<◌, ◌^◌, List, Ok, inl, inr, refl, sym, subst, false, arith, rules}
 use Rattle.std.specs.Cow.{cow_slice_items}
 use Rattle.timed_events.specs.declared.events.Clock.{Clock}
 use Rattle.std.proofs.lemmas.Result.{err_from_is_err_and}
@@ -55,8 +55,8 @@ returns-in_err-aligned-clause-refused c =
       unaligned = same;
     }))
 
-pub returns-then-options-clause-import : goal.returns-then-options-clause-import
-returns-then-options-clause-import c =
+pub returns-then-how-clause-import : goal.returns-then-how-clause-import
+returns-then-how-clause-import c =
     let log = c.in_ok-log.log in
     ok-both c.left_import.result _ _ _ (λ p made given.
     placed-import c.args.options.now (cow_slice_items c.args.text) (seen_log log) log.events.items c.in_ok-clock.clock
@@ -65,16 +65,16 @@ returns-then-options-clause-import c =
       same = refl;
       fits = sym c.in_ok-clock.ensures.clock;
     }) c.in_ok-aligned.aligned
-    c.in_ok-aligned.ensures.aligned c.in_ok-aligned.ensures.nodes c.in_ok-limit.limit (sym c.in_ok-limit.ensures) true
-    c.args.options.now.merge c.if-options.true refl c.in_ok-lateness.lateness c.in_ok-lateness.ensures.lateness
+    c.in_ok-aligned.ensures.aligned c.in_ok-aligned.ensures.nodes c.in_ok-limit.limit (sym c.in_ok-limit.ensures) c.args.options.now.drop_lost
+    c.args.options.now.merge refl refl c.in_ok-lateness.lateness c.in_ok-lateness.ensures.lateness
     p.import p.events.items p.logged p.left_at (parts_seen p.parts) p.first p.clock p.places.items made given.nodes given.offsets given.lateness_is given.clock_is) c.left_import.ensures.made c.left_import.ensures.given
 
-pub returns-then-options-clause-short : goal.returns-then-options-clause-short
-returns-then-options-clause-short c =
+pub returns-then-how-clause-short : goal.returns-then-how-clause-short
+returns-then-how-clause-short c =
     ok-both c.left_import.result _ _ _ (λ p given same. subst (λ (clock : Clock). clock.width < 2 ^ 94) (sym given.clock_is) c.in_ok-clock.ensures.short) c.left_import.ensures.given c.left_import.ensures.given
 
-pub returns-then-options-clause-refused : goal.returns-then-options-clause-refused
-returns-then-options-clause-refused c =
+pub returns-then-how-clause-refused : goal.returns-then-how-clause-refused
+returns-then-how-clause-refused c =
     let log = c.in_ok-log.log in
     err-weaker c.left_import.result _ _
     (unmade-refusal c.args.options.now (cow_slice_items c.args.text) (seen_log log) log.events.items c.in_ok-clock.clock
@@ -83,46 +83,10 @@ returns-then-options-clause-refused c =
       same = refl;
       fits = sym c.in_ok-clock.ensures.clock;
     }) c.in_ok-aligned.aligned
-    c.in_ok-aligned.ensures.aligned c.in_ok-aligned.ensures.nodes c.in_ok-limit.limit (sym c.in_ok-limit.ensures) true c.args.options.now.merge c.if-options.true refl) c.left_import.ensures.refused
+    c.in_ok-aligned.ensures.aligned c.in_ok-aligned.ensures.nodes c.in_ok-limit.limit (sym c.in_ok-limit.ensures) c.args.options.now.drop_lost c.args.options.now.merge refl refl) c.left_import.ensures.refused
 
-pub returns-then-options-clause-more : goal.returns-then-options-clause-more
-returns-then-options-clause-more c = λ e. (let same = c.len.ensures in let few = c.if-len-gt-MAX_TEXT_BYTES.false in omega (arith, same, few))
-
-pub returns-then-merge-clause-import : goal.returns-then-merge-clause-import
-returns-then-merge-clause-import c =
-    let log = c.in_ok-log.log in
-    ok-both c.left_import-then-merge.result _ _ _ (λ p made given.
-    placed-import c.args.options.now (cow_slice_items c.args.text) (seen_log log) log.events.items c.in_ok-clock.clock
-    (record {
-      read = (lent-read c.args.options.now _ _ _ c.deref.ensures.value c.in_ok-log.ensures.read);
-      same = refl;
-      fits = sym c.in_ok-clock.ensures.clock;
-    }) c.in_ok-aligned.aligned
-    c.in_ok-aligned.ensures.aligned c.in_ok-aligned.ensures.nodes c.in_ok-limit.limit (sym c.in_ok-limit.ensures) false true c.if-options.false c.if-merge.true c.in_ok-lateness.lateness c.in_ok-lateness.ensures.lateness
-    p.import p.events.items p.logged p.left_at (parts_seen p.parts) p.first p.clock p.places.items made given.nodes
-    given.offsets given.lateness_is given.clock_is) c.left_import-then-merge.ensures.made
-    c.left_import-then-merge.ensures.given
-
-pub returns-then-merge-clause-short : goal.returns-then-merge-clause-short
-returns-then-merge-clause-short c =
-    ok-both c.left_import-then-merge.result _ _ _
-    (λ p given same. subst (λ (clock : Clock). clock.width < 2 ^ 94) (sym given.clock_is)
-    c.in_ok-clock.ensures.short) c.left_import-then-merge.ensures.given c.left_import-then-merge.ensures.given
-
-pub returns-then-merge-clause-refused : goal.returns-then-merge-clause-refused
-returns-then-merge-clause-refused c =
-    let log = c.in_ok-log.log in
-    err-weaker c.left_import-then-merge.result _ _
-    (unmade-refusal c.args.options.now (cow_slice_items c.args.text) (seen_log log) log.events.items c.in_ok-clock.clock
-    (record {
-      read = (lent-read c.args.options.now _ _ _ c.deref.ensures.value c.in_ok-log.ensures.read);
-      same = refl;
-      fits = sym c.in_ok-clock.ensures.clock;
-    }) c.in_ok-aligned.aligned
-    c.in_ok-aligned.ensures.aligned c.in_ok-aligned.ensures.nodes c.in_ok-limit.limit (sym c.in_ok-limit.ensures) false true c.if-options.false c.if-merge.true) c.left_import-then-merge.ensures.refused
-
-pub returns-then-merge-clause-more : goal.returns-then-merge-clause-more
-returns-then-merge-clause-more c = λ e. (let same = c.len.ensures in let few = c.if-len-gt-MAX_TEXT_BYTES.false in omega (arith, same, few))
+pub returns-then-how-clause-more : goal.returns-then-how-clause-more
+returns-then-how-clause-more c = λ e. (let same = c.len.ensures in let few = c.if-len-gt-MAX_TEXT_BYTES.false in omega (arith, same, few))
 
 pub returns-clause-import : goal.returns-clause-import
 returns-clause-import c =
@@ -135,7 +99,7 @@ returns-clause-import c =
       fits = sym c.in_ok-clock.ensures.clock;
     }) c.in_ok-aligned.aligned
     c.in_ok-aligned.ensures.aligned c.in_ok-aligned.ensures.nodes c.in_ok-limit.limit (sym c.in_ok-limit.ensures) false
-    false c.if-options.false c.if-merge.false c.in_ok-lateness.lateness c.in_ok-lateness.ensures.lateness
+    false (search rules) (search rules) c.in_ok-lateness.lateness c.in_ok-lateness.ensures.lateness
     p.import p.events.items p.logged p.left_at (parts_seen p.parts) p.first p.clock p.places.items made given.nodes given.offsets given.lateness_is given.clock_is) c.whole_import.ensures.made c.whole_import.ensures.given
 
 pub returns-clause-short : goal.returns-clause-short
@@ -152,7 +116,7 @@ returns-clause-refused c =
       same = refl;
       fits = sym c.in_ok-clock.ensures.clock;
     }) c.in_ok-aligned.aligned
-    c.in_ok-aligned.ensures.aligned c.in_ok-aligned.ensures.nodes c.in_ok-limit.limit (sym c.in_ok-limit.ensures) false false c.if-options.false c.if-merge.false) c.whole_import.ensures.refused
+    c.in_ok-aligned.ensures.aligned c.in_ok-aligned.ensures.nodes c.in_ok-limit.limit (sym c.in_ok-limit.ensures) false false (search rules) (search rules)) c.whole_import.ensures.refused
 
 pub returns-clause-more : goal.returns-clause-more
 returns-clause-more c = λ e. (let same = c.len.ensures in let few = c.if-len-gt-MAX_TEXT_BYTES.false in omega (arith, same, few))

@@ -12,9 +12,9 @@ use Rattle.event_log.proofs.imports.whole_import.Goals as goal
 pub returns-clause-made : goal.returns-clause-made
 returns-clause-made c =
     let log = c.args.aligned.log in
-    let limit = c.args.limit in
-    let spread = c.args.spread in
-    let clock = c.args.clock in
+    let limit = c.args.how.limit in
+    let spread = c.args.how.spread in
+    let clock = c.args.how.clock in
     let made = c.in_ok-made.made in
     let fits : SFits w128 c.least_time-first.result = search rules in
     rw (c.import_of.ensures.import, c.import_of.ensures.events, c.import_of.ensures.logged, c.import_of.ensures.at, c.import_of.ensures.parts, c.import_of.ensures.first, c.import_of.ensures.places) (record {

@@ -18,26 +18,28 @@ pub returns-in_err-left-clause-refused : goal.returns-in_err-left-clause-refused
 returns-in_err-left-clause-refused c =
     let p = err_from_is_err_and c.from_residual.result c.from_residual.ensures.1 in
     let log = c.args.aligned.log in
-    rw (p.1, p.2) (untaken-unmade c.args.drop c.args.merge c.args.limit c.args.spread (cow_slice_items c.args.text) log.nodes log.events.items c.args.clock c.in_err-left.field-0.0 c.in_err-left.ensures.refused)
+    rw (p.1, p.2) (untaken-unmade c.args.how.drop_lost c.args.how.merge c.args.how.limit c.args.how.spread
+    (cow_slice_items c.args.text) log.nodes log.events.items c.args.how.clock c.in_err-left.field-0.0
+    c.in_err-left.ensures.refused)
 
 pub returns-in-Err-clause-refused : goal.returns-in-Err-clause-refused
 returns-in-Err-clause-refused c =
     let log = c.args.aligned.log in
     let left = c.in_ok-left.left in
     let why = c.in-Err.why in
-    let unmade = subst (λ events. IsUnmadeFor c.args.limit c.args.spread c.len-n.result events c.args.clock why) c.as_slice-2.ensures.value c.in-Err.ensures.refused in
-    left-unmade c.args.drop c.args.merge c.args.limit c.args.spread
+    let unmade = subst (λ events. IsUnmadeFor c.args.how.limit c.args.how.spread c.len-n.result events c.args.how.clock why) c.as_slice-2.ensures.value c.in-Err.ensures.refused in
+    left-unmade c.args.how.drop_lost c.args.how.merge c.args.how.limit c.args.how.spread
     (cow_slice_items c.args.text) log.nodes log.events.items left.events.items left.places.items
-    (parts_seen left.parts) c.args.clock why c.left_error.result c.in_ok-left.ensures.taken
-    (subst (λ n. IsUnmadeFor c.args.limit c.args.spread n left.events.items c.args.clock why) c.len-n.ensures unmade)
+    (parts_seen left.parts) c.args.how.clock why c.left_error.result c.in_ok-left.ensures.taken
+    (subst (λ n. IsUnmadeFor c.args.how.limit c.args.how.spread n left.events.items c.args.how.clock why) c.len-n.ensures unmade)
     (subst (λ text. IsPlacedErrorUnlessMemory text log.nodes log.events.items left.events.items left.places.items (parts_seen left.parts) why c.left_error.result) c.deref.ensures.value c.left_error.ensures)
 
 pub returns-clause-made : goal.returns-clause-made
 returns-clause-made c =
     let left = c.in_ok-left.left in
-    let limit = c.args.limit in
-    let spread = c.args.spread in
-    let clock = c.args.clock in
+    let limit = c.args.how.limit in
+    let spread = c.args.how.spread in
+    let clock = c.args.how.clock in
     let made = c.in_ok-made.made in
     let fits : SFits w128 c.least_time-first.result = search rules in
     rw (
@@ -57,11 +59,11 @@ returns-clause-made c =
         moved = made.moved;
         made = subst (λ n. IsMadeBy limit spread n left.events.items clock made.trace made.moved made.idle) c.len-n.ensures c.in_ok-made.ensures.trace;
         moved_is = refl;
-        lost = c.removed-lost.ensures ∙ ap₂ (λ (before after : ℕ). removed_by c.args.drop before after)
+        lost = c.removed-lost.ensures ∙ ap₂ (λ (before after : ℕ). removed_by c.args.how.drop_lost before after)
             (let ok = c.args.aligned.log.events.ok in let len = c.len-all.ensures in omega (arith, ok, len))
             c.in_ok-left.ensures.kept;
         merged = c.removed-merged.ensures
-            ∙ ap₂ (λ (before after : ℕ). removed_by c.args.merge before after) c.in_ok-left.ensures.kept
+            ∙ ap₂ (λ (before after : ℕ). removed_by c.args.how.merge before after) c.in_ok-left.ensures.kept
             (let ok = left.events.ok in let len = c.len-logged.ensures in omega (arith, ok, len));
       };
       so_many = c.len-logged.ensures ∙ sym c.as_slice.ensures.len ∙ ap length c.as_slice.ensures.value;
@@ -74,59 +76,59 @@ returns-clause-made c =
 pub least_time-first-requires : goal.least_time-first-requires
 least_time-first-requires c =
     let left = c.in_ok-left.left in
-    let long = taken-long c.args.drop c.args.merge c.args.aligned.log.events.items left.events.items c.args.clock left.places.items (parts_seen left.parts) c.in_ok-left.ensures.taken in
+    let long = taken-long c.args.how.drop_lost c.args.how.merge c.args.aligned.log.events.items left.events.items c.args.how.clock left.places.items (parts_seen left.parts) c.in_ok-left.ensures.taken in
     subst (λ events. 0 < length events) (sym c.as_slice.ensures.value) (subst (λ n. 0 < n) (sym long) c.in_ok-left.ensures.some)
 
 pub trace_of_passed-requires-clause-some : goal.trace_of_passed-requires-clause-some
 trace_of_passed-requires-clause-some c =
     let left = c.in_ok-left.left in
     subst (λ n. 0 < n)
-    (sym (taken-long c.args.drop c.args.merge c.args.aligned.log.events.items left.events.items c.args.clock
+    (sym (taken-long c.args.how.drop_lost c.args.how.merge c.args.aligned.log.events.items left.events.items c.args.how.clock
     left.places.items (parts_seen left.parts) c.in_ok-left.ensures.taken)) c.in_ok-left.ensures.some
 
 pub trace_of_passed-requires-clause-few : goal.trace_of_passed-requires-clause-few
 trace_of_passed-requires-clause-few c =
     let left = c.in_ok-left.left in
-    taken-few c.args.aligned.log c.requires.sound c.args.drop c.args.merge c.args.clock left.events.items (Some left.places.items) (parts_seen left.parts) c.in_ok-left.ensures.taken
+    taken-few c.args.aligned.log c.requires.sound c.args.how.drop_lost c.args.how.merge c.args.how.clock left.events.items (Some left.places.items) (parts_seen left.parts) c.in_ok-left.ensures.taken
 
 pub trace_of_passed-requires-clause-meant : goal.trace_of_passed-requires-clause-meant
 trace_of_passed-requires-clause-meant c =
     let left = c.in_ok-left.left in
     subst (λ n. AreMeant left.events.items n) (sym c.len-n.ensures)
-    (taken-meant c.args.aligned.log c.requires.sound c.args.drop c.args.merge c.args.clock left.events.items (Some left.places.items) (parts_seen left.parts) c.in_ok-left.ensures.taken)
+    (taken-meant c.args.aligned.log c.requires.sound c.args.how.drop_lost c.args.how.merge c.args.how.clock left.events.items (Some left.places.items) (parts_seen left.parts) c.in_ok-left.ensures.taken)
 
 pub passed_events-requires-clause-some : goal.passed_events-requires-clause-some
 passed_events-requires-clause-some c =
     let left = c.in_ok-left.left in
-    let long = taken-long c.args.drop c.args.merge c.args.aligned.log.events.items left.events.items c.args.clock left.places.items (parts_seen left.parts) c.in_ok-left.ensures.taken in
+    let long = taken-long c.args.how.drop_lost c.args.how.merge c.args.aligned.log.events.items left.events.items c.args.how.clock left.places.items (parts_seen left.parts) c.in_ok-left.ensures.taken in
     subst (λ events. 0 < length events) (sym c.as_slice-2.ensures.value) (subst (λ n. 0 < n) (sym long) c.in_ok-left.ensures.some)
 
 pub passed_events-requires-clause-few : goal.passed_events-requires-clause-few
 passed_events-requires-clause-few c =
     let left = c.in_ok-left.left in
     subst (λ events. length events ≤ MAX_STEPS) (sym c.as_slice-2.ensures.value)
-    (taken-few c.args.aligned.log c.requires.sound c.args.drop c.args.merge c.args.clock left.events.items (Some left.places.items) (parts_seen left.parts) c.in_ok-left.ensures.taken)
+    (taken-few c.args.aligned.log c.requires.sound c.args.how.drop_lost c.args.how.merge c.args.how.clock left.events.items (Some left.places.items) (parts_seen left.parts) c.in_ok-left.ensures.taken)
 
 pub passed_events-requires-clause-meant : goal.passed_events-requires-clause-meant
 passed_events-requires-clause-meant c =
     let left = c.in_ok-left.left in
     subst (λ events. AreMeant events c.len-n.result) (sym c.as_slice-2.ensures.value)
     (subst (λ n. AreMeant left.events.items n) (sym c.len-n.ensures)
-    (taken-meant c.args.aligned.log c.requires.sound c.args.drop c.args.merge c.args.clock left.events.items (Some left.places.items) (parts_seen left.parts) c.in_ok-left.ensures.taken))
+    (taken-meant c.args.aligned.log c.requires.sound c.args.how.drop_lost c.args.how.merge c.args.how.clock left.events.items (Some left.places.items) (parts_seen left.parts) c.in_ok-left.ensures.taken))
 
 pub left_error-requires-clause-few : goal.left_error-requires-clause-few
 left_error-requires-clause-few c =
     let left = c.in_ok-left.left in
-    taken-few c.args.aligned.log c.requires.sound c.args.drop c.args.merge c.args.clock left.events.items (Some left.places.items) (parts_seen left.parts) c.in_ok-left.ensures.taken
+    taken-few c.args.aligned.log c.requires.sound c.args.how.drop_lost c.args.how.merge c.args.how.clock left.events.items (Some left.places.items) (parts_seen left.parts) c.in_ok-left.ensures.taken
 
 pub left_error-requires-clause-processors : goal.left_error-requires-clause-processors
 left_error-requires-clause-processors c =
     let left = c.in_ok-left.left in
-    taken-processors c.args.aligned.log c.requires.sound c.args.drop c.args.merge c.args.clock left.events.items (Some left.places.items) (parts_seen left.parts) c.in_ok-left.ensures.taken
+    taken-processors c.args.aligned.log c.requires.sound c.args.how.drop_lost c.args.how.merge c.args.how.clock left.events.items (Some left.places.items) (parts_seen left.parts) c.in_ok-left.ensures.taken
 
 pub left_error-requires-clause-behind : goal.left_error-requires-clause-behind
 left_error-requires-clause-behind c =
     let left = c.in_ok-left.left in
     let why = c.in-Err.why in
-    let unmade = subst (λ events. IsUnmadeFor c.args.limit c.args.spread c.len-n.result events c.args.clock why) c.as_slice-2.ensures.value c.in-Err.ensures.refused in
-    unmade-behind c.args.limit c.args.spread c.len-n.result left.events.items c.args.clock why unmade
+    let unmade = subst (λ events. IsUnmadeFor c.args.how.limit c.args.how.spread c.len-n.result events c.args.how.clock why) c.as_slice-2.ensures.value c.in-Err.ensures.refused in
+    unmade-behind c.args.how.limit c.args.how.spread c.len-n.result left.events.items c.args.how.clock why unmade
