@@ -23,9 +23,8 @@ LeadFrom events from (hop ∷ hops) to = IsClockHop events from hop × LeadFrom 
 abbrev pub took_together : List ClockHop → ℤ
 took_together hops = fold (λ total hop. total +ℤ hop.took) (pos 0) hops
 
--- The messages lead from a clock back to it, and took together less than one unit each. So no offsets of clocks bring
--- them
--- into order: what one clock gains another loses.
+-- The messages lead from a clock back to it, and took together less than one unit each. So no
+-- offsets of clocks bring them into order: what one clock gains another loses.
 pub record IsClockCycle (events : List Event) (cycle : ClockCycle) : Type 0 where
   pub clock : ℕ
   pub round : LeadFrom events clock cycle.hops.items clock

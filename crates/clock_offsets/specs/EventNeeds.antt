@@ -49,9 +49,8 @@ AreInOrder events x = All (IsInOrder events x) (hops_of events)
 abbrev pub offset_in : List ℤ → ℕ → ℤ
 offset_in offsets j = slice_index_or offsets j (pos 0)
 
--- Once each clock is moved by its offset, each message is received later than it is sent. No clock is moved back, and
--- of
--- all such offsets each is the least.
+-- Once each clock is moved by its offset, each message is received later than it is sent. No clock
+-- is moved back, and of all such offsets each is the least.
 pub record AreClockOffsets (n : ℕ) (events : List Event) (offsets : List ℤ) : Type 0 where
   pub long : length offsets ≡ n
   pub ordered : AreInOrder events (offset_in offsets)

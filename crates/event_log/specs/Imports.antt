@@ -262,10 +262,9 @@ abbrev pub first_places : Option (List ℕ) → Option (List (List ℕ)) → Opt
 first_places places None = places
 first_places places (Some parts) = Some (map (λ part. slice_index part 0) parts)
 
--- `left` are the events of a log of which its trace is made: without lost sends if these are left out, then with merged
--- receives if that is asked for. They are at the places `left_at` of the log, the first if they are made of several,
--- whose
--- places are `parts`.
+-- `left` are the events of a log of which its trace is made: without lost sends if these are left
+-- out, then with merged receives if that is asked for. They are at the places `left_at` of the log,
+-- the first if they are made of several, whose places are `parts`.
 pub record AreTaken (drop merge : Bool) (events : List Event) (clock : Clock) (left : List Event)
     (left_at : Option (List ℕ)) (parts : Option (List (List ℕ))) : Type 0 where
   pub kept : List Event
@@ -359,9 +358,8 @@ kept_count drop events = if drop then length (left_places events) else length ev
 abbrev pub removed_by : Bool → ℕ → ℕ → Option ℕ
 removed_by asked before after = if asked then Some (before - after) else None
 
--- The trace is that of the events of a log, without lost sends if these are left out, and with merged receives if that
--- is
--- asked for. How far they moved is reported by their places in the log.
+-- The trace is that of the events of a log, without lost sends if these are left out, and with
+-- merged receives if that is asked for. How far they moved is reported by their places in the log.
 pub record IsMadeOfLog (drop merge : Bool) (limit : Option ℕ) (spread : Bool) (n : ℕ) (events : List Event)
     (clock : Clock) (import : Import) : Type 0 where
   pub left : List Event
@@ -390,10 +388,10 @@ pub record IsImportOf (o : Options) (text : List ℕ) (import : Import) : Type 0
   pub nodes : import.nodes ≡ log.nodes
   pub lateness : import.lateness ≡ lateness_of aligned
 
--- The import is that of a log's events. `filled` has those that are left, so many, in the order of their records, and
--- behind them the receives of nothing that were added. The events are at the places `left_at` of the log, or made of
--- those
--- at the places `parts`. Tick 1 begins at the time `first`, and the steps are those of the list at these places.
+-- The import is that of a log's events. `filled` has those that are left, so many, in the order of
+-- their records, and behind them the receives of nothing that were added. The events are at the
+-- places `left_at` of the log, or made of those at the places `parts`. Tick 1 begins at the time
+-- `first`, and the steps are those of the list at these places.
 pub record IsPlacedOfLog (drop merge : Bool) (limit : Option ℕ) (spread : Bool) (n : ℕ) (events : List Event)
     (clock : Clock) (import : Import) (filled : List Event) (logged : ℕ) (left_at : Option (List ℕ))
     (parts : Option (List (List ℕ))) (first : ℤ) (places : List ℕ) : Type 0 where

@@ -15,9 +15,8 @@ abbrev pub ArePartsWithin : {A B : Type 0} → Option (Vec (Vec ℕ A) B) → �
 ArePartsWithin None n = ⊤
 ArePartsWithin (Some parts) n = AreParts n (lists_of parts.items)
 
--- `merged` are the events with merged receives. In the log, where the events are at these places, they are made of
--- those at
--- the places `parts`, of which `places` are the first.
+-- `merged` are the events with merged receives. In the log, where the events are at these places,
+-- they are made of those at the places `parts`, of which `places` are the first.
 pub record AreMergedIn (events : List Event) (clock : Clock) (at : Option (List ℕ)) (merged : List Event)
     (places : List ℕ) (parts : Option (List (List ℕ))) : Type 0 where
   pub own : List (List ℕ)

@@ -5,9 +5,8 @@ use Rattle.std.specs.Option.{option_and_then, option_or}
 use Rattle.std.specs.Str.{bytes_eq}
 use Rattle.event_log.specs.Names.{has_name, with_name}
 
--- the names that were sent, and the places of their first sends; and the copies, which have a name that was sent
--- before,
--- to another node, and the places of their sends
+-- the names that were sent, and the places of their first sends; and the copies, which have a name
+-- that was sent before, to another node, and the places of their sends
 pub record Sent : Type 0 where
   pub names : List (List ℕ)
   pub firsts : List ℕ

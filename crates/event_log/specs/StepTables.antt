@@ -66,11 +66,11 @@ abbrev pub field_at : List (List ℕ) → Option (List ℕ) → Option (List (Li
 field_at messages left_at None i = slice_index_or messages (log_place left_at i + 1) []
 field_at messages left_at (Some parts) i = joined_fields messages (slice_index_or parts i [])
 
--- Step k, counted from 0, which is the event at place i, in a tick. Its fields: its number and tick; when the tick
--- begins; the number of its record; the time of the event; the node; what it did; the node that a send is for; and what
--- its record has in the column of messages. The events are at the places `left_at` of the log, or made of those at the
--- places
--- `parts`. Its records come after that of the header, which is number 1. Tick 1 begins at the time `first`.
+-- Step k, counted from 0, which is the event at place i, in a tick. Its fields: its number and
+-- tick; when the tick begins; the number of its record; the time of the event; the node; what it
+-- did; the node that a send is for; and what its record has in the column of messages. The events
+-- are at the places `left_at` of the log, or made of those at the places `parts`. Its records come
+-- after that of the header, which is number 1. Tick 1 begins at the time `first`.
 abbrev pub step_record : List (List ℕ) → List (List ℕ) → List Event → ℕ → Option (List ℕ) → Option (List (List ℕ)) → ℤ
     → ℕ → ℕ → ℕ → ℕ → List (List ℕ)
 step_record messages nodes events logged left_at parts first width k tick i =

@@ -50,9 +50,8 @@ told_before kind log count = map tick_width (filter (is_told kind log) (range_wi
 abbrev pub told_widths : TimeKind → ℕ → List ℕ
 told_widths kind log = told_before kind log WIDTHS
 
--- whether the event of a step is more than one tick later than that of its time: by the ticks of the times of all
--- events,
--- the ticks of the steps, and the places of their events
+-- whether the event of a step is more than one tick later than that of its time: by the ticks of
+-- the times of all events, the ticks of the steps, and the places of their events
 abbrev pub is_far : List ℕ → List ℕ → List ℕ → ℕ → Bool
 is_far own ticks places k = nat_lt (slice_index_or own (slice_index places k) 0 + 1) (slice_index ticks k)
 

@@ -61,9 +61,8 @@ IsLogRowRefusal drop text nodes events kind until why =
     (width : ℕ) × (0 < width) × IsUnmadeUnlessMemory drop false None true text nodes events
     (clock_of kind until width) why
 
--- The rows are of the lengths of a tick up to the first that is longer than the log, which ends as the options say.
--- Each
--- says what the import with ticks of this length says.
+-- The rows are of the lengths of a tick up to the first that is longer than the log, which ends as
+-- the options say. Each says what the import with ticks of this length says.
 pub record IsTickTable (o : Options) (text : List ℕ) (kind : TimeKind) (rows : List TickRow) : Type 0 where
   pub log : SeenLog
   pub read : IsRead o text (Ok log)

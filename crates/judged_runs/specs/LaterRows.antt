@@ -18,9 +18,8 @@ pub record IsServed (rows : List Row) (t : Triple) : Type 0 where
   pub delta : row.delta ≤ t.delta
   pub phi : row.phi ≤ t.phi
 
--- The bounds of the rows fall, and any bounds that hold from a tick after this one on are no less than those of a row
--- that
--- has begun.
+-- The bounds of the rows fall, and any bounds that hold from a tick after this one on are no less
+-- than those of a row that has begun.
 pub record AreRowsAfter (set : ℕ) (trace : Recorded) (after : ℕ) (rows : List Row) : Type 0 where
   pub falling : AreFalling rows
   pub served : (t : Triple) → IsFeasible set trace t → after < t.gst → IsServed rows t

@@ -1,6 +1,6 @@
--- Evidence of one kind, each piece of which has a start and an end in ticks. Their distance is its length. A bound that
--- holds
--- allows no piece as long as itself. Of several pieces of one length the one at the greatest place is named.
+-- Evidence of one kind, each piece of which has a start and an end in ticks. Their distance is its
+-- length. A bound that holds allows no piece as long as itself. Of several pieces of one length the
+-- one at the greatest place is named.
 use Rattle.std.specs.Prelude.{ℕ, ◌≡◌, ◌+◌, ◌<◌, ◌≤◌, Option, Some, None, nat_le, if◌then◌else◌}
 use Rattle.link_bounds.specs.declared.bounds.LeastBound.{LeastBound}
 

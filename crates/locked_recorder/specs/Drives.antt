@@ -47,9 +47,8 @@ pub record IsDriven (r : Identity) (patience steps : ℕ) (old new : Turns) : Ty
       → IsChosenAnswer r old.proc (drive_move patience (received (take k more))) d
   pub tag : 0 < steps → old.tag ≡ r.tag
 
--- Why a drive stops that made `made` of its steps and then `before` Receives in the round, when the seat is so. It is
--- held
--- before its first step; a step is refused only before the last.
+-- Why a drive stops that made `made` of its steps and then `before` Receives in the round, when the
+-- seat is so. It is held before its first step; a step is refused only before the last.
 abbrev pub IsStop : Identity → ℕ → ℕ → ℕ → ℕ → Turns → DriveStop → Type 0
 IsStop r patience steps made before s Held = made ≡ 0
 IsStop r patience steps made before s (Record why) = (made < steps)

@@ -59,9 +59,9 @@ abbrev pub IsUnfilled : WindowError → Type 0
 IsUnfilled unread.Read = ⊤
 IsUnfilled (unread.Log why) = why ≡ Memory
 
--- Of the bytes that the device had at first some were dropped, and the others that were read are behind a line feed.
--- For
--- any bytes after them, the records of all lead where those after the dropped bytes lead from here.
+-- Of the bytes that the device had at first some were dropped, and the others that were read are
+-- behind a line feed. For any bytes after them, the records of all lead where those after the
+-- dropped bytes lead from here.
 pub record IsReadTo {S : Type 0} (next : S → List (List ℕ) → Result S LogError) (start : S)
     (known left : Option (List ℕ)) (rest : List ℕ) (state : S) : Type 0 where
   pub gone : List ℕ

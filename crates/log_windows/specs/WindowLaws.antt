@@ -70,9 +70,8 @@ events_in columns times events = filter (is_in columns times) (placed 0 events)
 abbrev pub rows_in : Columns → TimeKind → Row → List Row
 rows_in columns k event = at_place event.place (rows_of columns (told_row columns k event.fields))
 
--- The first event gives the kind of the times, and each event has a time of this kind. The window by such times keeps
--- the
--- rows of exactly the events in it, and counts the others
+-- The first event gives the kind of the times, and each event has a time of this kind. The window
+-- by such times keeps the rows of exactly the events in it, and counts the others
 pub record IsCut (unit : Option TimeUnit) (from : LogEnd) (until : Option LogEnd) (columns : Columns)
     (header first : List (List ℕ)) (events : List (List (List ℕ))) (kept : Rows) : Type 0 where
   pub times : Times

@@ -62,9 +62,9 @@ unfoldable pub parts_of : List Event → List ℕ → List ℕ → List (List �
 parts_of events ticks order = map (λ h. filter (is_part events ticks h) order)
     (staying_before events ticks (length events))
 
--- The times of the events have ticks. Of each event that stays `parts` has the places of the events of which it is
--- made, in
--- the order of their times; `places` has of each event how many before it stay.
+-- The times of the events have ticks. Of each event that stays `parts` has the places of the events
+-- of which it is made, in the order of their times; `places` has of each event how many before it
+-- stay.
 pub record AreMerged (events : List Event) (clock : Clock) (parts : List (List ℕ)) (places : List ℕ) : Type 0 where
   pub passed : times_refusal events clock ≡ None
   pub order : List ℕ

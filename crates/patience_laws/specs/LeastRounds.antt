@@ -27,9 +27,8 @@ pub record KeepsBounds (patience set : ℕ) (trace : Recorded) (g d f : ℕ) : T
   pub delta : DeltaHolds set trace g d
   pub phi : PhiHolds set trace g f
 
--- From tick x on the members suspect all others; and what they send to one another in this round or in a later one
--- comes
--- under the bounds.
+-- From tick x on the members suspect all others; and what they send to one another in this round or
+-- in a later one comes under the bounds.
 pub record AreInTouch (patience set : ℕ) (trace : Recorded) (g round x : ℕ) : Type 0 where
   pub since : g ≤ x
   pub fresh : (p q s : ℕ) → IsTrue (has_proc set p) → IsTrue (has_proc set q) → IsSend trace.steps q p s

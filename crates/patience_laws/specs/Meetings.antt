@@ -28,9 +28,8 @@ pub record ComeTogether (patience set : ℕ) (trace : Recorded) (g d f round y :
   pub loud : (p q k : ℕ) → IsTrue (has_proc set p) → IsTrue (has_proc set q) → ComesTo trace.steps p round k
       → ¬ Suspects trace.config patience trace.steps p q k
 
--- The members come to the first round of a phase from tick y on, the first of them in tick y; and each of them had
--- heard
--- out the lock-release round before it.
+-- The members come to the first round of a phase from tick y on, the first of them in tick y; and
+-- each of them had heard out the lock-release round before it.
 pub record MeetOnce (patience set : ℕ) (trace : Recorded) (g round y : ℕ) : Type 0 where
   pub later : 1 < round
   pub part : part_of round ≡ 1

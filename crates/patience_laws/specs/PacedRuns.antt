@@ -46,9 +46,8 @@ pub record StepsByPace (c : Setup) (patience : ℕ) (steps : List Step) (p : ℕ
   pub ends : (k : ℕ) (ids : List ℕ) (ends : Bool) → step_at steps k ≡ Some (record { proc = p; act = Receive ends ids })
       → ends ≡ is_over c (node_before c steps p k) (round_at steps p k) p (pace_taking c patience steps p k ids)
 
--- what p does next by its pace, by where it sends next: it sends there, or a Receive ends its round exactly if the
--- round
--- is over then
+-- what p does next by its pace, by where it sends next: it sends there, or a Receive ends its round
+-- exactly if the round is over then
 abbrev pub IsPacedAct : Setup → ℕ → List Step → ℕ → Option ℕ → Act → Type 0
 IsPacedAct c patience steps p (Some to) act = act ≡ Send to
 IsPacedAct c patience steps p None (Send to) = Unit {0}

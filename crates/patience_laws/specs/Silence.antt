@@ -24,9 +24,8 @@ pub record TakesOf (steps : List Step) (p q k : ℕ) : Type 0 where
 abbrev pub TakesNothingOf : List Step → ℕ → ℕ → ℕ → ℕ → Type 0
 TakesNothingOf steps p q round k = (m : ℕ) → round ≤ round_at steps p m → m ≤ k → ¬ TakesOf steps p q m
 
--- Up to step k, p ended a phase in which it took nothing of q, with a round of this number, nor has it since; and it
--- had
--- heard nothing of q of that round or of a later one.
+-- Up to step k, p ended a phase in which it took nothing of q, with a round of this number, nor has
+-- it since; and it had heard nothing of q of that round or of a later one.
 pub record WasSilent (steps : List Step) (p q k : ℕ) : Type 0 where
   pub round : ℕ
   pub place : ℕ

@@ -65,9 +65,8 @@ corner last rows k =
 abbrev pub all_ticks : Recorded → Window
 all_ticks trace = record { first = 1; to = trace.last }
 
--- The picture shows these ticks and lanes of the trace, with the witnesses and the corners of these rows. Of all ticks
--- it
--- shows so many columns, and the gaps of these rows.
+-- The picture shows these ticks and lanes of the trace, with the witnesses and the corners of these
+-- rows. Of all ticks it shows so many columns, and the gaps of these rows.
 pub record Shows (trace : Recorded) (rows : List Row) (w : Window) (lanes : ℕ) (p : Picture) : Type 0 where
   pub window : p.window ≡ w
   pub lanes_drawn : p.lanes ≡ lanes

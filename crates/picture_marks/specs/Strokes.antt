@@ -43,9 +43,8 @@ steps_to trace columns p c (suc n) = if is_in_column trace columns p c
 abbrev pub columns_for : ℕ → ℕ
 columns_for last = min (max last 1) COLUMNS
 
--- the first stroke of processor p from this column on: a step in each of its columns, none in those before it, and none
--- in
--- the one after it
+-- the first stroke of processor p from this column on: a step in each of its columns, none in those
+-- before it, and none in the one after it
 pub record IsNextStroke (s : Strokes) (p from : ℕ) (k : Stroke) : Type 0 where
   pub begins : from ≤ k.first
   pub some : k.first < k.end

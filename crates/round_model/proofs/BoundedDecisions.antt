@@ -1,6 +1,5 @@
--- The bounded decision: each processor of a set of at least N - t that hear one another owns one of any N phases in a
--- row, and
--- decides in it.
+-- The bounded decision: each processor of a set of at least N - t that hear one another owns one of
+-- any N phases in a row, and decides in it.
 use Rattle.std.proofs.Common.{ℕ, zero, suc, ◌≡◌, ◌+◌, ◌-◌, ◌*◌, ◌/◌, ◌%◌, ◌<◌, ◌≤◌, ◌⊎◌, inl, inr, Bool, true, Option, Some, None, is_some, refl, sym, ap, subst, ◌∙◌, arith}
 use Rattle.std.proofs.lemmas.Bool.{cases_lt}
 use Rattle.std.proofs.lemmas.Nat.{div-add-mod', mod-mul-add, mod_below}
@@ -70,9 +69,8 @@ member-positive set (suc p) m = omega arith
 HearOneAnother-from : (c : Setup) (set : ℕ) (table : Table) (round : ℕ) → IsWithin set c.n → HearsAllOf set table round → HearOneAnother c (has_proc set) table round
 HearOneAnother-from c set table round within hears = record { processors = λ p m. (member-positive set p m, within p m); hears = hears }
 
--- The bounded decision: each member decides by the third round of its own phase among the N after the settling phase,
--- and the
--- decision stays.
+-- The bounded decision: each member decides by the third round of its own phase among the N after
+-- the settling phase, and the decision stays.
 pub HaveDecided-state_after : (c : Setup) (set : ℕ) (table : Table) (first rounds : ℕ) → IsSetup c → IsInTouch c set table first (deciding_round c first)
     → deciding_round c first ≤ rounds → HaveDecided set (state_after c table rounds)
 HaveDecided-state_after c set table first rounds setup touch late p m = stays (state_after c table decided p).decision refl decides

@@ -1,6 +1,5 @@
--- Evidence by the clock, and which of it there is only because events were moved to later ticks (own). Times are those
--- of a
--- table.
+-- Evidence by the clock, and which of it there is only because events were moved to later ticks
+-- (own). Times are those of a table.
 use Rattle.std.specs.Prelude.{ℕ, ◌≡◌, ◌↔◌, ◌-◌, ◌+◌, ◌*◌, ◌<◌, Bool, IsTrue, List, Option}
 use Rattle.std.specs.Prelude.{Some, None, option_map, slice_get, suc, zero, if◌then◌else◌}
 use Rattle.std.specs.Option.{option_and_then}

@@ -40,8 +40,7 @@ abbrev pub at_most : ℕ → Option ℕ → Option ℕ
 at_most most None = None
 at_most most (Some bound) = if nat_le bound most then Some bound else None
 
--- the bound at the line of this number, if the scale reaches it: a power of ten, or else a multiple of the first round
--- number
--- that goes at most so often into the greatest bound
+-- the bound at the line of this number, if the scale reaches it: a power of ten, or else a multiple
+-- of the first round number that goes at most so often into the greatest bound
 abbrev pub line : BoundScale → ℕ → ℕ → Option ℕ
 line s number lines = at_most s.most (if is_log s then power_of_ten number else Some (round_step s.most lines * number))

@@ -44,9 +44,8 @@ first_within (power ∷ rest) n = if nat_le power n then power else first_within
 unfoldable pub power_within : ℕ → ℕ
 power_within n = first_within powers_of_ten n
 
--- To how many nanoseconds points of time are rounded in a run of so many with ticks of so many: to a tenth of a tick,
--- but
--- no finer than a ten thousandth of the run, and no coarser than a unit.
+-- To how many nanoseconds points of time are rounded in a run of so many with ticks of so many: to
+-- a tenth of a tick, but no finer than a ten thousandth of the run, and no coarser than a unit.
 abbrev pub fine_of : ℕ → ℕ → Unit → ℕ
 fine_of width length u = max 1 (min (max (power_within width / 10) (power_within length / 10000)) (nanoseconds_in u))
 
@@ -77,9 +76,8 @@ abbrev pub hundredths_text : ℕ → List ℕ
 hundredths_text n = if n % 10 == 0 then tenths_text (n / 10) else decimal (n / 100)
     ++ (codes "." ++ digits_text (n % 100))
 
--- how often a time has a unit, in three digits, or all if there are more before the point; half of the last one is
--- rounded
--- up
+-- how often a time has a unit, in three digits, or all if there are more before the point; half of
+-- the last one is rounded up
 abbrev pub three_text : ℕ → ℕ → List ℕ
 three_text n u =
     if nat_lt n (u / 1000 * 9995) then hundredths_text ((n * 100 + u / 2) / u)

@@ -1,6 +1,5 @@
--- What the heard table says, in words: a step that took a message in time. And what comes later in a trace changes no
--- row
--- of it that is over, and no node of such a round.
+-- What the heard table says, in words: a step that took a message in time. And what comes later in
+-- a trace changes no row of it that is over, and no node of such a round.
 use Rattle.std.proofs.Common.{ℕ, ◌≡◌, ◌+◌, ◌-◌, ◌≤◌, List, length, get_or, Option, Some, None, Bool, true, false, ◌&&◌, ◌==◌, refl, arith, eq-eqb, suc, ◌<◌, ◌⊎◌, inl, inr, ◌++◌, sym, ◌∙◌}
 use Rattle.std.specs.Prelude.{Contains, nat_le}
 use Rattle.std.specs.List.{list_any}

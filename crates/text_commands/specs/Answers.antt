@@ -13,9 +13,8 @@ use Rattle.text_verdicts.specs.Texts.{IsRefusedFor, OfTrace}
 abbrev pub IsAnswerTo : (Recorded → List ℕ → Type 0) → List ℕ → List ℕ → Type 0
 IsAnswerTo Gives text out = OfTrace (λ t. Gives t out) text
 
--- The fault is one that the trace is declined for, or out of memory. Refused texts and failing devices are no faults of
--- a
--- trace.
+-- The fault is one that the trace is declined for, or out of memory. Refused texts and failing
+-- devices are no faults of a trace.
 abbrev pub IsDeclined : (Fault → Type 0) → Fault → Type 0
 IsDeclined Declines fault.Memory = ⊤
 IsDeclined Declines fault.Read = ⊥

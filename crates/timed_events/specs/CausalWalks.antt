@@ -51,9 +51,9 @@ abbrev pub AreMet : List Event → List ℕ → ℕ → ℕ → Type 0
 AreMet events ranks i k = (a s : ℕ) → a < k → slice_index_or (messages_at events i) a None ≡ Some s → s < length events
     → 0 < slice_index ranks s
 
--- The order has the events that are placed, each behind its causes; ranks are their numbers in it, 0 of the others.
--- Each
--- processor has its first event that isn't placed as head, and is awake, or waits for a message of it.
+-- The order has the events that are placed, each behind its causes; ranks are their numbers in it,
+-- 0 of the others. Each processor has its first event that isn't placed as head, and is awake, or
+-- waits for a message of it.
 pub record IsWalked (events : List Event) (heads met waits ranks order awake : List ℕ) : Type 0 where
   pub wide : (length heads ≡ MAX_PROCESSORS) × (length met ≡ MAX_PROCESSORS) × (length waits ≡ MAX_PROCESSORS)
   pub long : length ranks ≡ length events

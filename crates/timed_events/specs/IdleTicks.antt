@@ -14,9 +14,8 @@ pub record HasEventIn (events : List Event) (ticks : List ℕ) (p y : ℕ) : Typ
   pub own : processor_at events place ≡ p
   pub at : slice_index ticks place ≡ y
 
--- Processor p has no event in the ticks after `since` up to y, which are at least one and at most `limit`. It has an
--- event
--- in tick `since`, or that is 0.
+-- Processor p has no event in the ticks after `since` up to y, which are at least one and at most
+-- `limit`. It has an event in tick `since`, or that is 0.
 pub record IsShortSilence (events : List Event) (ticks : List ℕ) (limit p y : ℕ) : Type 0 where
   pub since : ℕ
   pub from : (since ≡ 0) ⊎ HasEventIn events ticks p since

@@ -70,9 +70,8 @@ abbrev pub IsIdleRefusal : Bool → ℕ → List Event → Clock → ℕ → Idl
 IsIdleRefusal spread n events clock limit (Events why) = IsTimedRefusal spread events clock why
 IsIdleRefusal spread n events clock limit TooManySteps = AreTooMany spread n events clock limit
 
--- No event is refused; these are the ticks of the events and of the receives of nothing, of which there are no more
--- than
--- a trace may have steps.
+-- No event is refused; these are the ticks of the events and of the receives of nothing, of which
+-- there are no more than a trace may have steps.
 pub record IsFilling (spread : Bool) (n : ℕ) (events : List Event) (clock : Clock) (limit : ℕ)
     (filling : Filling) : Type 0 where
   pub ticked : AreTicked spread events clock filling.ticked

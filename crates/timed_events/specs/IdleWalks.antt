@@ -39,9 +39,8 @@ pub record IsNoted (events : List Event) (ticks order : List ℕ) (limit k : ℕ
   pub next : x.tick + 1 ≡ slice_index ticks (slice_index order m)
   pub silence : IsShortSilence events ticks limit x.processor x.tick
 
--- the list has the short silences that end right before the first k events in the order; `lasts` are the last ticks of
--- the
--- processors among these events
+-- the list has the short silences that end right before the first k events in the order; `lasts`
+-- are the last ticks of the processors among these events
 pub record IsWalkedTo (events : List Event) (ticks order : List ℕ) (limit k : ℕ) (lasts : List ℕ)
     (idles : List IdleTick) : Type 0 where
   pub wide : length lasts ≡ MAX_PROCESSORS
@@ -54,9 +53,8 @@ pub record IsWalkedTo (events : List Event) (ticks order : List ℕ) (limit k : 
       → Contains idles (record { processor = processor_at events (slice_index order m); tick = y })
   pub rising : AreRising idles
 
--- the list has the short silences that end before some event, and those of the first `ended` processors that end in the
--- last
--- tick
+-- the list has the short silences that end before some event, and those of the first `ended`
+-- processors that end in the last tick
 pub record HaveEnded (n : ℕ) (events : List Event) (ticks lasts : List ℕ) (last limit ended : ℕ)
     (idles : List IdleTick) : Type 0 where
   pub latest : (p : ℕ) → p < n → IsLatestBefore events ticks (p + 1) (last + 1) (slice_index lasts p)

@@ -24,9 +24,8 @@ use Rattle.command_line.specs.Arguments.{optional_number_rule, optional_rule}
 use Rattle.command_line.specs.CrashLists.{IsCrashList}
 use Rattle.command_line.specs.RunJobs.{IsConfigFault, IsConfigOf}
 
--- simulate --nodes N --faults T --values V1,..,VN --patience P --steps S --seed K --schedule NAME --gst G --delta D
--- --phi F
--- --crash P@TICK,.. --loss PERCENT
+-- simulate --nodes N --faults T --values V1,..,VN --patience P --steps S --seed K --schedule NAME
+-- --gst G --delta D --phi F --crash P@TICK,.. --loss PERCENT
 abbrev pub simulate_app : App
 simulate_app = command_app (codes "simulate") (number_rule (codes "nodes") 0 (2 ^ 64 - 1)
     ∷ number_rule (codes "faults") 0 (2 ^ 64 - 1) ∷ option_rule (codes "values")
