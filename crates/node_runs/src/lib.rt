@@ -14,7 +14,7 @@ mod standings;
 pub use command_options::{Pace, RunEnd};
 pub use decision_lines::decisions_text;
 pub use followers::{Follower, follower_for};
-pub use runs::run_nodes;
+pub use runs::{Limits, run_nodes};
 pub use simulations::run_simulation;
 pub use standing_lines::{tell_standing, tell_stop};
 pub use standings::{LeastBounds, RECENT_TICKS, Standing, standing_of};

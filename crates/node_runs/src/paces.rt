@@ -3,6 +3,7 @@
 ghost use Rattle.std.specs.Prelude.{◌≤◌};
 ghost use Rattle.command_options.specs.Paces.{patience_of};
 
+use crate::runs::Limits;
 use command_options::{Pace, RunEnd};
 use locked_recorder::{Company, DriveError, Recorder, Seat};
 use std::alloc::Global;
@@ -17,15 +18,14 @@ pub(crate) fn driven<R: Wait, G: Gate>(
     seat: &mut Seat,
     gate: &G,
     company: &Company,
-    pace: Pace,
-    end: RunEnd,
-    steps: u64,
+    limits: Limits,
 ) -> Result<u64, DriveError>
-    requires { 1 ≤ patience_of pace }
+    requires { 1 ≤ patience_of limits.pace }
 {
-    match pace {
+    let steps = limits.steps;
+    match limits.pace {
         Pace::Patience(patience) => recorder.drive(rt, alloc, seat, gate, patience, steps),
-        Pace::HeardOut(patience) => match end {
+        Pace::HeardOut(patience) => match limits.end {
             RunEnd::Steps => {
                 recorder.drive_heard_out(rt, alloc, seat, gate, company, patience, steps)
             }

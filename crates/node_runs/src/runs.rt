@@ -45,9 +45,19 @@ enum Ending {
     Refused,
 }
 
-/// Runs the nodes of a configuration, a thread for each; and writes the trace of all their steps. The pace decides when
-/// a Receive ends a round, and `end` when the run ends: each thread makes so many steps at most. Each thread enters the
-/// gate before its first step. Nothing is written before all threads have ended.
+/// How far a run goes.
+#[derive(Clone, Copy)]
+pub struct Limits {
+    /// When a Receive ends a round.
+    pub pace: Pace,
+    /// When the run ends.
+    pub end: RunEnd,
+    /// How many steps each thread makes at most.
+    pub steps: u64,
+}
+
+/// Runs the nodes of a configuration, a thread for each; and writes the trace of all their steps. Each thread goes by
+/// the limits, and enters the gate before its first step. Nothing is written before all threads have ended.
 ///
 /// A follower, if there is one, reports the run and each decision meanwhile, and the whole run at its end. When the
 /// trace is written, the notes get a line on who decided what, and in which tick. The run is the same if these reports
@@ -61,30 +71,29 @@ pub fn run_nodes<R: Threads + Wait + Clock + Sync, W: Write, G: Gate, E: Write +
     rt: &R,
     alloc: Global,
     config: &Config,
-    pace: Pace,
-    end: RunEnd,
-    steps: u64,
+    limits: Limits,
     gate: &G,
     follower: &mut Option<Follower<E>>,
     writer: &mut Counting<W>,
     notes: &mut Counting<N>,
 ) -> Result<(), Fault>
-    requires patient { 1 ≤ patience_of pace }
-    requires room { config.now.n * steps ≤ MAX_STEPS }
+    requires patient { 1 ≤ patience_of limits.pace }
+    requires room { config.now.n * limits.steps ≤ MAX_STEPS }
     ensures run { OnOk result ((text : List ℕ)
-        × IsEndedRunText end config.now steps (WentOut N.contents notes.old notes.new) text
+        × IsEndedRunText limits.end config.now limits.steps
+        (WentOut N.contents notes.old notes.new) text
         × Appends (W.contents (inner_of writer.old)) (W.contents (inner_of writer.new)) text) }
     ensures flushed { OnOk result (IsTrue (is_flushed writer.new)) }
     ensures faultless { OnOk result (WasFaultless writer.old writer.new) }
     ensures own { IfErr result IsFaultOfNodes }
     ensures part { IfErr result
-        (IsUnwrittenRun end config.now steps (W.contents (inner_of writer.old))
+        (IsUnwrittenRun limits.end config.now limits.steps (W.contents (inner_of writer.old))
         (W.contents (inner_of writer.new))) }
     ensures unwritten { IfErr result (IsWriteFault writer.old writer.new) }
     ensures quiet { OnErr result (notes.new ≡ notes.old) }
     ensures followed { HasFollowed E.contents config.now follower.old follower.new }
 {
-    let world = world_made(rt, alloc, config, pace, end, steps, gate, follower)?;
+    let world = world_made(rt, alloc, config, limits, gate, follower)?;
     let decided = decisions_text(alloc, &world)?;
     tell_whole(alloc, &world, follower);
     write_trace(alloc, world.trace(), writer)?;
@@ -107,31 +116,27 @@ fn world_made<R: Threads + Wait + Clock + Sync, G: Gate, E: Write + Send>(
     rt: &R,
     alloc: Global,
     config: &Config,
-    pace: Pace,
-    end: RunEnd,
-    steps: u64,
+    limits: Limits,
     gate: &G,
     follower: &mut Option<Follower<E>>,
 ) -> Result<World, Fault>
-    requires patient { 1 ≤ patience_of pace }
-    requires room { config.now.n * steps ≤ MAX_STEPS }
-    ensures run { IfOk result (λ world. IsEndedRun end config.now steps world.trace) }
+    requires patient { 1 ≤ patience_of limits.pace }
+    requires room { config.now.n * limits.steps ≤ MAX_STEPS }
+    ensures run { IfOk result (λ world. IsEndedRun limits.end config.now limits.steps world.trace) }
     ensures own { IfErr result IsFaultOfThreads }
     ensures followed { HasFollowed E.contents config.now follower.old follower.new }
 {
-    let room = config.n() * steps;
+    let room = config.n() * limits.steps;
     let (recorder, mut seats) = Recorder::new(alloc, config.copy(alloc)?, 0, room)?;
     let company = Company::new(alloc, config.n())?;
     let ending = match follower {
         Some(follower) => drive_followed(
-            rt, alloc, &recorder, &company, &mut seats, pace, end, steps, gate, follower,
+            rt, alloc, &recorder, &company, &mut seats, limits, gate, follower,
         ),
-        None => drive_all(
-            rt, alloc, &recorder, &company, &mut seats, pace, end, steps, gate,
-        ),
+        None => drive_all(rt, alloc, &recorder, &company, &mut seats, limits, gate),
     };
     judged(ending)?;
-    audited(alloc, recorder, &seats, end, steps)
+    audited(alloc, recorder, &seats, limits)
 }
 
 /// Drives each seat in a thread of its own, while another thread follows; and answers the gravest ending of all. If
@@ -142,13 +147,11 @@ fn drive_followed<R: Threads + Wait + Clock + Sync, G: Gate, E: Write + Send>(
     recorder: &Recorder,
     company: &Company,
     seats: &mut [Seat],
-    pace: Pace,
-    end: RunEnd,
-    steps: u64,
+    limits: Limits,
     gate: &G,
     follower: &mut Follower<E>,
 ) -> Ending
-    requires { 1 ≤ patience_of pace }
+    requires { 1 ≤ patience_of limits.pace }
     ensures set { follower.new.analyst.set ≡ follower.old.analyst.set }
     ensures told { HasTold (IsLine recorder.now.config follower.old.analyst.set) follower.old.told
         follower.new.told (E.contents (inner_of follower.old.writer))
@@ -165,12 +168,8 @@ fn drive_followed<R: Threads + Wait + Clock + Sync, G: Gate, E: Write + Send>(
                 (E.contents (inner_of follower.exit.now.writer)) }
         { follower.follow(rt, alloc, recorder, ended) },
         &mut || -> Ending
-            requires { 1 ≤ patience_of pace }
-        {
-            drive_to_end(
-                rt, alloc, recorder, company, gate, pace, end, steps, ended, seats,
-            )
-        },
+            requires { 1 ≤ patience_of limits.pace }
+        { drive_to_end(rt, alloc, recorder, company, gate, limits, ended, seats) },
     );
     ending
 }
@@ -182,15 +181,13 @@ fn drive_to_end<R: Threads + Wait + Sync, G: Gate>(
     recorder: &Recorder,
     company: &Company,
     gate: &G,
-    pace: Pace,
-    end: RunEnd,
-    steps: u64,
+    limits: Limits,
     ended: &AtomicBool,
     seats: &mut [Seat],
 ) -> Ending
-    requires { 1 ≤ patience_of pace }
+    requires { 1 ≤ patience_of limits.pace }
 {
-    let ending = drive_all(rt, alloc, recorder, company, seats, pace, end, steps, gate);
+    let ending = drive_all(rt, alloc, recorder, company, seats, limits, gate);
     ended.store(true, Ordering::SeqCst);
     ending
 }
@@ -202,26 +199,24 @@ fn drive_all<R: Threads + Wait + Sync, G: Gate>(
     recorder: &Recorder,
     company: &Company,
     seats: &mut [Seat],
-    pace: Pace,
-    end: RunEnd,
-    steps: u64,
+    limits: Limits,
     gate: &G,
 ) -> Ending
-    requires { 1 ≤ patience_of pace }
+    requires { 1 ≤ patience_of limits.pace }
 {
     thread::scope(
         thread::scope_env(),
         rt,
         |scope| -> Ending
-            requires { 1 ≤ patience_of pace }
+            requires { 1 ≤ patience_of limits.pace }
         {
             let Ok(mut threads) = Vec::with_capacity(alloc, seats.len()) else {
                 return Ending::NoMemory;
             };
             for seat in seats.iter_mut() {
                 let drive = move || -> Ending
-                    requires { 1 ≤ patience_of pace }
-                { how_ended(driven(rt, alloc, recorder, seat, gate, company, pace, end, steps)) };
+                    requires { 1 ≤ patience_of limits.pace }
+                { how_ended(driven(rt, alloc, recorder, seat, gate, company, limits)) };
                 // The threads that run are joined where the scope ends.
                 let Ok(started) = scope.spawn(drive) else {
                     company.rouse(rt);
@@ -304,10 +299,10 @@ fn audited(
     alloc: Global,
     recorder: Recorder,
     seats: &[Seat],
-    end: RunEnd,
-    steps: u64,
+    limits: Limits,
 ) -> Result<World, Fault>
-    ensures run { IfOk result (λ world. IsEndedRun end recorder.config steps world.trace) }
+    ensures run { IfOk result
+        (λ world. IsEndedRun limits.end recorder.config limits.steps world.trace) }
     ensures own { IfErr result IsFaultOfThreads }
     ensures no_threads { IfErr result (λ why. why ≢ Fault.Threads) }
 {
@@ -316,18 +311,19 @@ fn audited(
         Err(AuditError::Memory) => return Err(Fault::Memory),
         Err(_) => return Err(Fault::NotARun(0, None)),
     };
-    if !have_ended(&world, seats, end, steps) {
+    if !have_ended(&world, seats, limits) {
         return Err(Fault::NotARun(0, None));
     }
     Ok(world)
 }
 
-/// Whether what was done from the seats is all of a run that has ended, if each makes so many steps at most.
-fn have_ended(world: &World, seats: &[Seat], end: RunEnd, steps: u64) -> bool
-    ensures { IsTrue result
-        → HaveEnded end world.now.trace.config steps world.now.trace.steps seats.now }
+/// Whether what was done from the seats is all of a run that has ended, by these limits.
+fn have_ended(world: &World, seats: &[Seat], limits: Limits) -> bool
+    ensures { IsTrue result → HaveEnded limits.end world.now.trace.config limits.steps
+        world.now.trace.steps seats.now }
 {
-    match end {
+    let steps = limits.steps;
+    match limits.end {
         RunEnd::Steps => have_done(seats, steps),
         RunEnd::Decided => {
             have_done_at_most(seats, steps) && (have_decided(world) || have_done(seats, steps))

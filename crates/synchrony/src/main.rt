@@ -16,7 +16,7 @@ use command_faults::{Fault, print, status, tell};
 use command_line::jobs::{CheckJob, DrawJob, ImportJob, JudgeJob, PageJob, ReportJob};
 use command_line::{Job, read_command, refuse_words};
 use command_options::{RunOptions, SimulationOptions, Workers};
-use node_runs::{follower_for, run_nodes, run_simulation};
+use node_runs::{Limits, follower_for, run_nodes, run_simulation};
 use std::env;
 use std::process::ExitCode;
 use std::sync::Wait;
@@ -110,9 +110,7 @@ fn run_of<T: Threads + Wait + Clock + Sync>(
         threads,
         rt.alloc(),
         &config,
-        pace,
-        end,
-        steps,
+        Limits { pace, end, steps },
         &OpenGate,
         &mut follower,
         &mut Counting::new(&mut output),

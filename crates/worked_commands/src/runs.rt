@@ -3,7 +3,7 @@
 ghost use Rattle.std.specs.Prelude.{◌≡◌, IfSome};
 
 use command_faults::{Fault, status};
-use node_runs::{Follower, Pace, RunEnd, run_nodes};
+use node_runs::{Follower, Limits, Pace, RunEnd, run_nodes};
 use std::alloc::Global;
 use std::sync::Wait;
 use std::thread::Threads;
@@ -48,9 +48,11 @@ fn run_two<R: Threads + Wait + Clock + Sync, G: Gate>(
         rt,
         alloc,
         &config,
-        Pace::Patience(1),
-        RunEnd::Steps,
-        4,
+        Limits {
+            pace: Pace::Patience(1),
+            end: RunEnd::Steps,
+            steps: 4,
+        },
         gate,
         &mut nobody(),
         &mut Counting::new(writer),
