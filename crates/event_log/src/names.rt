@@ -1,6 +1,7 @@
 //! The names of nodes and messages.
 
-ghost use Rattle.std.specs.Prelude.{◌≡◌, ◌<◌, ℕ, List, [], IfSome, IfOk, OnOk, OnErr, is_some};
+ghost use Rattle.std.specs.Prelude.{◌≡◌, ◌<◌, ℕ, List, [], IfSome, IfOk, IsTrue, OnOk, OnErr, is_some};
+ghost use Rattle.std.specs.Prelude.{◌==◌, true, false};
 ghost use Rattle.std.specs.Prelude.{length, not, option_map, position, slice_get};
 ghost use Rattle.std.specs.List.{list_any, position_or_len};
 ghost use Rattle.std.specs.Str.{bytes_eq};
@@ -66,11 +67,27 @@ fn has_control(name: &[u8]) -> bool
     name.iter().any(|byte| *byte < 32 || *byte == 127)
 }
 
+/// Whether these bytes are a name of printable ASCII without this byte. Most names are, and need no other test.
+fn is_plain(name: &[u8], other: u8) -> bool
+    ensures name { IsTrue result → is_name name.now ≡ true }
+    ensures other { IsTrue result → list_any (λ byte. byte == other) name.now ≡ false }
+{
+    for byte in name {
+        if *byte < 32 || *byte > 126 || *byte == other {
+            return false;
+        }
+    }
+    name.len() > 0
+}
+
 /// Whether these bytes are the name of a message: one without a space.
 #[tactic(auto, unfolding(crate::specs::Names::is_message_name))]
 pub(crate) fn is_message_name(name: &[u8]) -> bool
     ensures { result ≡ is_message_name name.now }
 {
+    if is_plain(name, b' ') {
+        return true;
+    }
     if !is_name(name) {
         return false;
     }
@@ -82,6 +99,9 @@ pub(crate) fn is_message_name(name: &[u8]) -> bool
 pub(crate) fn is_node_name(name: &[u8]) -> bool
     ensures { result ≡ is_node_name name.now }
 {
+    if is_plain(name, b';') {
+        return true;
+    }
     if !is_name(name) {
         return false;
     }
