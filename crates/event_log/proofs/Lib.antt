@@ -14,6 +14,7 @@ pub mod SoundLogs
 pub mod Stages
 pub mod Texts
 pub mod Views
+pub mod PlainLines
 pub mod AlignedLogs
 pub mod OneAlignment
 pub mod TimeTexts

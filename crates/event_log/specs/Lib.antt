@@ -11,6 +11,7 @@ pub mod KeptEvents
 pub mod PackedEvents
 pub mod Naming
 pub mod Reading
+pub mod PlainLines
 pub mod Events
 pub mod Logs
 pub mod SoundLogs

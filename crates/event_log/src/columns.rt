@@ -1,13 +1,11 @@
 //! The header of a log: which column is where.
 
 ghost use Rattle.std.specs.Prelude.{◌≡◌, ◌<◌, ◌≤◌, ◌+◌, ◌^◌, IfSome, find, length};
-ghost use Rattle.csv.specs.Records.{fields_of};
 ghost use Rattle.event_log.specs.Columns.{all_columns, columns_of, has_twice, lacks, name_of, place_from, place_in};
 
+use crate::fields::{Fields, field_is};
 use crate::refusals::LogError;
-use csv::ByteRecord;
 use std::fmt;
-use trace_text::records::field_is;
 
 /// A column that a log has.
 #[derive(Clone, Copy, Debug)]
@@ -69,8 +67,8 @@ impl fmt::Display for Column {
 ///
 /// Refuses NoColumn with the first column that is missing, and TwoColumns with the first that occurs twice, in this
 /// order.
-pub fn columns_of(header: &ByteRecord) -> Result<Columns, LogError>
-    ensures { result ≡ columns_of (fields_of header.now) }
+pub fn columns_of<F: Fields>(header: &F) -> Result<Columns, LogError>
+    ensures { result ≡ columns_of (F.fields header.now) }
 {
     if let Some(column) = first_lacking(header) {
         return Err(LogError::NoColumn(column));
@@ -84,12 +82,12 @@ pub fn columns_of(header: &ByteRecord) -> Result<Columns, LogError>
         event: place_in(header, Column::Event).unwrap_or(0),
         to: place_in(header, Column::To).unwrap_or(0),
         message: place_in(header, Column::Message).unwrap_or(0),
-        fields: header.len(),
+        fields: header.count(),
     })
 }
 
-fn first_lacking(header: &ByteRecord) -> Option<Column>
-    ensures { result ≡ find (lacks (fields_of header.now)) all_columns }
+fn first_lacking<F: Fields>(header: &F) -> Option<Column>
+    ensures { result ≡ find (lacks (F.fields header.now)) all_columns }
 {
     for column in COLUMNS {
         if place_in(header, column).is_none() {
@@ -99,8 +97,8 @@ fn first_lacking(header: &ByteRecord) -> Option<Column>
     None
 }
 
-fn first_twice(header: &ByteRecord) -> Option<Column>
-    ensures { result ≡ find (has_twice (fields_of header.now)) all_columns }
+fn first_twice<F: Fields>(header: &F) -> Option<Column>
+    ensures { result ≡ find (has_twice (F.fields header.now)) all_columns }
 {
     for column in COLUMNS {
         if stands_twice(header, column) {
@@ -110,8 +108,8 @@ fn first_twice(header: &ByteRecord) -> Option<Column>
     None
 }
 
-fn stands_twice(header: &ByteRecord, column: Column) -> bool
-    ensures { result ≡ has_twice (fields_of header.now) column }
+fn stands_twice<F: Fields>(header: &F, column: Column) -> bool
+    ensures { result ≡ has_twice (F.fields header.now) column }
 {
     match place_in(header, column) {
         Some(place) => place_from(header, column, place + 1).is_some(),
@@ -120,22 +118,22 @@ fn stands_twice(header: &ByteRecord, column: Column) -> bool
 }
 
 /// The first place of a column.
-pub(crate) fn place_in(header: &ByteRecord, column: Column) -> Option<usize>
-    ensures place { result ≡ place_in (fields_of header.now) column }
-    ensures within { IfSome result (λ i. i < length (fields_of header.now)) }
+pub(crate) fn place_in<F: Fields>(header: &F, column: Column) -> Option<usize>
+    ensures place { result ≡ place_in (F.fields header.now) column }
+    ensures within { IfSome result (λ i. i < length (F.fields header.now)) }
     ensures fits { IfSome result (λ i. i + 1 < 2 ^ 64) }
 {
     place_from(header, column, 0)
 }
 
 /// The first place of a column from a place on.
-fn place_from(header: &ByteRecord, column: Column, start: usize) -> Option<usize>
-    requires { start ≤ length (fields_of header.now) }
-    ensures place { result ≡ place_from start (fields_of header.now) column }
-    ensures within { IfSome result (λ i. i < length (fields_of header.now)) }
+fn place_from<F: Fields>(header: &F, column: Column, start: usize) -> Option<usize>
+    requires { start ≤ length (F.fields header.now) }
+    ensures place { result ≡ place_from start (F.fields header.now) column }
+    ensures within { IfSome result (λ i. i < length (F.fields header.now)) }
     ensures fits { IfSome result (λ i. i + 1 < 2 ^ 64) }
 {
-    for i in start..header.len() {
+    for i in start..header.count() {
         if field_is(header, i, column.name().as_bytes()) {
             return Some(i);
         }

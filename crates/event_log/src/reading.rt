@@ -5,12 +5,15 @@ ghost use Rattle.csv.specs.Records.{fields_of};
 ghost use Rattle.trace_text.specs.Records.{GivesUnless, ReachesUnless};
 ghost use Rattle.event_log.specs.LogRecords.{said};
 ghost use Rattle.event_log.specs.Naming.{is_memory};
+ghost use Rattle.event_log.specs.PlainLines.{LeadsOn};
 ghost use Rattle.event_log.specs.Reading.{after_told, named_at_end, named_from, named_of, next_reading};
 ghost use Rattle.event_log.specs.Results.{both};
 
 use crate::columns::{Column, Columns, columns_of};
+use crate::fields::Fields;
 use crate::names::NameSet;
 use crate::naming::Naming;
+use crate::plain_lines::PlainLine;
 use crate::records::{Rules, Told, told_of};
 use crate::refusals::LogError;
 use crate::results::{both, put_error};
@@ -80,8 +83,23 @@ fn read_kind(alloc: Global, text: &[u8], reading: &mut Reading<'_>) -> Result<Ti
     if text.len() > MAX_TEXT_BYTES {
         return Err(LogError::TooLarge);
     }
-    take_rows(alloc, text, reading)?;
+    let at = take_lines(alloc, text, reading)?;
+    take_rows(alloc, &text[at..], reading)?;
     kind_at_end(reading)
+}
+
+/// Takes in the records at the front of a text, as far as each is a line that needs no reader of csv's. Gives the place
+/// where the first other one begins.
+fn take_lines(alloc: Global, text: &[u8], reading: &mut Reading<'_>) -> Result<usize, LogError>
+    ensures { LeadsOn reading.old reading.new text.now result }
+{
+    let mut line = PlainLine::new();
+    let mut at = 0;
+    while let Some(end) = line.read(text, at) {
+        reading.take_fields(alloc, &line)?;
+        at = end;
+    }
+    Ok(at)
 }
 
 /// The kind of the times at the end of the text, unless something else than the names is missing.
@@ -105,10 +123,19 @@ fn kind_at_end(reading: &Reading<'_>) -> Result<TimeKind, LogError>
 impl<'a> TakeRows for Reading<'a> {
     ghost next = { next_reading };
 
-    /// Takes in one more record: the header, or an event.
     fn take(&mut self, alloc: Global, fields: &ByteRecord) -> Result<(), LogError>
         ensures { ReachesUnless is_memory result self.new
             (next_reading self.old (fields_of fields.now)) }
+    {
+        self.take_fields(alloc, fields)
+    }
+}
+
+impl<'a> Reading<'a> {
+    /// Takes in one more record: the header, or an event.
+    fn take_fields<F: Fields>(&mut self, alloc: Global, fields: &F) -> Result<(), LogError>
+        ensures { ReachesUnless is_memory result self.new
+            (next_reading self.old (F.fields fields.now)) }
     {
         let Some(columns) = self.columns else {
             self.columns = Some(columns_of(fields)?);

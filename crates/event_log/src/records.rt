@@ -1,18 +1,17 @@
 //! What a record of a log says about an event.
 
 ghost use Rattle.std.specs.Prelude.{◌≡◌, Ok, Err, IfOk, MatchBool, MatchResult, ⊤};
-ghost use Rattle.csv.specs.Records.{fields_of};
 ghost use Rattle.event_log.specs.LogRecords.{are_messages, are_nodes, bad_node, is_node, moment_as};
 ghost use Rattle.event_log.specs.LogRecords.{name_in, said, said_by, said_of, verb_of};
 ghost use Rattle.event_log.specs.Naming.{IsUnless, is_memory};
 
 use crate::columns::Columns;
+use crate::fields::Fields;
+use crate::name_keys::are_same;
 use crate::names::{Name, NameSet, are_message_names, is_message_name, is_node_name};
 use crate::refusals::LogError;
 use crate::times::{Moment, TimeKind, moment_in, read_moment};
-use csv::ByteRecord;
 use std::alloc::{AllocError, Global};
-use trace_text::records::field;
 
 /// What happened, as the column `event` says it.
 #[derive(Clone, Copy)]
@@ -47,32 +46,32 @@ pub(crate) struct Rules<'a> {
 ///
 /// Refuses BadFields, BadTime, BadEvent, BadNode and BadMessage with the number, in this order. Memory may come in
 /// place of BadNode, which has the name.
-pub(crate) fn told_of<'a>(
+pub(crate) fn told_of<'a, F: Fields>(
     alloc: Global,
     rules: &Rules<'_>,
     no: u64,
-    fields: &'a ByteRecord,
+    fields: &'a F,
 ) -> Result<Told<'a>, LogError>
     ensures { MatchResult result
-        (λ told. said_of rules.now no (fields_of fields.now) ≡ Ok (said told))
-        (λ e. MatchBool (is_memory e) ⊤ (said_of rules.now no (fields_of fields.now) ≡ Err e)) }
+        (λ told. said_of rules.now no (F.fields fields.now) ≡ Ok (said told))
+        (λ e. MatchBool (is_memory e) ⊤ (said_of rules.now no (F.fields fields.now) ≡ Err e)) }
 {
     let columns = rules.columns;
-    if fields.len() != columns.fields {
+    if fields.count() != columns.fields {
         return Err(LogError::BadFields(no));
     }
-    let Some(moment) = moment_as(rules.kind, field(fields, columns.time)) else {
+    let Some(moment) = moment_as(rules.kind, fields.field(columns.time)) else {
         return Err(LogError::BadTime(no));
     };
-    let Some(verb) = verb_of(field(fields, columns.event)) else {
+    let Some(verb) = verb_of(fields.field(columns.event)) else {
         return Err(LogError::BadEvent(no));
     };
     let told = Told {
         moment,
         verb,
-        node: field(fields, columns.node),
-        to: field(fields, columns.to),
-        messages: field(fields, columns.message),
+        node: fields.field(columns.node),
+        to: fields.field(columns.to),
+        messages: fields.field(columns.message),
     };
     if !are_nodes(rules.listed, &told) {
         return Err(node_refusal(alloc, no, rules.listed, &told));
@@ -96,10 +95,10 @@ fn moment_as(kind: Option<TimeKind>, field: &[u8]) -> Option<Moment>
 fn verb_of(field: &[u8]) -> Option<Verb>
     ensures { result ≡ verb_of field.now }
 {
-    if field == b"send".as_slice() {
+    if are_same(field, b"send") {
         return Some(Verb::Send);
     }
-    if field == b"receive".as_slice() {
+    if are_same(field, b"receive") {
         return Some(Verb::Receive);
     }
     None

@@ -3,6 +3,7 @@ pub mod QuoteFree
 pub mod PagedSteps
 pub mod NumberedLines
 pub mod LinesTold
+pub mod PlainLines
 pub mod StepLines
 pub mod PieceLemmas
 pub mod PartsRead

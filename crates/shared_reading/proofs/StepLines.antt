@@ -1,14 +1,11 @@
 -- A line that encodes a step in canonical form is read by csv's reader as its fields.
-use Rattle.std.proofs.Common.{◌≡◌, ◌≤◌, ◌<◌, ◌+◌, ◌∙◌, ℕ, suc, List, [], ◌∷◌, ◌++◌, length, drop, Option, Some, None}
+use Rattle.std.proofs.Common.{◌≡◌, ◌≤◌, ◌<◌, ◌+◌, ◌∙◌, ℕ, List, [], ◌∷◌, ◌++◌, length, drop, Option, Some, None}
 use Rattle.std.proofs.Common.{Result, Ok, Err, Bool, true, false, cond, refl, sym, ap, subst, arith, codes}
-use Rattle.std.proofs.Common.{length-append}
 use Rattle.std.specs.Prelude.{IfOk}
 use Rattle.std.specs.Option.{ok_or}
 use Rattle.std.specs.Str.{bytes_eq}
-use Rattle.std.specs.List.{join_with_byte}
-use Rattle.csv.specs.Reading.{default_config, records, records_from, strip_bom}
+use Rattle.csv.specs.Reading.{default_config, records, strip_bom}
 use Rattle.csv.specs.Records.{field_at}
-use Rattle.csv.specs.declared.parser.State.TheVariants as st
 use Rattle.step_trace.specs.declared.steps.Act.{Act}
 use Rattle.step_trace.specs.declared.steps.Act.TheVariants.{Send, Receive}
 use Rattle.step_trace.specs.declared.steps.Step.{Step}
@@ -20,7 +17,6 @@ use Rattle.trace_text.specs.RecordWriting.{ArePlain}
 use Rattle.trace_text.specs.declared.refusals.TextError.TheVariants.{BadFields, WrongNumber}
 use Rattle.trace_text.specs.TextRefusals.{ids_of}
 use Rattle.trace_text.specs.JudgedIds.{judged_of}
-use Rattle.trace_text.proofs.LinesRead.{line-read}
 use Rattle.trace_text.proofs.NumberLists.{ids_of-one}
 use Rattle.trace_text.proofs.Numbers.{number_of-some}
 use Rattle.trace_text.proofs.TraceRecords.{not_end}
@@ -31,22 +27,7 @@ use Rattle.shared_reading.specs.Lines.{line_of, narrow_line}
 use Rattle.shared_reading.specs.StepFields.{AreNumbersOf, record_of, told_tick}
 use Rattle.shared_reading.specs.StepLines.{IsStepLine, act_with}
 use Rattle.shared_reading.proofs.LinesTold.{tells}
-use Rattle.shared_reading.proofs.Splits.{same-fuel}
-
-line-from : (n m : ℕ) (fields : List (List ℕ)) (rest : List ℕ) → 2 ≤ length fields → ArePlain fields → length rest < n → length rest < m
-    → records_from default_config (suc n) st.StartRecord (record_line fields ++ rest) ≡ fields ∷ records_from default_config m st.StartRecord rest
-unfolding records_from
-line-from n m fields rest two plain l k =
-    rw (line-read fields rest two plain) (ap (λ (rs : List (List (List ℕ))). fields ∷ rs) (same-fuel n m st.StartRecord rest refl l k))
-
--- the first record of a text that begins with the line of plain fields
-records-line : (fields : List (List ℕ)) (rest : List ℕ) → 2 ≤ length fields → ArePlain fields → records default_config (record_line fields ++ rest) ≡ fields ∷ records default_config rest
-records-line fields rest two plain =
-    let whole = length-append (record_line fields) rest in
-    let line = length-append (join_with_byte 44 fields) (10 ∷ []) in
-    let next : length (record_line fields ++ rest) + 1 ≡ suc (length (record_line fields ++ rest)) = omega arith in
-    subst (λ n. records_from default_config n st.StartRecord (record_line fields ++ rest) ≡ fields ∷ records default_config rest) (sym next)
-    (line-from (length (record_line fields ++ rest)) (length rest + 1) fields rest two plain (omega (arith, whole, line)) (omega arith))
+use Rattle.shared_reading.proofs.PlainLines.{records-line}
 
 -- a number is no end
 not-end : (f : List ℕ) (n : ℕ) → number_of f ≡ Some n → bytes_eq f (codes "end") ≡ false

@@ -16,4 +16,5 @@ mod step_lines;
 mod under_way;
 
 pub use device_texts::{read_trace_by_parts, read_trace_from};
+pub use pieces::may_be_marked;
 pub use reading::read_trace;

@@ -73,7 +73,7 @@ pub(crate) fn ends_line(bytes: &[u8]) -> bool
 }
 
 /// Whether the bytes may begin with a byte order mark.
-pub(crate) fn may_be_marked(bytes: &[u8]) -> bool
+pub fn may_be_marked(bytes: &[u8]) -> bool
     ensures { result ≡ false → strip_bom bytes.now ≡ bytes.now }
 {
     if bytes.len() == 0 {

@@ -1,9 +1,8 @@
 use Rattle.std.proofs.Common.{◌≡◌, drop}
 use Rattle.std.specs.Prelude.{find}
-use Rattle.csv.specs.Records.{fields_of}
 use Rattle.event_log.specs.Columns.{all_columns, lacks}
 use Rattle.event_log.proofs.columns.first_lacking.Given as goal
 
 abbrev pub invariant-loop-column : goal.invariant-loop-column
-invariant-loop-column l = (l.column-items ≡ all_columns)
-    × (find (lacks (fields_of l.header)) all_columns ≡ find (lacks (fields_of l.header)) (drop l.column-index all_columns))
+invariant-loop-column g l = (l.column-items ≡ all_columns)
+    × (find (lacks (g.F.Fields.fields l.header)) all_columns ≡ find (lacks (g.F.Fields.fields l.header)) (drop l.column-index all_columns))

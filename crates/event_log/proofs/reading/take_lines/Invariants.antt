@@ -1,0 +1,13 @@
+use Rattle.std.proofs.Common.{◌≡◌, ◌-◌, ◌≤◌, length, drop}
+use Rattle.trace_text.specs.Records.{after_records, records_of_text}
+use Rattle.event_log.specs.Reading.{next_reading}
+use Rattle.event_log.proofs.reading.take_lines.Given as goal
+
+-- what was read leads, with the records from the place on, where all records lead
+abbrev pub invariant-loop-end : goal.invariant-loop-end
+invariant-loop-end l =
+    (l.at ≤ length l.fn.text)
+    × (after_records next_reading l.fn.reading (records_of_text l.fn.text) ≡ after_records next_reading l.reading (records_of_text (drop l.at l.fn.text)))
+
+abbrev pub decreases-loop-end : goal.decreases-loop-end
+decreases-loop-end l = length l.fn.text - l.at
