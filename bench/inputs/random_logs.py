@@ -536,7 +536,7 @@ def text_of(chance, log):
     if log.text is not None:
         return log.text
     columns = [*log.columns]
-    for _ in range(chance.choice([0, 0, 0, 1, 2])):
+    for _ in range(chance.choice([0, 0, 0, 0, 0, 0, 1, 1, 2, 2, 14])):
         columns.insert(chance.randrange(len(columns) + 1), chance.choice(["level", "x", "x", "to what"]))
     if chance.random() < 0.4:
         chance.shuffle(columns)
