@@ -4,6 +4,7 @@ pub mod TakenMessages
 pub mod Moments
 pub mod EventReasons
 pub mod PassedEvents
+pub mod PlacedSlots
 pub mod SortedEvents
 pub mod StepsSoFar
 pub mod FittingEvents

@@ -1,5 +1,5 @@
 -- The fields that encode a step need no quotes.
-use Rattle.std.proofs.Common.{◌≡◌, ℕ, List, [], ◌∷◌, Option, Some, None, Result, Ok, Bool, true, false, cond, refl, sym, subst, codes}
+use Rattle.std.proofs.Common.{◌≡◌, ℕ, List, [], ◌∷◌, Option, Some, None, Ok, Bool, true, false, cond, refl, sym, subst, codes}
 use Rattle.std.specs.Prelude.{option_map}
 use Rattle.std.specs.Str.{bytes_eq}
 use Rattle.step_trace.specs.declared.steps.Act.{Act}

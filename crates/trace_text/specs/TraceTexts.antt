@@ -1,5 +1,5 @@
 -- Trace text: the records of a trace in each version, and the texts that encode it.
-use Rattle.std.specs.Prelude.{ℕ, ◌≡◌, ◌+◌, ◌<◌, ◌^◌, List, [], ◌∷◌, ◌++◌, length, map, All, Bool}
+use Rattle.std.specs.Prelude.{ℕ, ◌≡◌, ◌+◌, ◌<◌, ◌^◌, List, [], ◌∷◌, ◌++◌, length, map, take, drop, All, Bool}
 use Rattle.std.specs.Prelude.{true, false, ◌&&◌, ◌==◌, if◌then◌else◌, ⊤, codes, decimal}
 use Rattle.std.specs.List.{join_with_byte}
 use Rattle.step_trace.specs.declared.steps.Act.{Act}
@@ -10,7 +10,7 @@ use Rattle.step_trace.specs.Traces.{Recorded}
 use Rattle.step_trace.specs.Ticks.{tick_at, IsTrace, IsOnePerTick}
 use Rattle.trace_text.specs.declared.versions.Version.{Version}
 use Rattle.trace_text.specs.declared.versions.Version.TheVariants.{One, Two}
-use Rattle.trace_text.specs.Records.{records_of_text, text_of_records}
+use Rattle.trace_text.specs.Records.{record_line, records_of_text, text_of_records}
 
 -- the field of a version
 abbrev pub version_field : Version → List ℕ
@@ -67,6 +67,17 @@ StandsFor text t = (v : Version) × HasTextsOf v t × (records_of_text text ≡ 
 -- the text of a trace in a version, in canonical form
 abbrev pub version_text : Version → Recorded → List ℕ
 version_text v t = text_of_records (trace_records v t)
+
+-- its front, with this many of the first steps
+abbrev pub begun_text : Version → Recorded → ℕ → List ℕ
+begun_text v t count =
+    record_line (header_record v t.config.n t.config.t)
+    ++ record_line (init_record t.config.init) ++ text_of_records (step_records v t.ticks 1 (take count t.steps))
+
+-- what comes behind it: the other steps, and the end
+abbrev pub rest_text : Version → Recorded → ℕ → List ℕ
+rest_text v t count =
+    text_of_records (step_records v t.ticks (count + 1) (drop count t.steps)) ++ record_line (end_record t.last)
 
 -- whether numbers count on from this one
 abbrev pub counts_from : ℕ → List ℕ → Bool

@@ -6,7 +6,6 @@ ghost use Rattle.trace_text.specs.Records.{record_line};
 ghost use Rattle.trace_text.specs.RecordWriting.{IsReady, IsPlain, ArePlain, written};
 
 use csv::{ByteRecord, Writer, WriterBuilder};
-use itoa::Buffer;
 use std::alloc::{AllocError, Global};
 
 /// A writer of records into memory, which has none yet. Takes no memory.
@@ -60,14 +59,6 @@ pub fn write_byte_record(
         return Err(AllocError);
     };
     Ok(())
-}
-
-/// The field of a number, in a buffer of its own: its decimal digits. Takes no memory.
-pub(crate) fn number_field(buffer: &mut Buffer, n: u64) -> &str
-    ensures digits { result.now ≡ decimal n }
-    ensures plain { IsPlain result.now }
-{
-    buffer.format(n)
 }
 
 /// The field of a number: its decimal digits.

@@ -1,31 +1,35 @@
 //! Writing of trace text: the whole text first, then its bytes.
 
-ghost use Rattle.std.specs.Prelude.{◌≡◌, ◌<◌, ◌^◌, [], ◌++◌, ◌↔◌, IfOk, OnOk, IfErr};
-ghost use Rattle.std.specs.Prelude.{IsTrue, All, length, map, decimal, string_bytes};
+ghost use Rattle.std.specs.Prelude.{◌≡◌, ◌+◌, ◌-◌, ◌<◌, ◌≤◌, ◌^◌, [], ◌∷◌, ◌++◌, ◌↔◌, IfOk, OnOk, IfErr};
+ghost use Rattle.std.specs.Prelude.{IsTrue, All, length, map, take, drop, decimal};
 ghost use Rattle.std.specs.List.{join_with_byte};
-ghost use Rattle.csv.specs.Records.{fields_of};
+ghost use Rattle.step_trace.specs.Configurations.{IsSetup};
 ghost use Rattle.step_trace.specs.Ticks.{IsOnePerTick};
 ghost use Rattle.trace_text.specs.ByteLoops.{WasFaultless};
 ghost use Rattle.trace_text.specs.Faults.{is_flushed};
 ghost use Rattle.trace_text.specs.Records.{record_line, text_of_records};
-ghost use Rattle.trace_text.specs.RecordWriting.{IsReady, IsPlain, ArePlain, written};
 ghost use Rattle.trace_text.specs.TextWriting.{Wrote, WrotePart, IsWriteCause};
 ghost use Rattle.trace_text.specs.TraceTexts.{IsTextTrace, StandsFor, is_one_per_tick, trace_text, trace_text_2};
 ghost use Rattle.trace_text.specs.TraceTexts.{version_text, version_field, header_record, init_record, step_record};
-ghost use Rattle.trace_text.specs.TraceTexts.{step_records, end_record, op_text, arg_text};
+ghost use Rattle.trace_text.specs.TraceTexts.{step_records, end_record, op_text, arg_text, begun_text, rest_text};
+ghost use Rattle.trace_text.specs.declared.versions.Version.TheVariants as Version;
 
 use crate::byte_loops::{MAX_TEXT_BYTES, write_text};
 use crate::counting::Counting;
-use crate::record_writing::{
-    number_field, number_text, record_writer, text_written, write_byte_record, write_record,
-};
 use crate::refusals::WriteError;
 use crate::versions::{Version, version_of};
-use csv::{ByteRecord, Writer};
-use itoa::Buffer;
+use itoa::write_digits;
 use std::alloc::{AllocError, Global};
 use std::io::Write;
+use std::thread;
+use std::thread::Threads;
 use step_trace::{Act, Step, Trace};
+
+/// The least number of steps whose text two threads make.
+const SHARED_STEPS: usize = 8_192;
+
+/// The greatest number of digits of a number.
+const MAX_DIGITS: usize = 20;
 
 /// Writes the text of a trace, and flushes: in version 1 if each step's tick is its number and the last
 /// tick is the number of steps, else in version 2.
@@ -81,6 +85,45 @@ pub fn trace_text_2_of(alloc: Global, trace: &Trace) -> Result<Vec<u8>, AllocErr
     trace_text_of(alloc, Version::Two, trace)
 }
 
+/// The text of a trace in version 2. Another thread makes the second half of a long one, if it can be started.
+pub fn trace_text_2_by_two<T: Threads>(
+    rt: &T,
+    alloc: Global,
+    trace: &Trace,
+) -> Result<Vec<u8>, AllocError>
+    ensures text { IfOk result (λ text. text.items ≡ trace_text_2 trace.now) }
+    ensures sound { OnOk result (IsTextTrace trace.now) }
+{
+    if trace.len() < SHARED_STEPS {
+        return trace_text_2_of(alloc, trace);
+    }
+    let half = trace.len() as u64 / 2;
+    let last = trace.last_tick();
+    let (second, first) = thread::join(
+        rt,
+        move || -> Result<Vec<u8>, AllocError>
+            requires half { half ≤ length trace.now.steps }
+            requires last { last ≡ trace.now.last }
+            ensures { IfOk result
+                (λ text. text.items ≡ rest_text Version.Two trace.entry.now half) }
+        {
+            let mut text = Vec::new(alloc);
+            push_rest(&mut text, Version::Two, trace, half, last)?;
+            Ok(text)
+        },
+        move || -> Result<Vec<u8>, AllocError>
+            requires { half ≤ length trace.now.steps }
+            ensures text { IfOk result
+                (λ text. text.items ≡ begun_text Version.Two trace.entry.now half) }
+            ensures setup { IsSetup trace.entry.now.config }
+            ensures values { All (λ v. v < 2 ^ 64) trace.entry.now.config.init }
+        { begun_text(alloc, Version::Two, trace, half) },
+    );
+    let mut text = first?;
+    text.extend_from_slice(&second?)?;
+    Ok(text)
+}
+
 /// Writes the text of a trace in a version.
 fn write_version<W: Write>(
     alloc: Global,
@@ -108,168 +151,201 @@ fn trace_text_of(alloc: Global, version: Version, trace: &Trace) -> Result<Vec<u
     ensures text { IfOk result (λ text. text.items ≡ version_text version trace.now) }
     ensures sound { IsTextTrace trace.now }
 {
-    let config = trace.config();
-    let n = config.n();
+    let all = trace.len() as u64;
     let last = trace.last_tick();
-    let init = init_fields(alloc, config.init())?;
-    let mut writer = record_writer(alloc);
-    write_header(alloc, &mut writer, version, n, config.t())?;
-    write_byte_record(&mut writer, &init)?;
-    write_steps(alloc, &mut writer, version, trace)?;
-    write_end(alloc, &mut writer, last)?;
-    text_written(writer)
+    let mut text = begun_text(alloc, version, trace, all)?;
+    push_rest(&mut text, version, trace, all, last)?;
+    Ok(text)
 }
 
-/// `dls-trace,V,N,t`
-fn write_header(
+/// The front of a trace's text, with its first steps, so many of them.
+fn begun_text(
     alloc: Global,
-    writer: &mut Writer<Vec<u8>>,
+    version: Version,
+    trace: &Trace,
+    count: u64,
+) -> Result<Vec<u8>, AllocError>
+    requires { count ≤ length trace.now.steps }
+    ensures text { IfOk result (λ text. text.items ≡ begun_text version trace.now count) }
+    ensures setup { IsSetup trace.now.config }
+    ensures values { All (λ v. v < 2 ^ 64) trace.now.config.init }
+{
+    let config = trace.config();
+    let mut text = Vec::new(alloc);
+    push_front(&mut text, version, config.n(), config.t(), config.init())?;
+    push_steps(&mut text, version, trace, 0, count)?;
+    Ok(text)
+}
+
+/// What comes behind it: the other steps, and the end, which has the last tick.
+fn push_rest(
+    text: &mut Vec<u8>,
+    version: Version,
+    trace: &Trace,
+    count: u64,
+    last: u64,
+) -> Result<(), AllocError>
+    requires count { count ≤ length trace.now.steps }
+    requires last { last ≡ trace.now.last }
+    ensures { OnOk result (text.new.items ≡ text.old.items ++ rest_text version trace.now count) }
+{
+    push_steps(text, version, trace, count, trace.len() as u64)?;
+    push_end(text, last)
+}
+
+/// The header and the initial values.
+fn push_front(
+    text: &mut Vec<u8>,
     version: Version,
     n: u64,
     t: u64,
+    values: &[u64],
 ) -> Result<(), AllocError>
-    requires { IsReady writer.old }
-    ensures ready { OnOk result (IsReady writer.new) }
-    ensures text { OnOk result
-        (written writer.new ≡ written writer.old ++ record_line (header_record version n t)) }
+    requires some { 0 < length values.now }
+    ensures text { OnOk result (text.new.items ≡ text.old.items
+        ++ (record_line (header_record version n t) ++ record_line (init_record values.now))) }
+    ensures numbers { All (λ v. v < 2 ^ 64) values.now }
 {
-    let processors = number_text(alloc, n)?;
-    let faulty = number_text(alloc, t)?;
-    write_record(
-        writer,
-        &[
-            b"dls-trace",
-            version_field(version),
-            processors.as_bytes(),
-            faulty.as_bytes(),
-        ],
-    )
+    push_header(text, version, n, t)?;
+    push_init(text, values)
 }
 
+/// `dls-trace,V,N,t`
+fn push_header(text: &mut Vec<u8>, version: Version, n: u64, t: u64) -> Result<(), AllocError>
+    ensures { OnOk result
+        (text.new.items ≡ text.old.items ++ record_line (header_record version n t)) }
+{
+    text.extend_from_slice(b"dls-trace,")?;
+    text.extend_from_slice(version_field(version))?;
+    push_number(text, n, b',')?;
+    push_number(text, t, b'\n')
+}
+
+/// A version's field and the comma behind it.
 fn version_field<'a>(version: Version) -> &'a [u8]
-    ensures text { result.now ≡ version_field version }
-    ensures plain { IsPlain result.now }
+    ensures { result.now ≡ version_field version ++ 44 ∷ [] }
 {
     match version {
-        Version::One => b"1",
-        Version::Two => b"2",
+        Version::One => b"1,",
+        Version::Two => b"2,",
     }
 }
 
 /// `init,v1,..,vN`
-fn init_fields(alloc: Global, values: &[u64]) -> Result<ByteRecord, AllocError>
-    ensures fields { IfOk result (λ fields. fields_of fields ≡ init_record values.now) }
-    ensures plain { IfOk result (λ fields. ArePlain (fields_of fields)) }
-    ensures numbers { All (λ v. v < 2 ^ 64) values.now }
+fn push_init(text: &mut Vec<u8>, values: &[u64]) -> Result<(), AllocError>
+    requires { 0 < length values.now }
+    ensures { OnOk result
+        (text.new.items ≡ text.old.items ++ record_line (init_record values.now)) }
 {
-    let mut fields = ByteRecord::new(alloc);
-    fields.push_field(b"init")?;
-    for value in values {
-        fields.push_field(number_text(alloc, *value)?.as_bytes())?;
-    }
-    Ok(fields)
+    text.extend_from_slice(b"init,")?;
+    push_numbers(text, b',', values)
 }
 
-/// A record for each step.
-fn write_steps(
-    alloc: Global,
-    writer: &mut Writer<Vec<u8>>,
+/// A record for each step behind the first `from`, up to the one of number `to`.
+fn push_steps(
+    text: &mut Vec<u8>,
     version: Version,
     trace: &Trace,
+    from: u64,
+    to: u64,
 ) -> Result<(), AllocError>
-    requires { IsReady writer.old }
-    ensures ready { OnOk result (IsReady writer.new) }
-    ensures text { OnOk result (written writer.new ≡ written writer.old
-        ++ text_of_records (step_records version trace.now.ticks 1 trace.now.steps)) }
+    requires order { from ≤ to }
+    requires within { to ≤ length trace.now.steps }
+    ensures { OnOk result (text.new.items ≡ text.old.items ++ text_of_records
+        (step_records version trace.now.ticks (from + 1)
+        (take (to - from) (drop from trace.now.steps)))) }
 {
-    let mut arg = String::new(alloc);
-    let mut no = 1;
-    while let Some(step) = trace.step(no) {
-        put_arg(&mut arg, &step.act)?;
-        write_step(writer, version, no, trace.tick(no), step, &arg)?;
-        no += 1;
+    for before in from..to {
+        let no = before + 1;
+        let Some(step) = trace.step(no) else {
+            unreachable!();
+        };
+        push_step(text, version, no, trace.tick(no), step)?;
     }
     Ok(())
 }
 
 /// `no,proc,op,arg`, in version 2 `no,tick,proc,op,arg`
-fn write_step(
-    writer: &mut Writer<Vec<u8>>,
+fn push_step(
+    text: &mut Vec<u8>,
     version: Version,
     no: u64,
     tick: u64,
     step: &Step,
-    arg: &str,
 ) -> Result<(), AllocError>
-    requires ready { IsReady writer.old }
-    requires arg { arg.now ≡ arg_text step.now.act }
-    requires plain { IsPlain arg.now }
-    ensures ready { OnOk result (IsReady writer.new) }
-    ensures text { OnOk result (written writer.new
-        ≡ written writer.old ++ record_line (step_record version no tick step.now)) }
+    ensures { OnOk result (text.new.items ≡ text.old.items
+        ++ record_line (step_record version no tick step.now)) }
 {
-    let (mut numbers, mut ticks, mut procs) = (Buffer::new(), Buffer::new(), Buffer::new());
-    let number = number_field(&mut numbers, no).as_bytes();
-    let proc = number_field(&mut procs, step.proc).as_bytes();
-    let op = op_text(&step.act);
-    let arg = arg.as_bytes();
+    push_number(text, no, b',')?;
     match version {
-        Version::One => write_record(writer, &[number, proc, op, arg]),
+        Version::One => push_act(text, step),
         Version::Two => {
-            let tick = number_field(&mut ticks, tick).as_bytes();
-            write_record(writer, &[number, tick, proc, op, arg])
+            push_number(text, tick, b',')?;
+            push_act(text, step)
         }
     }
 }
 
-fn op_text(act: &Act) -> &[u8]
-    ensures text { result.now ≡ op_text act.now }
-    ensures plain { IsPlain result.now }
+/// `proc,op,arg`
+fn push_act(text: &mut Vec<u8>, step: &Step) -> Result<(), AllocError>
+    ensures { OnOk result (text.new.items ≡ text.old.items ++ record_line
+        (decimal step.now.proc ∷ op_text step.now.act ∷ arg_text step.now.act ∷ [])) }
+{
+    push_number(text, step.proc, b',')?;
+    text.extend_from_slice(op_field(&step.act))?;
+    push_arg(text, &step.act)
+}
+
+/// An operation's field and the comma behind it.
+fn op_field(act: &Act) -> &[u8]
+    ensures { result.now ≡ op_text act.now ++ 44 ∷ [] }
 {
     match act {
-        Act::Send { .. } => b"S",
-        Act::Receive { ends: false, .. } => b"R",
-        Act::Receive { ends: true, .. } => b"E",
+        Act::Send { .. } => b"S,",
+        Act::Receive { ends: false, .. } => b"R,",
+        Act::Receive { ends: true, .. } => b"E,",
     }
 }
 
-/// Puts the argument of a step in the place of what the text was.
-fn put_arg(text: &mut String, act: &Act) -> Result<(), AllocError>
-    ensures text { OnOk result (string_bytes text.new ≡ arg_text act.now) }
-    ensures plain { OnOk result (IsPlain (string_bytes text.new)) }
+/// The argument of a step, and the end of its line.
+fn push_arg(text: &mut Vec<u8>, act: &Act) -> Result<(), AllocError>
+    ensures { OnOk result (text.new.items ≡ text.old.items ++ arg_text act.now ++ 10 ∷ []) }
 {
-    text.clear();
     match act {
-        Act::Send { to } => text.push_str(number_field(&mut Buffer::new(), *to)),
-        Act::Receive { ids, .. } => put_ids(text, ids.as_slice()),
+        Act::Send { to } => push_number(text, *to, b'\n'),
+        Act::Receive { ids, .. } => push_numbers(text, b' ', ids.as_slice()),
     }
-}
-
-/// Puts ids, with one space between them, into a text that is empty.
-fn put_ids(text: &mut String, ids: &[u64]) -> Result<(), AllocError>
-    requires { string_bytes text.old ≡ [] }
-    ensures text { OnOk result (string_bytes text.new ≡ join_with_byte 32 (map decimal ids.now)) }
-    ensures plain { OnOk result (IsPlain (string_bytes text.new)) }
-{
-    let Some((first, rest)) = ids.split_first() else {
-        return Ok(());
-    };
-    let mut digits = Buffer::new();
-    text.push_str(number_field(&mut digits, *first))?;
-    for id in rest {
-        text.push(' ')?;
-        text.push_str(number_field(&mut digits, *id))?;
-    }
-    Ok(())
 }
 
 /// `end,L`
-fn write_end(alloc: Global, writer: &mut Writer<Vec<u8>>, last: u64) -> Result<(), AllocError>
-    requires { IsReady writer.old }
-    ensures ready { OnOk result (IsReady writer.new) }
-    ensures text { OnOk result
-        (written writer.new ≡ written writer.old ++ record_line (end_record last)) }
+fn push_end(text: &mut Vec<u8>, last: u64) -> Result<(), AllocError>
+    ensures { OnOk result
+        (text.new.items ≡ text.old.items ++ record_line (end_record last)) }
 {
-    let last = number_text(alloc, last)?;
-    write_record(writer, &[b"end", last.as_bytes()])
+    text.extend_from_slice(b"end,")?;
+    push_number(text, last, b'\n')
+}
+
+/// Numbers with this byte between them, and the end of a line.
+fn push_numbers(text: &mut Vec<u8>, between: u8, numbers: &[u64]) -> Result<(), AllocError>
+    ensures { OnOk result (text.new.items ≡ text.old.items
+        ++ join_with_byte between (map decimal numbers.now) ++ 10 ∷ []) }
+{
+    let Some((last, front)) = numbers.split_last() else {
+        text.push(b'\n')?;
+        return Ok(());
+    };
+    for number in front {
+        push_number(text, *number, between)?;
+    }
+    push_number(text, *last, b'\n')
+}
+
+/// A number and the byte behind it.
+fn push_number(text: &mut Vec<u8>, n: u64, behind: u8) -> Result<(), AllocError>
+    ensures { OnOk result (text.new.items ≡ text.old.items ++ decimal n ++ behind ∷ []) }
+{
+    let mut digits = [behind; MAX_DIGITS + 1];
+    let start = write_digits(n, &mut digits, MAX_DIGITS);
+    text.extend_from_slice(&digits[start..])
 }
