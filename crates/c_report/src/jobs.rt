@@ -19,7 +19,7 @@ use command_faults::Fault;
 use command_line::jobs::{CheckJob, DrawJob, ImportJob, JudgeJob, PageJob};
 use command_line::{Job, names_standard_input};
 use command_options::{ImportForm, ImportOptions};
-use event_log::Options;
+use event_log::{OneThread, Options};
 use log_windows::{log_import, log_table, log_ticks};
 use std::alloc::{AllocError, Global};
 use std::borrow::CowSlice;
@@ -219,7 +219,7 @@ fn trace_text_of(alloc: Global, text: &[u8], options: &Options) -> Result<Vec<u8
         (λ out. IsTextOfLog ImportForm.Trace options.now text.now out.items) }
     ensures refused { IfErr result (IsUnimported ImportForm.Trace options.now text.now) }
 {
-    let mut import = log_import(alloc, CowSlice::Borrowed(text), options)?;
+    let mut import = log_import(alloc, &OneThread, CowSlice::Borrowed(text), options)?;
     Upgrade.answer(alloc, &mut import.trace)
 }
 

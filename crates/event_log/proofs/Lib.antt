@@ -15,6 +15,7 @@ pub mod Stages
 pub mod Texts
 pub mod Views
 pub mod PlainLines
+pub mod ToldLines
 pub mod AlignedLogs
 pub mod OneAlignment
 pub mod TimeTexts

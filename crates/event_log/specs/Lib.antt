@@ -12,6 +12,7 @@ pub mod PackedEvents
 pub mod Naming
 pub mod Reading
 pub mod PlainLines
+pub mod ToldLines
 pub mod Events
 pub mod Logs
 pub mod SoundLogs

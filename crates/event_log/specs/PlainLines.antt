@@ -34,10 +34,19 @@ pub record IsPlainLine (text : List ℕ) (at : ℕ) (fields : List (List ℕ)) (
   pub records : records_of_text (drop at text) ≡ fields ∷ records_of_text (drop end text)
 
 -- the records up to a place were taken in, and the others lead where all lead; or one of them is refused
-abbrev pub LeadsOn : Reading → Reading → List ℕ → Result ℕ LogError → Type 0
-LeadsOn old new text (Ok at) =
+abbrev pub LeadsTo : Reading → Reading → List ℕ → Result ℕ LogError → Type 0
+LeadsTo old new text (Ok at) =
     (at ≤ length text)
     × (after_records next_reading old (records_of_text text) ≡ after_records next_reading new
     (records_of_text (drop at text)))
-LeadsOn old new text (Err e) =
+LeadsTo old new text (Err e) =
     MatchBool (is_memory e) ⊤ (after_records next_reading old (records_of_text text) ≡ Err e)
+
+-- the same of the records from a place on, with what was read up to the place that is given
+abbrev pub LeadsOn : Reading → List ℕ → ℕ → Result (Reading × ℕ) LogError → Type 0
+LeadsOn old text from (Ok (new, at)) =
+    (at ≤ length text)
+    × (after_records next_reading old (records_of_text (drop from text)) ≡ after_records next_reading new
+    (records_of_text (drop at text)))
+LeadsOn old text from (Err e) =
+    MatchBool (is_memory e) ⊤ (after_records next_reading old (records_of_text (drop from text)) ≡ Err e)

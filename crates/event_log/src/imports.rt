@@ -25,6 +25,7 @@ use crate::log_traces::{LogTrace, PassedEvents, TraceOptions, passed_events, tra
 use crate::logs::{NamedEvents, events_of_log};
 use crate::names::NameSet;
 use crate::options::Options;
+use crate::read_lines::ReadLines;
 use crate::reading::MAX_EVENTS;
 use crate::refusals::LogError;
 use crate::times::{LogEnd, TimeKind, TimeUnit, Width, nanoseconds_in};
@@ -77,8 +78,9 @@ pub struct IdleReceives {
 /// isn't too large.
 ///
 /// A text that is given, not lent, is freed once no refusal can name something in it: before the trace is made.
-pub fn read_log(
+pub fn read_log<L: ReadLines>(
     alloc: Global,
+    lines: &L,
     text: CowSlice<'_, u8, Global>,
     options: &Options,
 ) -> Result<Import, LogError>
@@ -89,7 +91,7 @@ pub fn read_log(
     ensures more { result ≡ Err LogError.Memory
         → length (cow_slice_items text.entry) ≤ MAX_TEXT_BYTES }
 {
-    Ok(placed_import(alloc, text, options)?.import)
+    Ok(placed_import(alloc, lines, text, options)?.import)
 }
 
 /// A log read as a trace, with what its steps are made of.
@@ -116,8 +118,9 @@ pub(crate) struct PlacedImport {
 /// The same import as that of `read_log`, with what its steps are made of.
 ///
 /// Refuses the same.
-pub(crate) fn placed_import(
+pub(crate) fn placed_import<L: ReadLines>(
     alloc: Global,
+    lines: &L,
     text: CowSlice<'_, u8, Global>,
     options: &Options,
 ) -> Result<PlacedImport, LogError>
@@ -134,7 +137,7 @@ pub(crate) fn placed_import(
     if text.len() > MAX_TEXT_BYTES {
         return Err(LogError::TooLarge);
     }
-    let log = events_by(alloc, &text, options)?;
+    let log = events_by(alloc, lines, &text, options)?;
     let clock = clock_for(options, log.kind)?;
     let limit = limit_for(options, log.kind, &clock)?;
     let aligned = aligned_log(alloc, &text, log, options.align)?;
@@ -285,8 +288,9 @@ pub(crate) fn log_error(alloc: Global, text: &[u8], log: &NamedEvents, why: Idle
 }
 
 /// The events that a log records; if nodes are listed, its nodes are listed ones.
-pub(crate) fn events_by(
+pub(crate) fn events_by<L: ReadLines>(
     alloc: Global,
+    lines: &L,
     text: &[u8],
     options: &Options,
 ) -> Result<NamedEvents, LogError>
@@ -297,7 +301,14 @@ pub(crate) fn events_by(
     let Ok(nodes) = numbered_first(alloc, options) else {
         return Err(LogError::Memory);
     };
-    events_of_log(alloc, text, options.unit, options.nodes.as_ref(), nodes)
+    events_of_log(
+        alloc,
+        lines,
+        text,
+        options.unit,
+        options.nodes.as_ref(),
+        nodes,
+    )
 }
 
 /// The nodes that are numbered before those that the log names.

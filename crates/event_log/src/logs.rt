@@ -8,6 +8,7 @@ ghost use Rattle.event_log.specs.SoundLogs.{IsSound};
 ghost use Rattle.event_log.specs.Stages.{staged_log};
 
 use crate::names::NameSet;
+use crate::read_lines::ReadLines;
 use crate::reading::read_names;
 use crate::refusals::LogError;
 use crate::times::{TimeKind, TimeUnit};
@@ -33,8 +34,9 @@ pub struct NamedEvents {
 ///
 /// Refuses in the order of `LogError`. The first record that is refused for itself decides; if none is, the first whose
 /// names are refused. Memory comes only for a text that isn't too large.
-pub fn events_of_log(
+pub fn events_of_log<L: ReadLines>(
     alloc: Global,
+    lines: &L,
     text: &[u8],
     unit: Option<TimeUnit>,
     listed: Option<&NameSet>,
@@ -45,11 +47,12 @@ pub fn events_of_log(
     ensures sound { IfOk result (λ log. IsSound (seen_log log)) }
     ensures more { result ≡ Err LogError.Memory → length text.now ≤ MAX_TEXT_BYTES }
 {
-    read_log(alloc, text, unit, listed, nodes)
+    read_log(alloc, lines, text, unit, listed, nodes)
 }
 
-fn read_log(
+fn read_log<L: ReadLines>(
     alloc: Global,
+    lines: &L,
     text: &[u8],
     unit: Option<TimeUnit>,
     listed: Option<&NameSet>,
@@ -59,7 +62,7 @@ fn read_log(
         (events_in unit listed.entry nodes text.now) }
     ensures more { result ≡ Err LogError.Memory → length text.now ≤ MAX_TEXT_BYTES }
 {
-    let (kind, names) = read_names(alloc, text, unit, listed, nodes)?;
+    let (kind, names) = read_names(alloc, lines, text, unit, listed, nodes)?;
     match names.into_events(alloc) {
         Ok((nodes, events)) => Ok(NamedEvents {
             kind,

@@ -43,10 +43,7 @@ impl<'a> Fields for PlainLine<'a> {
     fn field(&self, place: usize) -> &[u8]
         ensures { result.now ≡ field_of self.now place }
     {
-        match self.fields.get(place) {
-            Some(field) => *field,
-            None => &[],
-        }
+        self.bytes(place)
     }
 }
 
@@ -57,6 +54,16 @@ impl<'a> PlainLine<'a> {
     {
         PlainLine {
             fields: ArrayVec::new(),
+        }
+    }
+
+    /// The field at a place, as the text has it; nothing if there are fewer.
+    pub(crate) fn bytes(&self, place: usize) -> &'a [u8]
+        ensures { result.now ≡ field_of self.now place }
+    {
+        match self.fields.get(place) {
+            Some(field) => *field,
+            None => &[],
         }
     }
 

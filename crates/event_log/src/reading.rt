@@ -1,19 +1,19 @@
 //! The records of a log, taken in one after the other.
 
-ghost use Rattle.std.specs.Prelude.{◌≡◌, ◌<◌, ◌≤◌, false, Err, IfErr, IfOk, IsTrue, MatchBool, Ok, OnOk, length, ⊤};
+ghost use Rattle.std.specs.Prelude.{◌≡◌, ◌<◌, ◌≤◌, false, Err, IfErr, IfOk, IfSome, IsTrue, Ok, OnOk, length, map};
 ghost use Rattle.csv.specs.Records.{fields_of};
-ghost use Rattle.trace_text.specs.Records.{GivesUnless, ReachesUnless};
+ghost use Rattle.trace_text.specs.Records.{GivesUnless, ReachesUnless, after_records, records_of_text};
 ghost use Rattle.event_log.specs.LogRecords.{said};
 ghost use Rattle.event_log.specs.Naming.{is_memory};
-ghost use Rattle.event_log.specs.PlainLines.{LeadsOn};
-ghost use Rattle.event_log.specs.Reading.{after_told, named_at_end, named_from, named_of, next_reading};
+ghost use Rattle.event_log.specs.Reading.{after_told, named_at_end, named_of, next_reading, rules_of, with_event};
 ghost use Rattle.event_log.specs.Results.{both};
+ghost use Rattle.event_log.specs.ToldLines.{AreRulesOf, after_rows};
 
 use crate::columns::{Column, Columns, columns_of};
 use crate::fields::Fields;
 use crate::names::NameSet;
 use crate::naming::Naming;
-use crate::plain_lines::PlainLine;
+use crate::read_lines::ReadLines;
 use crate::records::{Rules, Told, told_of};
 use crate::refusals::LogError;
 use crate::results::{both, put_error};
@@ -28,7 +28,7 @@ pub const MAX_EVENTS: u32 = 1_000_000;
 
 /// How far a log was read.
 #[derive(Drop)]
-pub(crate) struct Reading<'a> {
+pub struct Reading<'a> {
     /// Where the columns are, once the header was read.
     columns: Option<Columns>,
     /// The unit of the times, if they are to be whole numbers of one.
@@ -49,8 +49,9 @@ pub(crate) struct Reading<'a> {
 ///
 /// Refuses in the order of `LogError`. If a record is refused for itself, the first such record decides; else the first
 /// whose names are refused.
-pub(crate) fn read_names(
+pub(crate) fn read_names<L: ReadLines>(
     alloc: Global,
+    lines: &L,
     text: &[u8],
     unit: Option<TimeUnit>,
     listed: Option<&NameSet>,
@@ -60,7 +61,10 @@ pub(crate) fn read_names(
         (named_of unit listed.entry nodes text.now) }
     ensures more { result ≡ Err LogError.Memory → length text.now ≤ MAX_TEXT_BYTES }
 {
-    let mut reading = Reading {
+    if text.len() > MAX_TEXT_BYTES {
+        return Err(LogError::TooLarge);
+    }
+    let reading = Reading {
         columns: None,
         unit,
         kind: None,
@@ -68,38 +72,23 @@ pub(crate) fn read_names(
         count: 0,
         names: Ok(Naming::new(alloc, nodes)),
     };
-    let kind = read_kind(alloc, text, &mut reading);
-    both(kind, reading.names)
+    let reading = read_records(alloc, lines, text, reading)?;
+    both(kind_at_end(&reading), reading.names)
 }
 
-/// Takes in all records of a text, and gives the kind of the times at its end.
-fn read_kind(alloc: Global, text: &[u8], reading: &mut Reading<'_>) -> Result<TimeKind, LogError>
-    ensures kind { IfOk result
-        (λ kind. named_from reading.old text.now ≡ both (Ok kind) reading.new.names) }
-    ensures refused { IfErr result
-        (λ why. MatchBool (is_memory why) ⊤ (named_from reading.old text.now ≡ Err why)) }
-    ensures large { MAX_TEXT_BYTES < length text.now → result ≡ Err LogError.TooLarge }
+/// Takes in all records of a text.
+fn read_records<'a, L: ReadLines>(
+    alloc: Global,
+    lines: &L,
+    text: &[u8],
+    begun: Reading<'a>,
+) -> Result<Reading<'a>, LogError>
+    ensures { GivesUnless is_memory (λ r. r) result
+        (after_records next_reading begun.entry (records_of_text text.now)) }
 {
-    if text.len() > MAX_TEXT_BYTES {
-        return Err(LogError::TooLarge);
-    }
-    let at = take_lines(alloc, text, reading)?;
-    take_rows(alloc, &text[at..], reading)?;
-    kind_at_end(reading)
-}
-
-/// Takes in the records at the front of a text, as far as each is a line that needs no reader of csv's. Gives the place
-/// where the first other one begins.
-fn take_lines(alloc: Global, text: &[u8], reading: &mut Reading<'_>) -> Result<usize, LogError>
-    ensures { LeadsOn reading.old reading.new text.now result }
-{
-    let mut line = PlainLine::new();
-    let mut at = 0;
-    while let Some(end) = line.read(text, at) {
-        reading.take_fields(alloc, &line)?;
-        at = end;
-    }
-    Ok(at)
+    let (mut reading, at) = lines.read_lines(alloc, text, begun)?;
+    take_rows(alloc, &text[at..], &mut reading)?;
+    Ok(reading)
 }
 
 /// The kind of the times at the end of the text, unless something else than the names is missing.
@@ -133,7 +122,11 @@ impl<'a> TakeRows for Reading<'a> {
 
 impl<'a> Reading<'a> {
     /// Takes in one more record: the header, or an event.
-    fn take_fields<F: Fields>(&mut self, alloc: Global, fields: &F) -> Result<(), LogError>
+    pub(crate) fn take_fields<F: Fields>(
+        &mut self,
+        alloc: Global,
+        fields: &F,
+    ) -> Result<(), LogError>
         ensures { ReachesUnless is_memory result self.new
             (next_reading self.old (F.fields fields.now)) }
     {
@@ -144,16 +137,57 @@ impl<'a> Reading<'a> {
         if self.count >= MAX_EVENTS {
             return Err(LogError::TooManyEvents);
         }
-        let rules = Rules {
+        let rules = self.rules_by(columns);
+        let told = told_of(alloc, &rules, u64::from(self.count) + 2, fields)?;
+        self.take_event(alloc, &told)
+    }
+
+    /// By what the next record is judged, once it is known where the columns are.
+    fn rules_by(&self, columns: Columns) -> Rules<'a>
+        ensures { result ≡ rules_of columns self.now }
+    {
+        Rules {
             columns,
             kind: settled(self.unit, self.kind),
             listed: self.listed,
-        };
-        let told = told_of(alloc, &rules, u64::from(self.count) + 2, fields)?;
+        }
+    }
+
+    /// By what all further records are judged, once a first one was.
+    pub(crate) fn rules(&self) -> Option<Rules<'a>>
+        ensures { IfSome result (λ rules. AreRulesOf rules self.now) }
+    {
+        let rules = self.rules_by(self.columns?);
+        match rules.kind {
+            Some(_) => Some(rules),
+            None => None,
+        }
+    }
+
+    /// Takes in one more event.
+    fn take_event(&mut self, alloc: Global, told: &Told<'_>) -> Result<(), LogError>
+        requires { self.old.count < MAX_EVENTS }
+        ensures ok { OnOk result (self.new ≡ with_event self.old (said told.now)) }
+        ensures memory { IfErr result (λ e. IsTrue (is_memory e)) }
+    {
         let place = self.count;
         self.kind = Some(told.moment.kind);
         self.count += 1;
-        take_names(alloc, &mut self.names, place, &told)
+        take_names(alloc, &mut self.names, place, told)
+    }
+
+    /// Takes in events that were told ahead.
+    pub(crate) fn take_told(&mut self, alloc: Global, rows: &[Told<'_>]) -> Result<(), LogError>
+        ensures { ReachesUnless is_memory result self.new
+            (after_rows self.old (map said rows.now)) }
+    {
+        for told in rows {
+            if self.count >= MAX_EVENTS {
+                return Err(LogError::TooManyEvents);
+            }
+            self.take_event(alloc, told)?;
+        }
+        Ok(())
     }
 }
 

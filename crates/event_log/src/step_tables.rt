@@ -21,6 +21,7 @@ use crate::log_places::part_at;
 use crate::message_fields::message_fields;
 use crate::names::{Name, NameSet};
 use crate::options::Options;
+use crate::read_lines::OneThread;
 use crate::refusals::LogError;
 use csv::{ByteRecord, Writer};
 use std::alloc::{AllocError, Global};
@@ -53,7 +54,7 @@ pub fn read_table(alloc: Global, text: &[u8], options: &Options) -> Result<LogTa
     ensures refused { IfErr result (λ why. IsLogRefusal options.now text.now why) }
     ensures more { result ≡ Err LogError.Memory → length text.now ≤ MAX_TEXT_BYTES }
 {
-    let placed = placed_import(alloc, CowSlice::Borrowed(text), options)?;
+    let placed = placed_import(alloc, &OneThread, CowSlice::Borrowed(text), options)?;
     match table_of(alloc, text, &placed) {
         Ok(table) => Ok(LogTable {
             import: placed.import,

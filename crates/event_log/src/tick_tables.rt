@@ -10,6 +10,7 @@ use crate::imports::{events_by, log_error, until_for};
 use crate::left_imports::left_error;
 use crate::logs::NamedEvents;
 use crate::options::Options;
+use crate::read_lines::OneThread;
 use crate::refusals::LogError;
 use crate::taken_events::taken_events;
 use crate::tick_rows::{TickRow, clock_of, tick_rows};
@@ -41,7 +42,7 @@ pub fn read_ticks(alloc: Global, text: &[u8], options: &Options) -> Result<TickT
     if text.len() > MAX_TEXT_BYTES {
         return Err(LogError::TooLarge);
     }
-    let log = events_by(alloc, text, options)?;
+    let log = events_by(alloc, &OneThread, text, options)?;
     let kind = log.kind;
     let until = until_for(kind, options.until)?;
     let aligned = aligned_log(alloc, text, log, options.align)?;

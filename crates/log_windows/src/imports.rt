@@ -7,7 +7,9 @@ ghost use Rattle.log_windows.specs.WindowImports.{IsWindowTable, IsWindowTicksRe
 
 use crate::numbers::{import_in, refusal_in, table_in};
 use crate::reading::LogWindow;
-use event_log::{Import, LogError, LogTable, Options, TickTable, read_log, read_table, read_ticks};
+use event_log::{
+    Import, LogError, LogTable, OneThread, Options, TickTable, read_log, read_table, read_ticks,
+};
 use std::alloc::Global;
 use std::borrow::CowSlice;
 use trace_text::MAX_TEXT_BYTES;
@@ -24,7 +26,7 @@ pub fn window_import(
     ensures refused { IfErr result (IsWindowImportRefusal options.now window.now) }
     ensures more { result ≡ Err LogError.Memory → length window.now.text.items ≤ MAX_TEXT_BYTES }
 {
-    match read_log(alloc, CowSlice::Borrowed(&window.text), options) {
+    match read_log(alloc, &OneThread, CowSlice::Borrowed(&window.text), options) {
         Ok(import) => Ok(import_in(&window.places, import)),
         Err(why) => Err(refusal_in(&window.places, why)),
     }

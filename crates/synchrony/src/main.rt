@@ -60,7 +60,7 @@ fn run<R: Threads + Wait + Clock + Sync>(rt: &HostRuntime, threads: &R) -> Resul
         Job::JudgeRuns(job) => judge_runs(rt, job),
         Job::Draw(job) => draw(rt, job),
         Job::Page(job) => page(rt, job),
-        Job::Import(job) => import(rt, job),
+        Job::Import(job) => import(rt, threads, job),
         Job::Help(text) => help(rt, text),
     }
 }
@@ -232,8 +232,8 @@ fn text_in(text: &Option<String>) -> Option<&str> {
 }
 
 /// Prints the trace of the log in a file, or the table of its steps, and reports on standard error how it was read. The
-/// options are read first.
-fn import(rt: &HostRuntime, job: ImportJob) -> Result<u8, Fault> {
+/// options are read first. `threads` starts a thread that helps to read a whole log.
+fn import<T: Threads>(rt: &HostRuntime, threads: &T, job: ImportJob) -> Result<u8, Fault> {
     let options = import_options(rt.alloc(), &job.options)?;
     let start = window_start(text_in(&job.options.from))?;
     let mut log = Input::open(rt, job.file)?;
@@ -241,6 +241,7 @@ fn import(rt: &HostRuntime, job: ImportJob) -> Result<u8, Fault> {
     let mut notes = Counting::new(rt.stderr());
     let told = match start {
         None => run_import(
+            threads,
             rt.alloc(),
             &options,
             job.options.form,

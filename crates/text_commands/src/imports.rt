@@ -11,16 +11,18 @@ ghost use Rattle.text_commands.specs.Serving.{Serves};
 use crate::import_lines::notes_text;
 use crate::texts::read_whole;
 use crate::tick_lines::{tick_notes, ticks_text};
-use crate::upgrades::text_2_of;
+use crate::upgrades::text_2_by_two;
 use command_faults::{Fault, ImportOption, print_notes};
 use command_options::{ImportForm, ImportOptions};
 use event_log::{
-    Import, LogError, LogTable, OptionError, OptionTexts, Options, TickTable, read_options,
+    Import, LogError, LogTable, OptionError, OptionTexts, Options, TickTable, TwoThreads,
+    read_options,
 };
 use log_windows::{log_import, log_table, log_ticks};
 use std::alloc::Global;
 use std::borrow::CowSlice;
 use std::io::{Read, Write};
+use std::thread::Threads;
 use trace_text::{Counting, write_text};
 
 /// How a log is read, by the options that are given.
@@ -100,7 +102,8 @@ fn no_length(alloc: Global, option: ImportOption, text: &str) -> Fault
 ///
 /// Refuses, in this order: Read, or Log for a text that is too large; Log for any other refusal of the log; Write with
 /// the number of bytes that went out before. Memory may come at any step before the notes are written.
-pub fn run_import<R: Read, W: Write, N: Write>(
+pub fn run_import<T: Threads, R: Read, W: Write, N: Write>(
+    rt: &T,
     alloc: Global,
     options: &Options,
     form: ImportForm,
@@ -114,7 +117,7 @@ pub fn run_import<R: Read, W: Write, N: Write>(
     ensures quiet { IfErr result (IsQuietFault notes.old notes.new) }
 {
     let text = read_whole(alloc, reader, Fault::Log(LogError::TooLarge))?;
-    let texts = texts_of(alloc, text, options, form)?;
+    let texts = texts_of(rt, alloc, text, options, form)?;
     print_notes(texts.notes.as_str(), notes);
     Ok(write_text(&texts.out, writer)?)
 }
@@ -129,7 +132,8 @@ pub(crate) struct ImportTexts {
 }
 
 /// The texts that are made of a log.
-fn texts_of(
+fn texts_of<T: Threads>(
+    rt: &T,
     alloc: Global,
     text: Vec<u8>,
     options: &Options,
@@ -141,22 +145,27 @@ fn texts_of(
     ensures refused { IfErr result (IsUnimported form options.now text.items) }
 {
     match form {
-        ImportForm::Trace => trace_texts(alloc, text, options),
+        ImportForm::Trace => trace_texts(rt, alloc, text, options),
         ImportForm::Table => table_texts(alloc, text, options),
         ImportForm::Ticks => tick_texts(alloc, text, options),
     }
 }
 
 /// The text of the trace of a log, and the notes. The log is freed before they are made.
-fn trace_texts(alloc: Global, text: Vec<u8>, options: &Options) -> Result<ImportTexts, Fault>
+fn trace_texts<T: Threads>(
+    rt: &T,
+    alloc: Global,
+    text: Vec<u8>,
+    options: &Options,
+) -> Result<ImportTexts, Fault>
     ensures texts { IfOk result
         (λ texts. IsImportTold ImportForm.Trace options.now
         (λ notes. string_bytes texts.notes ≡ notes) text.items texts.out.items) }
     ensures refused { IfErr result (IsUnimported ImportForm.Trace options.now text.items) }
 {
-    let import = import_of(alloc, text, options)?;
+    let import = import_of(rt, alloc, text, options)?;
     let notes = notes_text(alloc, options, &import)?;
-    let out = text_2_of(alloc, &import.trace)?;
+    let out = text_2_by_two(rt, alloc, &import.trace)?;
     Ok(ImportTexts { out, notes })
 }
 
@@ -185,12 +194,19 @@ fn tick_texts(alloc: Global, text: Vec<u8>, options: &Options) -> Result<ImportT
     Ok(ImportTexts { out, notes })
 }
 
-/// A log read as a trace. The text, which takes much memory for a long log, is freed before the trace is made.
-fn import_of(alloc: Global, text: Vec<u8>, options: &Options) -> Result<Import, Fault>
+/// A log read as a trace, with the help of another thread. The text, which takes much memory for a long log, is freed
+/// before the trace is made.
+fn import_of<T: Threads>(
+    rt: &T,
+    alloc: Global,
+    text: Vec<u8>,
+    options: &Options,
+) -> Result<Import, Fault>
     ensures import { IfOk result (λ import. IsLogImport options.now text.items import) }
     ensures refused { IfErr result (IsUnimported ImportForm.Trace options.now text.items) }
 {
-    Ok(log_import(alloc, CowSlice::Owned(text), options)?)
+    let lines = TwoThreads { rt };
+    Ok(log_import(alloc, &lines, CowSlice::Owned(text), options)?)
 }
 
 /// A log read as a trace, with the table of its steps. The text is freed.

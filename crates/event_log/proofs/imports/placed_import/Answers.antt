@@ -16,12 +16,12 @@ lent-read : (o : Options) (lent text : List ℕ) (log : SeenLog) → lent ≡ te
 lent-read o lent text log same read = subst (λ t. IsRead o t (Ok log)) same read
 
 pub returns-then-len-gt-MAX_TEXT_BYTES-clause-refused : goal.returns-then-len-gt-MAX_TEXT_BYTES-clause-refused
-returns-then-len-gt-MAX_TEXT_BYTES-clause-refused c =
+returns-then-len-gt-MAX_TEXT_BYTES-clause-refused g c =
     inl (large-text c.args.options.now (cow_slice_items c.args.text)
     (let same = c.len.ensures in let large = c.if-len-gt-MAX_TEXT_BYTES.true in omega (arith, same, large)))
 
 pub returns-in_err-clock-clause-refused : goal.returns-in_err-clock-clause-refused
-returns-in_err-clock-clause-refused c =
+returns-in_err-clock-clause-refused g c =
     let p = err_from_is_err_and c.from_residual-in_err-clock.result c.from_residual-in_err-clock.ensures.1 in
     rw (p.1, p.2) (unfit-refusal c.args.options.now (cow_slice_items c.args.text) c.in_err-clock.field-0.0 (record {
       log = seen_log c.in_ok-log.log;
@@ -30,7 +30,7 @@ returns-in_err-clock-clause-refused c =
     }))
 
 pub returns-in_err-limit-clause-refused : goal.returns-in_err-limit-clause-refused
-returns-in_err-limit-clause-refused c =
+returns-in_err-limit-clause-refused g c =
     let p = err_from_is_err_and c.from_residual-in_err-limit.result c.from_residual-in_err-limit.ensures.1 in
     rw (p.1, p.2) (unfit-refusal c.args.options.now (cow_slice_items c.args.text) c.in_err-limit.field-0.0 (record {
       log = seen_log c.in_ok-log.log;
@@ -39,7 +39,7 @@ returns-in_err-limit-clause-refused c =
     }))
 
 pub returns-in_err-aligned-clause-refused : goal.returns-in_err-aligned-clause-refused
-returns-in_err-aligned-clause-refused c =
+returns-in_err-aligned-clause-refused g c =
     let p = err_from_is_err_and c.from_residual-in_err-aligned.result c.from_residual-in_err-aligned.ensures.1 in
     let log = c.in_ok-log.log in
     rw (p.1, p.2) (unaligned-refusal c.args.options.now (cow_slice_items c.args.text) log.nodes log.events.items
@@ -56,7 +56,7 @@ returns-in_err-aligned-clause-refused c =
     }))
 
 pub returns-then-how-clause-import : goal.returns-then-how-clause-import
-returns-then-how-clause-import c =
+returns-then-how-clause-import g c =
     let log = c.in_ok-log.log in
     ok-both c.left_import.result _ _ _ (λ p made given.
     placed-import c.args.options.now (cow_slice_items c.args.text) (seen_log log) log.events.items c.in_ok-clock.clock
@@ -70,11 +70,11 @@ returns-then-how-clause-import c =
     p.import p.events.items p.logged p.left_at (parts_seen p.parts) p.first p.clock p.places.items made given.nodes given.offsets given.lateness_is given.clock_is) c.left_import.ensures.made c.left_import.ensures.given
 
 pub returns-then-how-clause-short : goal.returns-then-how-clause-short
-returns-then-how-clause-short c =
+returns-then-how-clause-short g c =
     ok-both c.left_import.result _ _ _ (λ p given same. subst (λ (clock : Clock). clock.width < 2 ^ 94) (sym given.clock_is) c.in_ok-clock.ensures.short) c.left_import.ensures.given c.left_import.ensures.given
 
 pub returns-then-how-clause-refused : goal.returns-then-how-clause-refused
-returns-then-how-clause-refused c =
+returns-then-how-clause-refused g c =
     let log = c.in_ok-log.log in
     err-weaker c.left_import.result _ _
     (unmade-refusal c.args.options.now (cow_slice_items c.args.text) (seen_log log) log.events.items c.in_ok-clock.clock
@@ -86,10 +86,10 @@ returns-then-how-clause-refused c =
     c.in_ok-aligned.ensures.aligned c.in_ok-aligned.ensures.nodes c.in_ok-limit.limit (sym c.in_ok-limit.ensures) c.args.options.now.drop_lost c.args.options.now.merge refl refl) c.left_import.ensures.refused
 
 pub returns-then-how-clause-more : goal.returns-then-how-clause-more
-returns-then-how-clause-more c = λ e. (let same = c.len.ensures in let few = c.if-len-gt-MAX_TEXT_BYTES.false in omega (arith, same, few))
+returns-then-how-clause-more g c = λ e. (let same = c.len.ensures in let few = c.if-len-gt-MAX_TEXT_BYTES.false in omega (arith, same, few))
 
 pub returns-clause-import : goal.returns-clause-import
-returns-clause-import c =
+returns-clause-import g c =
     let log = c.in_ok-log.log in
     ok-both c.whole_import.result _ _ _ (λ p made given.
     placed-import c.args.options.now (cow_slice_items c.args.text) (seen_log log) log.events.items c.in_ok-clock.clock
@@ -103,11 +103,11 @@ returns-clause-import c =
     p.import p.events.items p.logged p.left_at (parts_seen p.parts) p.first p.clock p.places.items made given.nodes given.offsets given.lateness_is given.clock_is) c.whole_import.ensures.made c.whole_import.ensures.given
 
 pub returns-clause-short : goal.returns-clause-short
-returns-clause-short c =
+returns-clause-short g c =
     ok-both c.whole_import.result _ _ _ (λ p given same. subst (λ (clock : Clock). clock.width < 2 ^ 94) (sym given.clock_is) c.in_ok-clock.ensures.short) c.whole_import.ensures.given c.whole_import.ensures.given
 
 pub returns-clause-refused : goal.returns-clause-refused
-returns-clause-refused c =
+returns-clause-refused g c =
     let log = c.in_ok-log.log in
     err-weaker c.whole_import.result _ _
     (unmade-refusal c.args.options.now (cow_slice_items c.args.text) (seen_log log) log.events.items c.in_ok-clock.clock
@@ -119,4 +119,4 @@ returns-clause-refused c =
     c.in_ok-aligned.ensures.aligned c.in_ok-aligned.ensures.nodes c.in_ok-limit.limit (sym c.in_ok-limit.ensures) false false (search rules) (search rules)) c.whole_import.ensures.refused
 
 pub returns-clause-more : goal.returns-clause-more
-returns-clause-more c = λ e. (let same = c.len.ensures in let few = c.if-len-gt-MAX_TEXT_BYTES.false in omega (arith, same, few))
+returns-clause-more g c = λ e. (let same = c.len.ensures in let few = c.if-len-gt-MAX_TEXT_BYTES.false in omega (arith, same, few))

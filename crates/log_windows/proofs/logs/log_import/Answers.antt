@@ -8,7 +8,7 @@ use Rattle.log_windows.proofs.ListedLogs.{spread-err, spread-ok}
 use Rattle.log_windows.proofs.logs.log_import.Goals as goal
 
 pub returns-clause-import : goal.returns-clause-import
-returns-clause-import c =
+returns-clause-import g c =
     let o = c.args.options.now in
     let text = cow_slice_items c.args.text in
     spread-ok (λ import w. IsWindowImport o w import) (IsImportOf o text) text c.in_ok-log.log _
@@ -17,7 +17,7 @@ returns-clause-import c =
     c.window_import.ensures.import
 
 pub returns-clause-refused : goal.returns-clause-refused
-returns-clause-refused c =
+returns-clause-refused g c =
     let o = c.args.options.now in
     let text = cow_slice_items c.args.text in
     spread-err (λ why w. IsWindowImportRefusal o w why) (IsLogRefusal o text) text c.in_ok-log.log _

@@ -1,7 +1,7 @@
 use Rattle.std.proofs.Common.{◌≡◌, ◌∙◌, List, ℕ, ap, sym, map}
 use Rattle.trace_text.specs.Records.{field_of}
 use Rattle.event_log.proofs.PlainLines.{no-field, slice-field}
-use Rattle.event_log.proofs.plain_lines.PlainLineFields.field.Goals as goal
+use Rattle.event_log.proofs.plain_lines.PlainLine.bytes.Goals as goal
 
 pub returns-in-Some : goal.returns-in-Some
 returns-in-Some c =
