@@ -1,4 +1,5 @@
 pub mod EventPlaces
+pub mod FoundNames
 pub mod HeaderPlaces
 pub mod ListedNodes
 pub mod LogCycles

@@ -23,6 +23,7 @@ mod message_names;
 mod name_keys;
 mod names;
 mod naming;
+mod nodes;
 mod option_texts;
 mod options;
 mod packed_events;

@@ -1,7 +1,7 @@
 //! The names of nodes and messages.
 
 ghost use Rattle.std.specs.Prelude.{◌≡◌, ◌<◌, ℕ, List, [], IfSome, IfOk, IsTrue, OnOk, OnErr, is_some};
-ghost use Rattle.std.specs.Prelude.{◌==◌, true, false};
+ghost use Rattle.std.specs.Prelude.{◌==◌, Some, true, false};
 ghost use Rattle.std.specs.Prelude.{length, not, option_map, position, slice_get};
 ghost use Rattle.std.specs.List.{list_any, position_or_len};
 ghost use Rattle.std.specs.Str.{bytes_eq};
@@ -9,7 +9,7 @@ ghost use Rattle.event_log.specs.NameKeys.{name_of};
 ghost use Rattle.event_log.specs.Names.{are_message_names, has_name, is_control, is_message_name};
 ghost use Rattle.event_log.specs.Names.{is_name, is_node_name, names_in, with_name};
 
-use crate::name_keys::NameKey;
+use crate::name_keys::{NameKey, are_same};
 use crate::times::text_of;
 use indexmap::IndexSet;
 use std::alloc::{AllocError, Global};
@@ -192,6 +192,35 @@ impl NameSet {
             return Ok((place, false));
         }
         self.add_new(alloc, name)
+    }
+
+    /// The same for a name that is most likely at a place, which is looked at first.
+    pub(crate) fn add_near(
+        &mut self,
+        alloc: Global,
+        name: &[u8],
+        guess: usize,
+    ) -> Result<(usize, bool), AllocError>
+        ensures names { OnOk result (self.new ≡ with_name self.old name.now) }
+        ensures place { IfOk result (λ r. r.0 ≡ position_or_len (bytes_eq name.now) self.old) }
+        ensures added { IfOk result (λ r. r.1 ≡ not (has_name self.old name.now)) }
+        ensures within { IfOk result (λ r. r.0 < length self.new) }
+        ensures kept { OnErr result (self.new ≡ self.old) }
+    {
+        if self.is_at(guess, name) {
+            return Ok((guess, false));
+        }
+        self.add(alloc, name)
+    }
+
+    /// Whether a name is at this place.
+    fn is_at(&self, place: usize, name: &[u8]) -> bool
+        ensures { IsTrue result → position (bytes_eq name.now) self.now ≡ Some place }
+    {
+        match self.names.as_slice().get(place) {
+            Some(key) => are_same(key.as_slice(), name),
+            None => false,
+        }
     }
 
     /// The same for a name that is most likely new: it is looked up once, after it was copied.

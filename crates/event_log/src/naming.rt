@@ -12,6 +12,7 @@ ghost use Rattle.event_log.specs.Names.{with_name};
 ghost use Rattle.event_log.specs.PackedEvents.{lent_act};
 
 use crate::names::{MAX_NODES, Name, NameSet};
+use crate::nodes::Nodes;
 use crate::packed_events::{LentAct, LentEvent, PackedEvents};
 use crate::placed_events::PlacedEvents;
 use crate::records::{Told, Verb};
@@ -26,7 +27,7 @@ use timed_events::Event;
 #[derive(Drop)]
 pub(crate) struct Naming {
     /// The nodes: one's number is its place and 1.
-    nodes: NameSet,
+    nodes: Nodes,
     /// The messages that they sent.
     sent: SentMessages,
     events: PackedEvents,
@@ -44,7 +45,7 @@ impl Naming {
         ensures { result ≡ begun nodes }
     {
         Naming {
-            nodes,
+            nodes: Nodes::new(nodes),
             sent: SentMessages::new(alloc),
             events: PackedEvents::new(alloc),
         }
@@ -64,7 +65,7 @@ impl Naming {
             (λ r. map seen r.1.items ≡ map (resolved self.sent) self.events) }
     {
         let events = events_of(alloc, self.sent, self.events);
-        both(Ok(self.nodes), events)
+        both(Ok(self.nodes.into_names()), events)
     }
 
     /// Takes in the names of the event at this place, from 0.
@@ -134,7 +135,7 @@ struct Numbers {
 }
 
 /// Takes in the nodes that an event names: its own, and then the one that it sends to.
-fn name_nodes(alloc: Global, nodes: &mut NameSet, told: &Told<'_>) -> Result<Numbers, AllocError>
+fn name_nodes(alloc: Global, nodes: &mut Nodes, told: &Told<'_>) -> Result<Numbers, AllocError>
     ensures nodes { OnOk result (nodes.new ≡ nodes_after nodes.old (said told.now)) }
     ensures processor { IfOk result (λ n. n.processor ≡ number_of nodes.old told.now.node.now) }
     ensures to { IfOk result (λ n. n.to ≡ number_to nodes.old (said told.now)) }
@@ -157,12 +158,12 @@ fn name_nodes(alloc: Global, nodes: &mut NameSet, told: &Told<'_>) -> Result<Num
 }
 
 /// Takes in the name of a node, and gives its number and how many nodes there are now.
-fn name_node(alloc: Global, nodes: &mut NameSet, name: &[u8]) -> Result<(u64, usize), AllocError>
+fn name_node(alloc: Global, nodes: &mut Nodes, name: &[u8]) -> Result<(u64, usize), AllocError>
     ensures nodes { OnOk result (nodes.new ≡ with_name nodes.old name.now) }
     ensures number { IfOk result (λ n. n.0 ≡ number_of nodes.old name.now) }
     ensures count { IfOk result (λ n. n.1 ≡ length nodes.new) }
 {
-    let (place, _) = nodes.add(alloc, name)?;
+    let place = nodes.add(alloc, name)?;
     let count = nodes.len();
     Ok((place as u64 + 1, count))
 }
