@@ -71,48 +71,53 @@ pub fn command<'a>(alloc: Global) -> Result<Command<'a>, AllocError>
 pub fn job(alloc: Global, found: &ArgMatches<'_>) -> Option<Result<Job, LineError>>
     ensures { draw_given (rows_of (found_of found.now)) result }
 {
-    let file = text(found, "file")?;
-    let list = text(found, "correct")?;
-    let from = tick(found, "from")?;
-    let to = tick(found, "to")?;
-    let names = text(found, "names");
-    let lanes = text(found, "lanes");
-    let table = text(found, "table");
-    let unit = text(found, "unit");
-    Some(draw(alloc, file, list, from, to, names, lanes, table, unit))
+    let words = DrawWords {
+        file: text(found, "file")?,
+        list: text(found, "correct")?,
+        from: tick(found, "from")?,
+        to: tick(found, "to")?,
+        names: text(found, "names"),
+        lanes: text(found, "lanes"),
+        table: text(found, "table"),
+        unit: text(found, "unit"),
+    };
+    Some(draw(alloc, words))
+}
+
+/// The words after `draw`.
+#[derive(Clone, Copy)]
+struct DrawWords<'a> {
+    file: &'a str,
+    list: &'a str,
+    from: Option<u64>,
+    to: Option<u64>,
+    names: Option<&'a str>,
+    lanes: Option<&'a str>,
+    table: Option<&'a str>,
+    unit: Option<&'a str>,
 }
 
 /// The job of a picture with these words.
-fn draw(
-    alloc: Global,
-    file: &str,
-    list: &str,
-    from: Option<u64>,
-    to: Option<u64>,
-    names: Option<&str>,
-    lanes: Option<&str>,
-    table: Option<&str>,
-    unit: Option<&str>,
-) -> Result<Job, LineError>
+fn draw(alloc: Global, words: DrawWords<'_>) -> Result<Job, LineError>
     ensures job { IfOk result
-        (IsDraw file.now list.now from to (option_map (λ n. n.now) names.entry)
-        (option_map (λ n. n.now) lanes.entry) (option_map (λ t. t.now) table.entry)
-        (option_map (λ u. u.now) unit.entry)) }
+        (IsDraw words.entry.file.now words.entry.list.now words.entry.from words.entry.to
+        (option_map (λ n. n.now) words.entry.names) (option_map (λ n. n.now) words.entry.lanes)
+        (option_map (λ t. t.now) words.entry.table) (option_map (λ u. u.now) words.entry.unit)) }
     ensures refused { IfErr result
-        (IsDrawFault file.now list.now (option_map (λ t. t.now) table.entry)
-        (option_map (λ u. u.now) unit.entry)) }
+        (IsDrawFault words.entry.file.now words.entry.list.now
+        (option_map (λ t. t.now) words.entry.table) (option_map (λ u. u.now) words.entry.unit)) }
 {
-    let correct = correct_in(alloc, "correct", list)?;
-    test_table(alloc, file, None, table)?;
-    let unit = unit_in(alloc, unit)?;
-    let file = String::from_str(alloc, file)?;
-    let names = kept(alloc, names)?;
-    let lanes = kept(alloc, lanes)?;
-    let table = kept(alloc, table)?;
+    let correct = correct_in(alloc, "correct", words.list)?;
+    test_table(alloc, words.file, None, words.table)?;
+    let unit = unit_in(alloc, words.unit)?;
+    let file = String::from_str(alloc, words.file)?;
+    let names = kept(alloc, words.names)?;
+    let lanes = kept(alloc, words.lanes)?;
+    let table = kept(alloc, words.table)?;
     let drawing = Drawing {
         correct,
-        from,
-        to,
+        from: words.from,
+        to: words.to,
         names,
         lanes,
         unit,

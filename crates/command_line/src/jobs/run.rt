@@ -112,46 +112,56 @@ fn patience_option<'a>(alloc: Global) -> Arg<'a>
 pub fn job(alloc: Global, found: &ArgMatches<'_>) -> Option<Result<Job, LineError>>
     ensures { run_given (rows_of (found_of found.now)) result }
 {
-    let n = number(found, "nodes", 0, u64::MAX)?;
-    let t = number(found, "faults", 0, u64::MAX)?;
-    let values = text(found, "values")?;
-    let pace = text(found, "pace");
-    let patience = optional_number(found, "patience", 1, MAX_PATIENCE)?;
-    let steps = number(found, "steps", 0, MAX_STEPS as u64)?;
-    let until = text(found, "until");
-    let follow = text(found, "follow");
-    Some(run(alloc, n, t, values, pace, patience, steps, until, follow))
+    let words = RunWords {
+        n: number(found, "nodes", 0, u64::MAX)?,
+        t: number(found, "faults", 0, u64::MAX)?,
+        values: text(found, "values")?,
+        pace: text(found, "pace"),
+        patience: optional_number(found, "patience", 1, MAX_PATIENCE)?,
+        steps: number(found, "steps", 0, MAX_STEPS as u64)?,
+        until: text(found, "until"),
+        follow: text(found, "follow"),
+    };
+    Some(run(alloc, words))
+}
+
+/// The words after `run`.
+#[derive(Clone, Copy)]
+struct RunWords<'a> {
+    n: u64,
+    t: u64,
+    values: &'a str,
+    pace: Option<&'a str>,
+    patience: Option<u64>,
+    /// How many steps each processor makes.
+    steps: u64,
+    until: Option<&'a str>,
+    follow: Option<&'a str>,
 }
 
 /// The job of a run with these words.
-fn run(
-    alloc: Global,
-    n: u64,
-    t: u64,
-    values: &str,
-    name: Option<&str>,
-    patience: Option<u64>,
-    steps: u64,
-    until: Option<&str>,
-    follow: Option<&str>,
-) -> Result<Job, LineError>
-    requires patient { IfSome patience (λ p. 1 ≤ p) }
+fn run(alloc: Global, words: RunWords<'_>) -> Result<Job, LineError>
+    requires patient { IfSome words.patience (λ p. 1 ≤ p) }
     ensures job { IfOk result
-        (IsRunJob n t values.now (option_map (λ text. text.now) name.entry) patience steps
-        (option_map (λ text. text.now) until.entry) (option_map (λ list. list.now) follow.entry)) }
+        (IsRunJob words.entry.n words.entry.t words.entry.values.now
+        (option_map (λ text. text.now) words.entry.pace) words.entry.patience words.entry.steps
+        (option_map (λ text. text.now) words.entry.until)
+        (option_map (λ list. list.now) words.entry.follow)) }
     ensures refused { IfErr result
-        (IsRunFault n t values.now (option_map (λ text. text.now) name.entry) patience steps
-        (option_map (λ text. text.now) until.entry) (option_map (λ list. list.now) follow.entry)) }
+        (IsRunFault words.entry.n words.entry.t words.entry.values.now
+        (option_map (λ text. text.now) words.entry.pace) words.entry.patience words.entry.steps
+        (option_map (λ text. text.now) words.entry.until)
+        (option_map (λ list. list.now) words.entry.follow)) }
 {
-    let follow = followed(alloc, follow)?;
-    let pace = paced(alloc, most_patience(n), name, patience)?;
-    let end = ended(alloc, pace, until)?;
-    let config = limited(alloc, n, t, values, steps)?;
+    let follow = followed(alloc, words.follow)?;
+    let pace = paced(alloc, most_patience(words.n), words.pace, words.patience)?;
+    let end = ended(alloc, pace, words.until)?;
+    let config = limited(alloc, words.n, words.t, words.values, words.steps)?;
     Ok(Job::Run(RunOptions {
         config,
         pace,
         end,
-        steps,
+        steps: words.steps,
         follow,
     }))
 }

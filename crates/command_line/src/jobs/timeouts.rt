@@ -83,36 +83,52 @@ pub fn job(alloc: Global, found: &ArgMatches<'_>) -> Option<Result<Job, LineErro
     ensures { timeouts_given (rows_of (found_of found.now)) result }
 {
     let file = text(found, "file")?;
-    let from = number(found, "from", 1, MAX_MEMBER)?;
     let list = text(found, "to");
-    let every = optional_number(found, "every", 1, MAX_TURNS)?;
-    let polls = optional_number(found, "polls", 1, MAX_TURNS)?;
-    let until = tick(found, "until")?;
-    let at = tick(found, "at")?;
-    Some(timeouts(alloc, file, from, list, every, polls, until, at))
+    let numbers = TimeoutNumbers {
+        from: number(found, "from", 1, MAX_MEMBER)?,
+        every: optional_number(found, "every", 1, MAX_TURNS)?,
+        polls: optional_number(found, "polls", 1, MAX_TURNS)?,
+        until: tick(found, "until")?,
+        at: tick(found, "at")?,
+    };
+    Some(timeouts(alloc, file, list, numbers))
+}
+
+/// The numbers among the words after `timeouts`.
+#[derive(Clone, Copy)]
+struct TimeoutNumbers {
+    from: u64,
+    every: Option<u64>,
+    polls: Option<u64>,
+    until: Option<u64>,
+    at: Option<u64>,
 }
 
 /// The job of a table with these words.
 fn timeouts(
     alloc: Global,
     file: &str,
-    from: u64,
     list: Option<&str>,
-    every: Option<u64>,
-    polls: Option<u64>,
-    until: Option<u64>,
-    at: Option<u64>,
+    numbers: TimeoutNumbers,
 ) -> Result<Job, LineError>
-    requires low { 1 ≤ from }
-    requires high { from ≤ MAX_MEMBER }
-    requires few_every { IfSome every (λ k. k ≤ MAX_TURNS) }
-    requires few_polls { IfSome polls (λ m. m ≤ MAX_TURNS) }
+    requires low { 1 ≤ numbers.from }
+    requires high { numbers.from ≤ MAX_MEMBER }
+    requires few_every { IfSome numbers.every (λ k. k ≤ MAX_TURNS) }
+    requires few_polls { IfSome numbers.polls (λ m. m ≤ MAX_TURNS) }
     ensures job { IfOk result
-        (IsTimeouts file.now from (option_map (λ list. list.now) list.entry) every polls until at) }
+        (IsTimeouts file.now numbers.from (option_map (λ list. list.now) list.entry)
+        numbers.every numbers.polls numbers.until numbers.at) }
     ensures refused { IfErr result (IsToFault (option_map (λ list. list.now) list.entry)) }
 {
     let to = named(alloc, list)?;
     let file = String::from_str(alloc, file)?;
+    let TimeoutNumbers {
+        from,
+        every,
+        polls,
+        until,
+        at,
+    } = numbers;
     let table = TimeoutTable {
         from,
         to,
