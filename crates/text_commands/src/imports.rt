@@ -22,6 +22,7 @@ use log_windows::{log_import, log_table, log_ticks};
 use std::alloc::Global;
 use std::borrow::CowSlice;
 use std::io::{Read, Write};
+use std::mem;
 use std::thread::Threads;
 use trace_text::{Counting, write_text};
 
@@ -151,7 +152,8 @@ fn texts_of<T: Threads>(
     }
 }
 
-/// The text of the trace of a log, and the notes. The log is freed before they are made.
+/// The text of the trace of a log, and the notes. The log is freed before they are made. The memory of the trace is left
+/// to the end of the program, which is near.
 fn trace_texts<T: Threads>(
     rt: &T,
     alloc: Global,
@@ -166,6 +168,7 @@ fn trace_texts<T: Threads>(
     let import = import_of(rt, alloc, text, options)?;
     let notes = notes_text(alloc, options, &import)?;
     let out = text_2_by_two(rt, alloc, &import.trace)?;
+    mem::forget(import);
     Ok(ImportTexts { out, notes })
 }
 
