@@ -11,7 +11,8 @@ use Rattle.command_faults.specs.Hints.{hint}
 use Rattle.event_log.specs.declared.refusals.LogError.{LogError}
 use Rattle.event_log.specs.declared.refusals.LogError.TheVariants.{BadNode, BadTime, FromUnfit, TickUnfit, UntilUnfit}
 use Rattle.event_log.specs.declared.refusals.LogError.TheVariants.{IdleUnfit, TooManyTicks, TooManySteps, NotLater}
-use Rattle.event_log.specs.declared.refusals.LogError.TheVariants.{SecondEvent, Cycle, NoOffsets}
+use Rattle.event_log.specs.declared.refusals.LogError.TheVariants.{SecondEvent, Cycle, NoOffsets, NoColumn}
+use Rattle.event_log.specs.declared.refusals.LogError.TheVariants.{BadFields, BadEvent, BadMessage}
 
 -- what comes before the reason of a refused log: nothing if it begins with an option that doesn't fit
 abbrev pub log_lead : LogError → List ℕ
@@ -38,6 +39,12 @@ help_line (Cycle number lines) = lines_text lines
     ++ 10
     ∷ codes "synchrony: no clocks make this right: the records of a node are out of order, or a message is named wrongly"
 help_line (NoOffsets lines) = lines_text lines
+help_line (NoColumn column) = 10
+    ∷ codes "synchrony: the first record names the columns, in any order, with commas between them: time,node,event,to,message"
+help_line (BadFields number) = 10 ∷ codes "synchrony: each record has as many fields as the first"
+help_line (BadEvent number) = 10 ∷ codes "synchrony: an event is send or receive"
+help_line (BadMessage number) = 10
+    ∷ codes "synchrony: the name of a message is text with no space or control character, and not empty; a receive has one space between names"
 help_line (BadTime number) = 10
     ∷ codes "synchrony: a time is a whole number, decimal seconds like 1700000000.123456, or a time stamp like 2026-11-22T10:00:00.250Z; all are of the kind of record 2's, and with --unit whole numbers"
 help_line (BadNode number None) =

@@ -56,6 +56,16 @@ impl fmt::Display for HelpLine<'_> {
                 "{lines}\nsynchrony: no clocks make this right: the records of a node are out of order, or a message is named wrongly"
             ),
             LogError::NoOffsets(lines) => write!(f, "{lines}"),
+            LogError::NoColumn(_) => f.write_str(
+                "\nsynchrony: the first record names the columns, in any order, with commas between them: time,node,event,to,message",
+            ),
+            LogError::BadFields(_) => {
+                f.write_str("\nsynchrony: each record has as many fields as the first")
+            }
+            LogError::BadEvent(_) => f.write_str("\nsynchrony: an event is send or receive"),
+            LogError::BadMessage(_) => f.write_str(
+                "\nsynchrony: the name of a message is text with no space or control character, and not empty; a receive has one space between names",
+            ),
             LogError::BadTime(_) => f.write_str(
                 "\nsynchrony: a time is a whole number, decimal seconds like 1700000000.123456, or a time stamp like 2026-11-22T10:00:00.250Z; all are of the kind of record 2's, and with --unit whole numbers",
             ),
