@@ -152,8 +152,8 @@ fn texts_of<T: Threads>(
     }
 }
 
-/// The text of the trace of a log, and the notes. The log is freed before they are made. The memory of the trace is left
-/// to the end of the program, which is near.
+/// The text of the trace of a log, and the notes. The log is freed before they are made. The memory of the trace is
+/// left to the end of the program, which is near.
 fn trace_texts<T: Threads>(
     rt: &T,
     alloc: Global,
