@@ -41,6 +41,11 @@ SHORTER_TICK = b"a shorter --tick sets them apart, and --spread moves one of the
 SPREAD = b"--spread sets them apart"
 TIMES = (b"a time is a whole number, decimal seconds like 1700000000.123456, or a time stamp like 2026-11-22T10:00:00.250Z; "
          b"all are of the kind of record 2's, and with --unit whole numbers")
+HEADER = b"the first record names the columns, in any order, with commas between them: time,node,event,to,message"
+FIELDS = b"each record has as many fields as the first"
+EVENTS = b"an event is send or receive"
+MESSAGES = (b"the name of a message is text with no space or control character, and not empty; "
+            b"a receive has one space between names")
 NO_NAME = b"the name of a node is text with no control character or semicolon, and not empty"
 DRIFT = b"clocks drift or step, or events are logged late; --spread alone places them by cause"
 NO_OFFSETS = b"no offsets of clocks bring the messages into order"
@@ -297,7 +302,7 @@ def places_of(records):
     header = records[0] if records else []
     for name in COLUMNS:
         if name not in header:
-            refuse_log(b"no column " + name)
+            refuse_log(b"no column " + name, HEADER)
     for name in COLUMNS:
         if header.count(name) > 1:
             refuse_log(b"two columns " + name)
@@ -363,14 +368,14 @@ def events_of(records, numbers, places, listed, kind):
         if count == EVENT_LIMIT:
             refuse_log(b"too many events")
         if len(record) != len(records[0]):
-            refuse_record(no, b"bad fields")
+            refuse_record(no, b"bad fields", FIELDS)
         time, node, event, to, message = (record[it] for it in places)
         kind = kind or kind_of(time)
         value = kind.read(time) if kind else None
         if value is None:
             refuse_record(no, b"bad time", TIMES)
         if event not in (b"send", b"receive"):
-            refuse_record(no, b"bad event")
+            refuse_record(no, b"bad event", EVENTS)
         named = [node, to] if event == b"send" else [node]
         bad = next((it for it in named if (not is_node(it) if listed is None else it not in listed)), None)
         if bad is not None:
@@ -380,7 +385,7 @@ def events_of(records, numbers, places, listed, kind):
         else:
             messages = message.split(b" ") if message else []
         if not all(map(is_message, messages)):
-            refuse_record(no, b"bad message")
+            refuse_record(no, b"bad message", MESSAGES)
         events.append(Event(no, len(events), value, node, to if event == b"send" else None, messages))
     if not events:
         refuse_log(b"no events")
