@@ -117,11 +117,14 @@ refusal_in_receive trace tick x ids ends taken l low forward high p o e h =
     let d : nat_le tick MAX_TICKS ≡ true = grind (arith, nat_tests) in
     rw (q, a, b, d, p, o, e) (ap (λ (u : ℕ → Bool). ids_refusal trace.steps (is_sent_in trace.ticks tick) u x.proc ids) (λ i s. h s i))
 
--- the ids of a step that is not refused name messages
+-- the ids of a step that fits name messages
+pub known_from_fits : (trace : Recorded) (tick : ℕ) (x : Step) → FitsIn trace tick x → All (λ s. (0 < s) × (s ≤ length trace.steps)) (act_ids x.act)
+known_from_fits trace tick x f = All-weaker (Contains (act_ids x.act)) (λ s. (0 < s) × (s ≤ length trace.steps))
+    (λ s d. step_at_within trace.steps s _ (f.fits.sent s d).1) (act_ids x.act) (All-contains_itself (act_ids x.act))
+
+-- and so do those of a step that is not refused
 pub known_from_none : (trace : Recorded) (tick : ℕ) (x : Step) → IsTrace trace → refusal_in trace tick x ≡ None → All (λ s. (0 < s) × (s ≤ length trace.steps)) (act_ids x.act)
-known_from_none trace tick x t h =
-    let f = FitsIn-from_none trace tick x t h in
-    All-weaker (Contains (act_ids x.act)) (λ s. (0 < s) × (s ≤ length trace.steps)) (λ s d. step_at_within trace.steps s _ (f.fits.sent s d).1) (act_ids x.act) (All-contains_itself (act_ids x.act))
+known_from_none trace tick x t h = known_from_fits trace tick x (FitsIn-from_none trace tick x t h)
 
 -- With one step in each tick, as many ticks have passed as there are steps, and each message was sent in an earlier
 -- tick than the next.

@@ -95,7 +95,7 @@ impl Model for Trace {
 
 impl Trace {
     ghost use Rattle.step_trace.specs.Traces.{step_at, IsWellFormed};
-    ghost use Rattle.step_trace.specs.Ticks.{tick_of, IsTimed, IsTrace, IsOnePerTick, with_step, with_last};
+    ghost use Rattle.step_trace.specs.Ticks.{tick_of, IsTimed, IsTrace, IsOnePerTick, CanAppend, with_step, with_last};
     ghost use Rattle.step_trace.specs.Differences.{placed_at};
     ghost use Rattle.step_trace.specs.Extensions.{Extends};
     ghost use Rattle.step_trace.specs.OwnSteps.{own_steps};
@@ -277,12 +277,21 @@ impl Trace {
         if let Some(why) = self.refusal(tick, &step) {
             return Err(why);
         }
-        let Ok(()) = self.taken.reserve(1) else {
-            return Err(PushError::Memory);
-        };
-        let Ok(()) = self.placed.push(step, tick as u32) else {
-            return Err(PushError::Memory);
-        };
+        match self.append(tick, step) {
+            Ok(()) => Ok(()),
+            Err(_) => Err(PushError::Memory),
+        }
+    }
+
+    /// Appends a step in this tick, for which there is no reason of `PushError`, so that none is looked for. Fails only
+    /// if out of memory; then nothing is appended.
+    pub fn append(&mut self, tick: u64, step: Step) -> Result<(), AllocError>
+        requires { CanAppend self.old tick step }
+        ensures appended { OnOk result (self.new ≡ with_step self.old tick step) }
+        ensures err { OnErr result (self.new ≡ self.old) }
+    {
+        self.taken.reserve(1)?;
+        self.placed.push(step, tick as u32)?;
         append_flag(&mut self.taken, self.placed.last_ids());
         self.last = tick;
         Ok(())
