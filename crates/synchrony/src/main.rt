@@ -233,7 +233,7 @@ fn text_in(text: &Option<String>) -> Option<&str> {
 
 /// Prints the trace of the log in a file, or the table of its steps, and reports on standard error how it was read. The
 /// options are read first. `threads` starts a thread that helps to read a whole log.
-fn import<T: Threads>(rt: &HostRuntime, threads: &T, job: ImportJob) -> Result<u8, Fault> {
+fn import<T: Threads + Sync>(rt: &HostRuntime, threads: &T, job: ImportJob) -> Result<u8, Fault> {
     let options = import_options(rt.alloc(), &job.options)?;
     let start = window_start(text_in(&job.options.from))?;
     let mut log = Input::open(rt, job.file)?;

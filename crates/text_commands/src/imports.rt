@@ -11,7 +11,7 @@ ghost use Rattle.text_commands.specs.Serving.{Serves};
 use crate::import_lines::notes_text;
 use crate::texts::read_whole;
 use crate::tick_lines::{tick_notes, ticks_text};
-use crate::upgrades::text_2_by_two;
+use crate::upgrades::text_2_by_four;
 use command_faults::{Fault, ImportOption, print_notes};
 use command_options::{ImportForm, ImportOptions};
 use event_log::{
@@ -103,7 +103,7 @@ fn no_length(alloc: Global, option: ImportOption, text: &str) -> Fault
 ///
 /// Refuses, in this order: Read, or Log for a text that is too large; Log for any other refusal of the log; Write with
 /// the number of bytes that went out before. Memory may come at any step before the notes are written.
-pub fn run_import<T: Threads, R: Read, W: Write, N: Write>(
+pub fn run_import<T: Threads + Sync, R: Read, W: Write, N: Write>(
     rt: &T,
     alloc: Global,
     options: &Options,
@@ -133,7 +133,7 @@ pub(crate) struct ImportTexts {
 }
 
 /// The texts that are made of a log.
-fn texts_of<T: Threads>(
+fn texts_of<T: Threads + Sync>(
     rt: &T,
     alloc: Global,
     text: Vec<u8>,
@@ -154,7 +154,7 @@ fn texts_of<T: Threads>(
 
 /// The text of the trace of a log, and the notes. The log is freed before they are made. The memory of the trace is
 /// left to the end of the program, which is near.
-fn trace_texts<T: Threads>(
+fn trace_texts<T: Threads + Sync>(
     rt: &T,
     alloc: Global,
     text: Vec<u8>,
@@ -167,7 +167,7 @@ fn trace_texts<T: Threads>(
 {
     let import = import_of(rt, alloc, text, options)?;
     let notes = notes_text(alloc, options, &import)?;
-    let out = text_2_by_two(rt, alloc, &import.trace)?;
+    let out = text_2_by_four(rt, alloc, &import.trace)?;
     mem::forget(import);
     Ok(ImportTexts { out, notes })
 }
@@ -208,8 +208,8 @@ fn import_of<T: Threads>(
     ensures import { IfOk result (λ import. IsLogImport options.now text.items import) }
     ensures refused { IfErr result (IsUnimported ImportForm.Trace options.now text.items) }
 {
-    let lines = TwoThreads { rt };
-    Ok(log_import(alloc, &lines, CowSlice::Owned(text), options)?)
+    let workers = TwoThreads { rt };
+    Ok(log_import(alloc, &workers, CowSlice::Owned(text), options)?)
 }
 
 /// A log read as a trace, with the table of its steps. The text is freed.

@@ -9,7 +9,7 @@ use command_faults::Fault;
 use std::alloc::Global;
 use std::thread::Threads;
 use step_trace::Trace;
-use trace_text::{trace_text_2_by_two, trace_text_2_of};
+use trace_text::{trace_text_2_by_four, trace_text_2_of};
 
 /// The command `upgrade`: the text of a trace in version 2. It declines no trace.
 #[derive(Clone, Copy)]
@@ -35,8 +35,8 @@ pub(crate) fn text_2_of(alloc: Global, trace: &Trace) -> Result<Vec<u8>, Fault>
     Ok(trace_text_2_of(alloc, trace)?)
 }
 
-/// The same, with the help of another thread.
-pub(crate) fn text_2_by_two<T: Threads>(
+/// The same, with the help of other threads.
+pub(crate) fn text_2_by_four<T: Threads + Sync>(
     rt: &T,
     alloc: Global,
     trace: &Trace,
@@ -44,5 +44,5 @@ pub(crate) fn text_2_by_two<T: Threads>(
     ensures text { IfOk result (λ text. IsUpgradeOf trace.now text.items) }
     ensures refused { IfErr result (λ why. why ≡ fault.Memory) }
 {
-    Ok(trace_text_2_by_two(rt, alloc, trace)?)
+    Ok(trace_text_2_by_four(rt, alloc, trace)?)
 }

@@ -1,10 +1,10 @@
 -- What is written of a trace, one part after the other.
-use Rattle.std.proofs.Common.{Fits, w64, ℕ, zero, suc, ◌≡◌, ◌+◌, ◌<◌, ◌≤◌, ◌^◌, ◌∙◌, List, [], ◌∷◌, ◌++◌, length, map, take, drop, get_or, Some, None, refl, sym, ap, arith, decimal, append_assoc}
+use Rattle.std.proofs.Common.{Fits, w64, ℕ, zero, suc, ◌≡◌, ◌+◌, ◌-◌, ◌<◌, ◌≤◌, ◌^◌, ◌∙◌, List, [], ◌∷◌, ◌++◌, length, map, take, drop, get_or, Some, None, refl, sym, ap, arith, decimal, append_assoc}
 use Rattle.std.specs.Prelude.{All, slice_get}
 use Rattle.std.specs.List.{join_with_byte, flat_map}
 use Rattle.std.proofs.Math.Seq.{take-suc}
 use Rattle.std.proofs.lemmas.Grind.{flat_map-append}
-use Rattle.std.proofs.lemmas.List.{append-nil, length-take-le, take_all}
+use Rattle.std.proofs.lemmas.List.{append-nil, drop-drop, drop-take, length-take-le, take-take, take_all}
 use Rattle.std.proofs.lemmas.List.Elements.{All-head, All-tail, All-from_get_or}
 use Rattle.std.proofs.lemmas.List.Folds.{list_any-append}
 use Rattle.std.proofs.lemmas.Option.{none-some, slice_get_past, slice_get_within, slice_get-get_or, get_or_from_slice_get}
@@ -16,7 +16,7 @@ use Rattle.trace_text.specs.Records.{record_line, text_of_records}
 use Rattle.trace_text.specs.RecordWriting.{our_writer, IsPlain, ArePlain}
 use Rattle.step_trace.specs.Ticks.{tick_at}
 use Rattle.trace_text.specs.declared.versions.Version.{Version}
-use Rattle.trace_text.specs.TraceTexts.{begun_text, header_record, init_record, rest_text, step_record, step_records, end_record, version_text}
+use Rattle.trace_text.specs.TraceTexts.{begun_text, header_record, init_record, rest_text, step_record, step_records, steps_text, end_record, version_text}
 use Rattle.trace_text.proofs.AcceptedRecords.{step_records-more}
 use Rattle.trace_text.proofs.PlainFields.{IsPlain-decimal}
 
@@ -107,12 +107,15 @@ pub ArePlain-decimals : (ns : List ℕ) → All (λ k. k < 2 ^ 64) ns → ArePla
 ArePlain-decimals [] small = tt
 ArePlain-decimals (n ∷ ns) small = (IsPlain-decimal n (All-head (λ k. k < 2 ^ 64) n ns small), ArePlain-decimals ns (All-tail (λ k. k < 2 ^ 64) n ns small))
 
+-- the text of some records, and that of the others
+records-cut : (v : Version) (ticks : List ℕ) (at : ℕ) (xs : List Step) (k : ℕ) → text_of_records (step_records v ticks at xs)
+    ≡ text_of_records (step_records v ticks at (take k xs)) ++ text_of_records (step_records v ticks (at + k) (drop k xs))
+records-cut v ticks at xs k = ap text_of_records (step_records-cut v ticks at xs k) ∙ flat_map-append record_line (step_records v ticks at (take k xs)) (step_records v ticks (at + k) (drop k xs))
+
 -- the text of the first steps, and that of the others
 text-cut : (v : Version) (t : Recorded) (k : ℕ) → text_of_records (step_records v t.ticks 1 t.steps)
     ≡ text_of_records (step_records v t.ticks 1 (take k t.steps)) ++ text_of_records (step_records v t.ticks (k + 1) (drop k t.steps))
-text-cut v t k =
-    let same : 1 + k ≡ k + 1 = omega arith in
-    ap text_of_records (rw same at (step_records-cut v t.ticks 1 t.steps k)) ∙ flat_map-append record_line (step_records v t.ticks 1 (take k t.steps)) (step_records v t.ticks (k + 1) (drop k t.steps))
+text-cut v t k = let same : 1 + k ≡ k + 1 = omega arith in rw same at (records-cut v t.ticks 1 t.steps k)
 
 -- the parts of a trace's text
 pub version_text-parts : (v : Version) (t : Recorded) (k : ℕ) → begun_text v t k ++ rest_text v t k ≡ version_text v t
@@ -127,6 +130,29 @@ version_text-parts v t k =
     ∙ ap (λ (text : List ℕ). header ++ (init ++ text)) (sym (append_assoc first others end)
     ∙ ap (λ (text : List ℕ). text ++ end) (sym (text-cut v t k))
     ∙ sym (text_of_records-more (step_records v t.ticks 1 t.steps) (end_record t.last)))
+
+-- the front with the first steps up to a place, and the next ones
+pub begun_text-parts : (v : Version) (t : Recorded) (k m : ℕ) → begun_text v t k ++ steps_text v t k (k + m) ≡ begun_text v t (k + m)
+begun_text-parts v t k m =
+    let header = record_line (header_record v t.config.n t.config.t) in
+    let init = record_line (init_record t.config.init) in
+    let first = text_of_records (step_records v t.ticks 1 (take k t.steps)) in
+    let so_many : k + m - k ≡ m = omega arith in
+    let same : 1 + k ≡ k + 1 = omega arith in
+    let cut : text_of_records (step_records v t.ticks 1 (take (k + m) t.steps)) ≡ first ++ steps_text v t k (k + m) =
+    rw (so_many, ← same, ← drop-take k m t.steps, ← take-take k (k + m) t.steps (omega arith)) (records-cut v t.ticks 1 (take (k + m) t.steps) k) in
+    append_assoc (header ++ init) first (steps_text v t k (k + m)) ∙ ap (λ (text : List ℕ). (header ++ init) ++ text) (sym cut)
+
+-- the next steps up to a place, and what comes behind them
+pub rest_text-parts : (v : Version) (t : Recorded) (k m : ℕ) → steps_text v t k (k + m) ++ rest_text v t (k + m) ≡ rest_text v t k
+rest_text-parts v t k m =
+    let so_many : k + m - k ≡ m = omega arith in
+    let place : k + 1 + m ≡ k + m + 1 = omega arith in
+    let end = record_line (end_record t.last) in
+    let others = text_of_records (step_records v t.ticks (k + m + 1) (drop (k + m) t.steps)) in
+    let cut : text_of_records (step_records v t.ticks (k + 1) (drop k t.steps)) ≡ steps_text v t k (k + m) ++ others =
+    rw (so_many, ← place, ← drop-drop m k t.steps) (records-cut v t.ticks (k + 1) (drop k t.steps) m) in
+    sym (append_assoc (steps_text v t k (k + m)) others end) ∙ ap (λ (text : List ℕ). text ++ end) (sym cut)
 
 -- numbers of 64 bits, one by one
 pub All-fit : (ns : List ℕ) → ((i : ℕ) → Fits w64 (get_or ns i 0)) → All (λ k. k < 2 ^ 64) ns

@@ -1,5 +1,5 @@
 -- Trace text: the records of a trace in each version, and the texts that encode it.
-use Rattle.std.specs.Prelude.{ℕ, ◌≡◌, ◌+◌, ◌<◌, ◌^◌, List, [], ◌∷◌, ◌++◌, length, map, take, drop, All, Bool}
+use Rattle.std.specs.Prelude.{ℕ, ◌≡◌, ◌+◌, ◌-◌, ◌<◌, ◌^◌, List, [], ◌∷◌, ◌++◌, length, map, take, drop, All, Bool}
 use Rattle.std.specs.Prelude.{true, false, ◌&&◌, ◌==◌, if◌then◌else◌, ⊤, codes, decimal}
 use Rattle.std.specs.List.{join_with_byte}
 use Rattle.step_trace.specs.declared.steps.Act.{Act}
@@ -78,6 +78,10 @@ begun_text v t count =
 abbrev pub rest_text : Version → Recorded → ℕ → List ℕ
 rest_text v t count =
     text_of_records (step_records v t.ticks (count + 1) (drop count t.steps)) ++ record_line (end_record t.last)
+
+-- the records of the steps behind the first `from`, up to the one of number `to`
+abbrev pub steps_text : Version → Recorded → ℕ → ℕ → List ℕ
+steps_text v t from to = text_of_records (step_records v t.ticks (from + 1) (take (to - from) (drop from t.steps)))
 
 -- whether numbers count on from this one
 abbrev pub counts_from : ℕ → List ℕ → Bool

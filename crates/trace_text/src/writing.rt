@@ -11,7 +11,7 @@ ghost use Rattle.trace_text.specs.Records.{record_line, text_of_records};
 ghost use Rattle.trace_text.specs.TextWriting.{Wrote, WrotePart, IsWriteCause};
 ghost use Rattle.trace_text.specs.TraceTexts.{IsTextTrace, StandsFor, is_one_per_tick, trace_text, trace_text_2};
 ghost use Rattle.trace_text.specs.TraceTexts.{version_text, version_field, header_record, init_record, step_record};
-ghost use Rattle.trace_text.specs.TraceTexts.{step_records, end_record, op_text, arg_text, begun_text, rest_text};
+ghost use Rattle.trace_text.specs.TraceTexts.{steps_text, end_record, op_text, arg_text, begun_text, rest_text};
 ghost use Rattle.trace_text.specs.declared.versions.Version.TheVariants as Version;
 
 use crate::byte_loops::{MAX_TEXT_BYTES, write_text};
@@ -85,8 +85,8 @@ pub fn trace_text_2_of(alloc: Global, trace: &Trace) -> Result<Vec<u8>, AllocErr
     trace_text_of(alloc, Version::Two, trace)
 }
 
-/// The text of a trace in version 2. Another thread makes the second half of a long one, if it can be started.
-pub fn trace_text_2_by_two<T: Threads>(
+/// The text of a trace in version 2. Four threads make that of a long one, as far as they can be started.
+pub fn trace_text_2_by_four<T: Threads + Sync>(
     rt: &T,
     alloc: Global,
     trace: &Trace,
@@ -106,11 +106,41 @@ pub fn trace_text_2_by_two<T: Threads>(
             requires last { last ≡ trace.now.last }
             ensures { IfOk result
                 (λ text. text.items ≡ rest_text Version.Two trace.entry.now half) }
-        {
-            let mut text = Vec::new(alloc);
-            push_rest(&mut text, Version::Two, trace, half, last)?;
-            Ok(text)
-        },
+        { rest_by_two(rt, alloc, trace, half, last) },
+        move || -> Result<Vec<u8>, AllocError>
+            requires { half ≤ length trace.now.steps }
+            ensures text { IfOk result
+                (λ text. text.items ≡ begun_text Version.Two trace.entry.now half) }
+            ensures setup { IsSetup trace.entry.now.config }
+            ensures values { All (λ v. v < 2 ^ 64) trace.entry.now.config.init }
+        { begun_by_two(rt, alloc, trace, half) },
+    );
+    let mut text = first?;
+    text.extend_from_slice(&second?)?;
+    Ok(text)
+}
+
+/// The front of a trace's text in version 2, with its first steps, so many of them. Another thread makes the second
+/// half, if it can be started.
+fn begun_by_two<T: Threads>(
+    rt: &T,
+    alloc: Global,
+    trace: &Trace,
+    count: u64,
+) -> Result<Vec<u8>, AllocError>
+    requires { count ≤ length trace.now.steps }
+    ensures text { IfOk result (λ text. text.items ≡ begun_text Version.Two trace.now count) }
+    ensures setup { IsSetup trace.now.config }
+    ensures values { All (λ v. v < 2 ^ 64) trace.now.config.init }
+{
+    let half = count / 2;
+    let (second, first) = thread::join(
+        rt,
+        move || -> Result<Vec<u8>, AllocError>
+            requires { (half ≤ count) × (count ≤ length trace.now.steps) }
+            ensures { IfOk result (λ text. text.items
+                ≡ steps_text Version.Two trace.entry.now half count) }
+        { steps_text(alloc, Version::Two, trace, half, count) },
         move || -> Result<Vec<u8>, AllocError>
             requires { half ≤ length trace.now.steps }
             ensures text { IfOk result
@@ -121,6 +151,59 @@ pub fn trace_text_2_by_two<T: Threads>(
     );
     let mut text = first?;
     text.extend_from_slice(&second?)?;
+    Ok(text)
+}
+
+/// What comes behind it. Another thread makes the second half, if it can be started.
+fn rest_by_two<T: Threads>(
+    rt: &T,
+    alloc: Global,
+    trace: &Trace,
+    count: u64,
+    last: u64,
+) -> Result<Vec<u8>, AllocError>
+    requires count { count ≤ length trace.now.steps }
+    requires last { last ≡ trace.now.last }
+    ensures { IfOk result (λ text. text.items ≡ rest_text Version.Two trace.now count) }
+{
+    let half = count + (trace.len() as u64 - count) / 2;
+    let (second, first) = thread::join(
+        rt,
+        move || -> Result<Vec<u8>, AllocError>
+            requires half { half ≤ length trace.now.steps }
+            requires last { last ≡ trace.now.last }
+            ensures { IfOk result
+                (λ text. text.items ≡ rest_text Version.Two trace.entry.now half) }
+        {
+            let mut text = Vec::new(alloc);
+            push_rest(&mut text, Version::Two, trace, half, last)?;
+            Ok(text)
+        },
+        move || -> Result<Vec<u8>, AllocError>
+            requires { (count ≤ half) × (half ≤ length trace.now.steps) }
+            ensures { IfOk result (λ text. text.items
+                ≡ steps_text Version.Two trace.entry.now count half) }
+        { steps_text(alloc, Version::Two, trace, count, half) },
+    );
+    let mut text = first?;
+    text.extend_from_slice(&second?)?;
+    Ok(text)
+}
+
+/// The records of the steps behind the first `from`, up to the one of number `to`.
+fn steps_text(
+    alloc: Global,
+    version: Version,
+    trace: &Trace,
+    from: u64,
+    to: u64,
+) -> Result<Vec<u8>, AllocError>
+    requires order { from ≤ to }
+    requires within { to ≤ length trace.now.steps }
+    ensures { IfOk result (λ text. text.items ≡ steps_text version trace.now from to) }
+{
+    let mut text = Vec::new(alloc);
+    push_steps(&mut text, version, trace, from, to)?;
     Ok(text)
 }
 
@@ -251,9 +334,8 @@ fn push_steps(
 ) -> Result<(), AllocError>
     requires order { from ≤ to }
     requires within { to ≤ length trace.now.steps }
-    ensures { OnOk result (text.new.items ≡ text.old.items ++ text_of_records
-        (step_records version trace.now.ticks (from + 1)
-        (take (to - from) (drop from trace.now.steps)))) }
+    ensures { OnOk result
+        (text.new.items ≡ text.old.items ++ steps_text version trace.now from to) }
 {
     for before in from..to {
         let no = before + 1;

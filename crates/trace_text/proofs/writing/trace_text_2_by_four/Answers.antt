@@ -3,7 +3,7 @@ use Rattle.std.specs.Prelude.{IfOk}
 use Rattle.trace_text.specs.declared.versions.Version.TheVariants.{Two}
 use Rattle.trace_text.specs.TraceTexts.{begun_text, rest_text}
 use Rattle.trace_text.proofs.WrittenRecords.{version_text-parts}
-use Rattle.trace_text.proofs.writing.trace_text_2_by_two.Goals as goal
+use Rattle.trace_text.proofs.writing.trace_text_2_by_four.Goals as goal
 
 pub returns-clause-text : goal.returns-clause-text
 returns-clause-text g c =
