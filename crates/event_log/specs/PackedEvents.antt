@@ -1,14 +1,16 @@
 -- Events packed: all received messages stand one after the other in one list, first by their names, later by the places
 -- of their sends.
-use Rattle.std.specs.Prelude.{ℕ, ◌+◌, ◌≤◌, List, Option, length, slice_range, ⊤}
+use Rattle.std.specs.Prelude.{ℕ, ◌≡◌, ◌+◌, ◌≤◌, List, Option, length, map, slice_range, ⊤}
+use Rattle.std.specs.List.{All}
 use Rattle.event_log.specs.declared.packed_events.LentEvent.{LentEvent}
 use Rattle.event_log.specs.declared.packed_events.LentAct.{LentAct}
 use Rattle.event_log.specs.declared.packed_events.LentAct.TheVariants as lent
 use Rattle.event_log.specs.declared.packed_events.PackedEvent.{PackedEvent}
 use Rattle.event_log.specs.declared.packed_events.PackedAct.{PackedAct}
 use Rattle.event_log.specs.declared.packed_events.PackedAct.TheVariants as packed
-use Rattle.event_log.specs.Events.{Seen, SeenAct, Sends, Receives}
+use Rattle.event_log.specs.Events.{Seen, SeenAct, Sends, Receives, resolved}
 use Rattle.event_log.specs.KeptEvents.{KeptAct, KeptEvent, Send, Receive}
+use Rattle.event_log.specs.SentMessages.{Sent}
 
 abbrev pub lent_act : LentAct → KeptAct
 lent_act (lent.Send to) = Send to
@@ -49,3 +51,9 @@ ActIsWithin count (packed.Receive from to) = (from ≤ to) × (to ≤ count)
 -- the messages of a packed event stand within so many bytes of names, or so many places
 abbrev pub IsWithin : ℕ → PackedEvent → Type 0
 IsWithin count event = ActIsWithin count event.act
+
+-- packed events before and after: the messages of the latter are by the places of the sends
+pub record ArePlaced (sent : Sent) (names : List ℕ) (messages : List (Option ℕ)) (old new : List PackedEvent)
+    : Type 0 where
+  pub within : All (IsWithin (length messages)) new
+  pub placed : map (placed messages) new ≡ map (resolved sent) (map (unpacked names) old)

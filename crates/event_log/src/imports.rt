@@ -25,13 +25,15 @@ use crate::log_traces::{LogTrace, PassedEvents, TraceOptions, passed_events, tra
 use crate::logs::{NamedEvents, events_of_log};
 use crate::names::NameSet;
 use crate::options::Options;
-use crate::read_lines::ReadLines;
 use crate::reading::MAX_EVENTS;
 use crate::refusals::LogError;
 use crate::times::{LogEnd, TimeKind, TimeUnit, Width, nanoseconds_in};
+use crate::workers::Workers;
 use clock_offsets::Offsets;
 use std::alloc::{AllocError, Global};
 use std::borrow::CowSlice;
+use std::thread;
+use std::thread::Threads;
 use step_trace::Trace;
 use timed_events::{Clock, Event, EventError, IdleError, Lateness, Moved, lateness_of, least_time};
 use trace_text::MAX_TEXT_BYTES;
@@ -78,9 +80,9 @@ pub struct IdleReceives {
 /// isn't too large.
 ///
 /// A text that is given, not lent, is freed once no refusal can name something in it: before the trace is made.
-pub fn read_log<L: ReadLines>(
+pub fn read_log<W: Workers>(
     alloc: Global,
-    lines: &L,
+    workers: &W,
     text: CowSlice<'_, u8, Global>,
     options: &Options,
 ) -> Result<Import, LogError>
@@ -91,7 +93,7 @@ pub fn read_log<L: ReadLines>(
     ensures more { result ≡ Err LogError.Memory
         → length (cow_slice_items text.entry) ≤ MAX_TEXT_BYTES }
 {
-    Ok(placed_import(alloc, lines, text, options)?.import)
+    Ok(placed_import(alloc, workers, text, options)?.import)
 }
 
 /// A log read as a trace, with what its steps are made of.
@@ -118,9 +120,9 @@ pub(crate) struct PlacedImport {
 /// The same import as that of `read_log`, with what its steps are made of.
 ///
 /// Refuses the same.
-pub(crate) fn placed_import<L: ReadLines>(
+pub(crate) fn placed_import<W: Workers>(
     alloc: Global,
-    lines: &L,
+    workers: &W,
     text: CowSlice<'_, u8, Global>,
     options: &Options,
 ) -> Result<PlacedImport, LogError>
@@ -137,11 +139,10 @@ pub(crate) fn placed_import<L: ReadLines>(
     if text.len() > MAX_TEXT_BYTES {
         return Err(LogError::TooLarge);
     }
-    let log = events_by(alloc, lines, &text, options)?;
+    let log = events_by(alloc, workers, &text, options)?;
     let clock = clock_for(options, log.kind)?;
     let limit = limit_for(options, log.kind, &clock)?;
     let aligned = aligned_log(alloc, &text, log, options.align)?;
-    let lateness = lateness_in(alloc, &aligned.log)?;
     let how = TraceOptions {
         clock,
         limit,
@@ -150,19 +151,20 @@ pub(crate) fn placed_import<L: ReadLines>(
         merge: options.merge,
     };
     if how.drop_lost || how.merge {
+        let lateness = lateness_in(alloc, &aligned.log)?;
         return left_import(alloc, text, aligned, lateness, how);
     }
-    whole_import(alloc, text, aligned, lateness, how)
+    whole_import(workers, alloc, text, aligned, how)
 }
 
 /// The import of all events of an aligned log.
 ///
 /// Refuses the first reason against them. Memory may come at any step.
-fn whole_import(
+fn whole_import<W: Workers>(
+    workers: &W,
     alloc: Global,
     text: CowSlice<'_, u8, Global>,
     aligned: AlignedLog,
-    lateness: Lateness,
     how: TraceOptions,
 ) -> Result<PlacedImport, LogError>
     requires sound { IsSound (seen_log aligned.log) }
@@ -171,14 +173,17 @@ fn whole_import(
         (λ p. IsPlacedOfLog false false how.limit how.spread (length aligned.log.nodes)
         aligned.log.events.items how.clock p.import p.events.items p.logged p.left_at
         (parts_seen p.parts) p.first p.places.items) }
-    ensures given { IfOk result (λ p. AreGiven aligned lateness how.clock p) }
+    ensures given { IfOk result
+        (λ p. AreGiven aligned (lateness_of aligned.log.events.items) how.clock p) }
     ensures long { IfOk result (λ p. length p.places.items ≡ length p.import.trace.steps) }
     ensures refused { IfErr result
         (IsUnmadeUnlessMemory false false how.limit how.spread (cow_slice_items text.entry)
         aligned.log.nodes aligned.log.events.items how.clock) }
 {
     let mut aligned = aligned;
-    let passed = passed_log(alloc, &text, &aligned.log, how)?;
+    let (lateness, passed) = workers.late_and_passed(alloc, &text, &aligned.log, how);
+    let lateness = lateness?;
+    let passed = passed?;
     drop(text);
     let n = aligned.log.nodes.len() as u64;
     let logged = aligned.log.events.len();
@@ -188,10 +193,49 @@ fn whole_import(
     Ok(import_of(aligned, made, lateness, logged, first, how.clock))
 }
 
+/// How many messages of a log are late, which another thread finds out, if it can be started; and whether its events
+/// make a trace.
+pub(crate) fn both_by_two<T: Threads>(
+    rt: &T,
+    alloc: Global,
+    text: &[u8],
+    log: &NamedEvents,
+    how: TraceOptions,
+) -> (Result<Lateness, LogError>, Result<PassedEvents, LogError>)
+    requires sound { IsSound (seen_log log.now) }
+    requires width { 0 < how.clock.width }
+    ensures lateness { IfOk result.0 (λ l. l ≡ lateness_of log.now.events.items) }
+    ensures memory { IfErr result.0 (λ why. why ≡ LogError.Memory) }
+    ensures passed { IfOk result.1
+        (HavePassed how.limit how.spread (length log.now.nodes) log.now.events.items how.clock) }
+    ensures refused { IfErr result.1
+        (IsUnmadeUnlessMemory false false how.limit how.spread text.now log.now.nodes
+        log.now.events.items how.clock) }
+{
+    thread::join(
+        rt,
+        move || -> Result<Lateness, LogError>
+            requires { IsSound (seen_log log.now) }
+            ensures lateness { IfOk result (λ l. l ≡ lateness_of log.entry.now.events.items) }
+            ensures memory { IfErr result (λ why. why ≡ LogError.Memory) }
+        { lateness_in(alloc, log) },
+        move || -> Result<PassedEvents, LogError>
+            requires sound { IsSound (seen_log log.now) }
+            requires width { 0 < how.clock.width }
+            ensures passed { IfOk result
+                (HavePassed how.limit how.spread (length log.entry.now.nodes)
+                log.entry.now.events.items how.clock) }
+            ensures refused { IfErr result
+                (IsUnmadeUnlessMemory false false how.limit how.spread text.entry.now
+                log.entry.now.nodes log.entry.now.events.items how.clock) }
+        { passed_log(alloc, text, log, how) },
+    )
+}
+
 /// Tests whether the events of a log make a trace.
 ///
 /// Refuses the first reason against them, or Memory.
-fn passed_log(
+pub(crate) fn passed_log(
     alloc: Global,
     text: &[u8],
     log: &NamedEvents,
@@ -288,9 +332,9 @@ pub(crate) fn log_error(alloc: Global, text: &[u8], log: &NamedEvents, why: Idle
 }
 
 /// The events that a log records; if nodes are listed, its nodes are listed ones.
-pub(crate) fn events_by<L: ReadLines>(
+pub(crate) fn events_by<W: Workers>(
     alloc: Global,
-    lines: &L,
+    workers: &W,
     text: &[u8],
     options: &Options,
 ) -> Result<NamedEvents, LogError>
@@ -303,7 +347,7 @@ pub(crate) fn events_by<L: ReadLines>(
     };
     events_of_log(
         alloc,
-        lines,
+        workers,
         text,
         options.unit,
         options.nodes.as_ref(),
@@ -408,7 +452,7 @@ pub fn end_in(kind: TimeKind, end: LogEnd) -> Result<i128, LogError>
 }
 
 /// How many messages of a log are received no later than they are sent.
-fn lateness_in(alloc: Global, log: &NamedEvents) -> Result<Lateness, LogError>
+pub(crate) fn lateness_in(alloc: Global, log: &NamedEvents) -> Result<Lateness, LogError>
     requires sound { IsSound (seen_log log.now) }
     ensures lateness { IfOk result (λ l. l ≡ lateness_of log.now.events.items) }
     ensures refused { IfErr result (λ why. why ≡ LogError.Memory) }

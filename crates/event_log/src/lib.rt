@@ -43,6 +43,7 @@ mod tick_rows;
 mod tick_tables;
 mod times;
 mod told_lines;
+mod workers;
 
 pub use columns::{Column, Columns, columns_of};
 pub use cycle_lines::{CycleLine, CycleLines};
@@ -53,7 +54,6 @@ pub use logs::{NamedEvents, events_of_log};
 pub use names::{Name, NameSet, are_message_names};
 pub use option_texts::{OptionTexts, read_options};
 pub use options::{OptionError, Options};
-pub use read_lines::{OneThread, ReadLines, TwoThreads};
 pub use reading::MAX_EVENTS;
 pub use refusal_texts::printed;
 pub use refusals::LogError;
@@ -65,3 +65,4 @@ pub use times::{
     LogEnd, Moment, TimeKind, TimeUnit, Width, moment_in, read_end, read_moment, read_unit,
     read_width, settled,
 };
+pub use workers::{OneThread, TwoThreads, Workers};

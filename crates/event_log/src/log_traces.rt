@@ -26,21 +26,22 @@ pub(crate) struct LogTrace {
 
 /// The ticks of a log's events that make a trace, and those of receives of nothing, if silences get some.
 #[derive(Drop)]
-pub(crate) enum PassedEvents {
+pub enum PassedEvents {
     Plain(EventTicks),
     Filled(Filling),
 }
 
 /// How a trace is made of the events of a log.
 #[derive(Clone, Copy)]
-pub(crate) struct TraceOptions {
-    pub(crate) clock: Clock,
+pub struct TraceOptions {
+    /// How times become ticks.
+    pub clock: Clock,
     /// Silences of at most so many ticks get a receive of nothing; none gets one without a limit.
-    pub(crate) limit: Option<u128>,
+    pub limit: Option<u128>,
     /// The flags as `Options` has them.
-    pub(crate) spread: bool,
-    pub(crate) drop_lost: bool,
-    pub(crate) merge: bool,
+    pub spread: bool,
+    pub drop_lost: bool,
+    pub merge: bool,
 }
 
 /// Tests whether the events of a log make a trace. Which events are left is settled before.

@@ -8,10 +8,10 @@ ghost use Rattle.event_log.specs.SoundLogs.{IsSound};
 ghost use Rattle.event_log.specs.Stages.{staged_log};
 
 use crate::names::NameSet;
-use crate::read_lines::ReadLines;
 use crate::reading::read_names;
 use crate::refusals::LogError;
 use crate::times::{TimeKind, TimeUnit};
+use crate::workers::Workers;
 use std::alloc::Global;
 use timed_events::Event;
 use trace_text::MAX_TEXT_BYTES;
@@ -34,9 +34,9 @@ pub struct NamedEvents {
 ///
 /// Refuses in the order of `LogError`. The first record that is refused for itself decides; if none is, the first whose
 /// names are refused. Memory comes only for a text that isn't too large.
-pub fn events_of_log<L: ReadLines>(
+pub fn events_of_log<W: Workers>(
     alloc: Global,
-    lines: &L,
+    workers: &W,
     text: &[u8],
     unit: Option<TimeUnit>,
     listed: Option<&NameSet>,
@@ -47,12 +47,12 @@ pub fn events_of_log<L: ReadLines>(
     ensures sound { IfOk result (λ log. IsSound (seen_log log)) }
     ensures more { result ≡ Err LogError.Memory → length text.now ≤ MAX_TEXT_BYTES }
 {
-    read_log(alloc, lines, text, unit, listed, nodes)
+    read_log(alloc, workers, text, unit, listed, nodes)
 }
 
-fn read_log<L: ReadLines>(
+fn read_log<W: Workers>(
     alloc: Global,
-    lines: &L,
+    workers: &W,
     text: &[u8],
     unit: Option<TimeUnit>,
     listed: Option<&NameSet>,
@@ -62,8 +62,8 @@ fn read_log<L: ReadLines>(
         (events_in unit listed.entry nodes text.now) }
     ensures more { result ≡ Err LogError.Memory → length text.now ≤ MAX_TEXT_BYTES }
 {
-    let (kind, names) = read_names(alloc, lines, text, unit, listed, nodes)?;
-    match names.into_events(alloc) {
+    let (kind, names) = read_names(alloc, workers, text, unit, listed, nodes)?;
+    match names.into_events(workers, alloc) {
         Ok((nodes, events)) => Ok(NamedEvents {
             kind,
             nodes,

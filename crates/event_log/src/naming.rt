@@ -19,6 +19,7 @@ use crate::records::{Told, Verb};
 use crate::refusals::LogError;
 use crate::results::both;
 use crate::sent_messages::SentMessages;
+use crate::workers::Workers;
 use std::alloc::{AllocError, Global};
 use std::marker::Model;
 use timed_events::Event;
@@ -59,12 +60,16 @@ impl Naming {
     }
 
     /// The nodes, and the events with the places of sends in place of the names of messages.
-    pub(crate) fn into_events(self, alloc: Global) -> Result<(NameSet, Vec<Event>), AllocError>
+    pub(crate) fn into_events<W: Workers>(
+        self,
+        workers: &W,
+        alloc: Global,
+    ) -> Result<(NameSet, Vec<Event>), AllocError>
         ensures nodes { IfOk result (λ r. r.0 ≡ self.nodes) }
         ensures events { IfOk result
             (λ r. map seen r.1.items ≡ map (resolved self.sent) self.events) }
     {
-        let events = events_of(alloc, self.sent, self.events);
+        let events = events_of(workers, alloc, self.sent, self.events);
         both(Ok(self.nodes.into_names()), events)
     }
 
@@ -102,26 +107,28 @@ impl Naming {
 
 /// The events with the places of sends in place of the names of messages. The names are freed before these events take
 /// memory.
-fn events_of(
+fn events_of<W: Workers>(
+    workers: &W,
     alloc: Global,
     sent: SentMessages,
     events: PackedEvents,
 ) -> Result<Vec<Event>, AllocError>
     ensures { IfOk result (λ made. map seen made.items ≡ map (resolved sent) events) }
 {
-    let placed = placed_events(alloc, sent, events)?;
+    let placed = placed_events(workers, alloc, sent, events)?;
     placed.into_events(alloc)
 }
 
 /// The events with the places of sends in place of the names of messages, which are freed.
-fn placed_events(
+fn placed_events<W: Workers>(
+    workers: &W,
     alloc: Global,
     sent: SentMessages,
     events: PackedEvents,
 ) -> Result<PlacedEvents, AllocError>
     ensures { IfOk result (λ placed. placed ≡ map (resolved sent) events) }
 {
-    events.into_placed(alloc, &sent)
+    events.into_placed(workers, alloc, &sent)
 }
 
 /// The numbers of the nodes that an event names.

@@ -8,6 +8,7 @@ ghost use Rattle.event_log.specs.PackedEvents.{packed_event, unpacked, unpacked_
 
 use crate::placed_events::PlacedEvents;
 use crate::sent_messages::SentMessages;
+use crate::workers::Workers;
 use std::alloc::{AllocError, Global};
 use std::marker::Model;
 use std::mem::size_of;
@@ -35,17 +36,23 @@ pub(crate) struct PackedEvents {
     names: Vec<u8>,
 }
 
+/// An event, in 32 bytes. Of a receive it has a range of a list that all events share: first of the bytes of names, and
+/// later of the places of sends.
 #[derive(Clone, Copy)]
-pub(crate) struct PackedEvent {
-    pub(crate) time: i128,
-    pub(crate) processor: u32,
-    pub(crate) act: PackedAct,
+pub struct PackedEvent {
+    /// When it happened, in the unit of the log's times.
+    pub time: i128,
+    /// The number of its node.
+    pub processor: u32,
+    pub act: PackedAct,
 }
 
+/// What a packed event does.
 #[derive(Clone, Copy)]
-pub(crate) enum PackedAct {
+pub enum PackedAct {
+    /// It sends to the node of this number.
     Send { to: u32 },
-    /// Where the messages or their names begin, and where they end.
+    /// Where its messages, or their names, begin in the list, and where they end.
     Receive { from: u32, to: u32 },
 }
 
@@ -102,15 +109,16 @@ impl PackedEvents {
     }
 
     /// The same events with the places of the sends in place of the names of messages. Takes no second list of events.
-    pub(crate) fn into_placed(
+    pub(crate) fn into_placed<W: Workers>(
         self,
+        workers: &W,
         alloc: Global,
         sent: &SentMessages,
     ) -> Result<PlacedEvents, AllocError>
         ensures { IfOk result (λ p. p ≡ map (resolved sent.now) self) }
     {
         let PackedEvents { events, names } = self;
-        PlacedEvents::of(alloc, sent, names.as_slice(), events)
+        PlacedEvents::of(workers, alloc, sent, names.as_slice(), events)
     }
 }
 

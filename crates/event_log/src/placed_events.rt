@@ -4,13 +4,16 @@ ghost use Rattle.std.specs.Prelude.{◌≡◌, ◌++◌, IfOk, OnOk, length, map
 ghost use Rattle.std.specs.List.{All};
 ghost use Rattle.event_log.specs.Events.{received, resolved, seen};
 ghost use Rattle.event_log.specs.Names.{parts_of};
-ghost use Rattle.event_log.specs.PackedEvents.{ActIsWithin, IsWithin, placed, placed_act, unpacked};
+ghost use Rattle.event_log.specs.PackedEvents.{ActIsWithin, ArePlaced, IsWithin, placed, placed_act, unpacked};
 ghost use Rattle.event_log.specs.SentMessages.{place_for};
 
 use crate::packed_events::{LentAct, PackedAct, PackedEvent, narrow, unpacked};
 use crate::sent_messages::SentMessages;
+use crate::workers::Workers;
 use std::alloc::{AllocError, Global};
 use std::marker::Model;
+use std::thread;
+use std::thread::Threads;
 use timed_events::{Event, EventAct, Messages};
 
 /// The events of a log once all its sends are known, each in 32 bytes, and the messages that they receive: each message
@@ -18,26 +21,36 @@ use timed_events::{Event, EventAct, Messages};
 #[derive(Drop)]
 pub(crate) struct PlacedEvents {
     events: Vec<PackedEvent>,
-    /// The messages of all receives, one after the other.
-    messages: Vec<Option<u32>>,
+    /// How many events the front half has.
+    half: usize,
+    /// The messages of all receives of the front half, one after the other.
+    front: Vec<Option<u32>>,
+    /// Those of the back half.
+    back: Vec<Option<u32>>,
 }
 
 impl Model for PlacedEvents {
-    ghost use Rattle.std.specs.Prelude.{List, length, map};
+    ghost use Rattle.std.specs.Prelude.{◌++◌, ◌≤◌, List, drop, length, map, take};
     ghost use Rattle.std.specs.List.{All};
     ghost use Rattle.event_log.specs.Events.{Seen};
     ghost use Rattle.event_log.specs.PackedEvents.{IsWithin, placed};
 
     ghost Value = { List Seen };
 
-    ghost view = { λ p. map (placed p.messages.items) p.events.items };
+    ghost view = { λ p. map (placed p.front.items) (take p.half p.events.items)
+        ++ map (placed p.back.items) (drop p.half p.events.items) };
 
-    ghost invariant = { λ p. All (IsWithin (length p.messages.items)) p.events.items };
+    ghost invariant = { λ p.
+        (p.half ≤ length p.events.items)
+        × All (IsWithin (length p.front.items)) (take p.half p.events.items)
+        × All (IsWithin (length p.back.items)) (drop p.half p.events.items) };
 }
 
 impl PlacedEvents {
-    /// These events, with the places of the sends in place of the names of messages. Takes no second list of events.
-    pub(crate) fn of(
+    /// These events, with the places of the sends in place of the names of messages. Takes no second list of events. Of
+    /// two threads, each places the messages of one half.
+    pub(crate) fn of<W: Workers>(
+        workers: &W,
         alloc: Global,
         sent: &SentMessages,
         names: &[u8],
@@ -47,30 +60,74 @@ impl PlacedEvents {
         ensures { IfOk result
             (λ p. p ≡ map (resolved sent.now) (map (unpacked names.now) events.items)) }
     {
-        let messages = place_all(alloc, sent, names, &mut events)?;
-        Ok(PlacedEvents { events, messages })
+        let half = events.len() / 2;
+        let (low, high) = events.split_at_mut(half);
+        let (front, back) = workers.place_messages(alloc, sent, names, low, high);
+        let front = front?;
+        let back = back?;
+        Ok(PlacedEvents {
+            events,
+            half,
+            front,
+            back,
+        })
     }
 
     /// The events, in their order.
     pub(crate) fn into_events(self, alloc: Global) -> Result<Vec<Event>, AllocError>
         ensures { IfOk result (λ events. map seen events.items ≡ self) }
     {
-        events_of(alloc, self.messages.as_slice(), self.events.as_slice())
+        let mut all = Vec::with_capacity(alloc, self.events.len())?;
+        let (low, high) = self.events.split_at(self.half);
+        push_events(alloc, &mut all, &self.front, low)?;
+        push_events(alloc, &mut all, &self.back, high)?;
+        Ok(all)
     }
 }
 
+/// Puts the places of the sends in place of the names of messages, in both halves of the events. Gives the messages of
+/// each half. Another thread does the first half, if it can be started.
+pub(crate) fn place_by_two<T: Threads>(
+    rt: &T,
+    alloc: Global,
+    sent: &SentMessages,
+    names: &[u8],
+    low: &mut [PackedEvent],
+    high: &mut [PackedEvent],
+) -> (
+    Result<Vec<Option<u32>>, AllocError>,
+    Result<Vec<Option<u32>>, AllocError>,
+)
+    requires low { All (IsWithin (length names.now)) low.old }
+    requires high { All (IsWithin (length names.now)) high.old }
+    ensures low { IfOk result.0
+        (λ messages. ArePlaced sent.now names.now messages.items low.old low.new) }
+    ensures high { IfOk result.1
+        (λ messages. ArePlaced sent.now names.now messages.items high.old high.new) }
+{
+    let mut first = || -> Result<Vec<Option<u32>>, AllocError>
+        requires { All (IsWithin (length names.now)) low.now }
+        ensures { IfOk result (λ messages. ArePlaced sent.entry.now names.entry.now messages.items
+            low.entry.now low.exit.now) }
+    { place_all(alloc, sent, names, low) };
+    let mut second = || -> Result<Vec<Option<u32>>, AllocError>
+        requires { All (IsWithin (length names.now)) high.now }
+        ensures { IfOk result (λ messages. ArePlaced sent.entry.now names.entry.now messages.items
+            high.entry.now high.exit.now) }
+    { place_all(alloc, sent, names, high) };
+    thread::join_mut(rt, &mut first, &mut second)
+}
+
 /// Puts the places of the sends in place of the names of messages. Gives the messages of all events.
-fn place_all(
+pub(crate) fn place_all(
     alloc: Global,
     sent: &SentMessages,
     names: &[u8],
     events: &mut [PackedEvent],
 ) -> Result<Vec<Option<u32>>, AllocError>
     requires { All (IsWithin (length names.now)) events.old }
-    ensures within { IfOk result (λ messages. All (IsWithin (length messages.items)) events.new) }
-    ensures placed { IfOk result
-        (λ messages. map (placed messages.items) events.new ≡ map (resolved sent.now)
-        (map (unpacked names.now) events.old)) }
+    ensures { IfOk result
+        (λ messages. ArePlaced sent.now names.now messages.items events.old events.new) }
 {
     let mut messages = Vec::new(alloc);
     for i in 0..events.len() {
@@ -130,20 +187,21 @@ fn push_places(
     Ok(())
 }
 
-/// The events, with their messages out of these.
-fn events_of(
+/// Puts last the events with their messages out of these.
+fn push_events(
     alloc: Global,
+    events: &mut Vec<Event>,
     messages: &[Option<u32>],
     kept: &[PackedEvent],
-) -> Result<Vec<Event>, AllocError>
+) -> Result<(), AllocError>
     requires { All (IsWithin (length messages.now)) kept.now }
-    ensures { IfOk result (λ events. map seen events.items ≡ map (placed messages.now) kept.now) }
+    ensures { OnOk result (map seen events.new.items ≡ map seen events.old.items
+        ++ map (placed messages.now) kept.now) }
 {
-    let mut events = Vec::with_capacity(alloc, kept.len())?;
     for event in kept {
         events.push(event_of(alloc, messages, event)?)?;
     }
-    Ok(events)
+    Ok(())
 }
 
 /// The event, with its messages out of these.

@@ -19,60 +19,33 @@ use std::thread::Threads;
 /// How many lines are read before another thread is asked for help.
 const FIRST_LINES: usize = 1_024;
 
-/// Who reads the lines of a log.
-pub trait ReadLines {
-    /// Takes in the records at the front of a text, as far as each is a line that needs no reader of csv's, and isn't
-    /// refused. Gives the place where the first other one begins.
-    fn read_lines<'a>(
-        &self,
-        alloc: Global,
-        text: &[u8],
-        begun: Reading<'a>,
-    ) -> Result<(Reading<'a>, usize), LogError>
-        ensures { LeadsOn begun.entry text.now 0 result };
+/// Takes in the lines at the front of a text that need no reader of csv's. Gives the place behind them.
+pub(crate) fn read_by_one<'a>(
+    alloc: Global,
+    text: &[u8],
+    begun: Reading<'a>,
+) -> Result<(Reading<'a>, usize), LogError>
+    ensures { LeadsOn begun.entry text.now 0 result }
+{
+    let mut reading = begun;
+    let at = take_lines(alloc, text, text.len(), &mut reading)?;
+    Ok((reading, at))
 }
 
-/// One thread.
-#[derive(Clone, Copy, Debug)]
-pub struct OneThread;
-
-impl ReadLines for OneThread {
-    fn read_lines<'a>(
-        &self,
-        alloc: Global,
-        text: &[u8],
-        begun: Reading<'a>,
-    ) -> Result<(Reading<'a>, usize), LogError>
-        ensures { LeadsOn begun.entry text.now 0 result }
-    {
-        let mut reading = begun;
-        let at = take_lines(alloc, text, text.len(), &mut reading)?;
-        Ok((reading, at))
-    }
-}
-
-/// Two threads, if another one can be started: it finds out what lines say, while this one takes in what the lines
-/// before them say.
-#[derive(Clone, Copy)]
-pub struct TwoThreads<'a, T> {
-    pub rt: &'a T,
-}
-
-impl<'t, T: Threads> ReadLines for TwoThreads<'t, T> {
-    fn read_lines<'a>(
-        &self,
-        alloc: Global,
-        text: &[u8],
-        begun: Reading<'a>,
-    ) -> Result<(Reading<'a>, usize), LogError>
-        ensures { LeadsOn begun.entry text.now 0 result }
-    {
-        let mut reading = begun;
-        let at = take_lines(alloc, text, FIRST_LINES, &mut reading)?;
-        match reading.rules() {
-            Some(rules) => read_ahead(self.rt, alloc, text, at, rules, reading),
-            None => Ok((reading, at)),
-        }
+/// The same with the help of another thread, as far as none of them is refused.
+pub(crate) fn read_by_two<'a, T: Threads>(
+    rt: &T,
+    alloc: Global,
+    text: &[u8],
+    begun: Reading<'a>,
+) -> Result<(Reading<'a>, usize), LogError>
+    ensures { LeadsOn begun.entry text.now 0 result }
+{
+    let mut reading = begun;
+    let at = take_lines(alloc, text, FIRST_LINES, &mut reading)?;
+    match reading.rules() {
+        Some(rules) => read_ahead(rt, alloc, text, at, rules, reading),
+        None => Ok((reading, at)),
     }
 }
 

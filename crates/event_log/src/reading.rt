@@ -13,12 +13,12 @@ use crate::columns::{Column, Columns, columns_of};
 use crate::fields::Fields;
 use crate::names::NameSet;
 use crate::naming::Naming;
-use crate::read_lines::ReadLines;
 use crate::records::{Rules, Told, told_of};
 use crate::refusals::LogError;
 use crate::results::{both, put_error};
 use crate::rows::{TakeRows, take_rows};
 use crate::times::{TimeKind, TimeUnit, settled};
+use crate::workers::Workers;
 use csv::ByteRecord;
 use std::alloc::Global;
 use trace_text::MAX_TEXT_BYTES;
@@ -49,9 +49,9 @@ pub struct Reading<'a> {
 ///
 /// Refuses in the order of `LogError`. If a record is refused for itself, the first such record decides; else the first
 /// whose names are refused.
-pub(crate) fn read_names<L: ReadLines>(
+pub(crate) fn read_names<W: Workers>(
     alloc: Global,
-    lines: &L,
+    workers: &W,
     text: &[u8],
     unit: Option<TimeUnit>,
     listed: Option<&NameSet>,
@@ -72,21 +72,21 @@ pub(crate) fn read_names<L: ReadLines>(
         count: 0,
         names: Ok(Naming::new(alloc, nodes)),
     };
-    let reading = read_records(alloc, lines, text, reading)?;
+    let reading = read_records(alloc, workers, text, reading)?;
     both(kind_at_end(&reading), reading.names)
 }
 
 /// Takes in all records of a text.
-fn read_records<'a, L: ReadLines>(
+fn read_records<'a, W: Workers>(
     alloc: Global,
-    lines: &L,
+    workers: &W,
     text: &[u8],
     begun: Reading<'a>,
 ) -> Result<Reading<'a>, LogError>
     ensures { GivesUnless is_memory (λ r. r) result
         (after_records next_reading begun.entry (records_of_text text.now)) }
 {
-    let (mut reading, at) = lines.read_lines(alloc, text, begun)?;
+    let (mut reading, at) = workers.read_lines(alloc, text, begun)?;
     take_rows(alloc, &text[at..], &mut reading)?;
     Ok(reading)
 }

@@ -11,7 +11,7 @@ use std::marker::Model;
 /// The messages that were sent. Most names are sent to one node, and looked up by themselves alone. What has a name
 /// that was sent before is a copy, and looked up by its node too.
 #[derive(Drop)]
-pub(crate) struct SentMessages {
+pub struct SentMessages {
     /// The names, in the order of their first sends.
     names: NameSet,
     /// The place of the event that sent each of these names first.

@@ -8,7 +8,7 @@ ghost use Rattle.log_windows.specs.LogImports.{IsLogTable, IsLogTicksRefusal};
 use crate::imports::{window_import, window_table, window_ticks};
 use crate::lists::{may_list, spread_log};
 use event_log::{
-    Import, LogError, LogTable, Options, ReadLines, TickTable, read_log, read_table, read_ticks,
+    Import, LogError, LogTable, Options, TickTable, Workers, read_log, read_table, read_ticks,
 };
 use std::alloc::Global;
 use std::borrow::CowSlice;
@@ -19,9 +19,9 @@ use trace_text::MAX_TEXT_BYTES;
 /// Refuses the same, by the records of the log; and TooLarge, if its text is too large with a record for each send.
 /// Memory comes only for a text that isn't too large. A text that is given, not lent, is freed before the trace is
 /// made.
-pub fn log_import<L: ReadLines>(
+pub fn log_import<W: Workers>(
     alloc: Global,
-    lines: &L,
+    workers: &W,
     text: CowSlice<'_, u8, Global>,
     options: &Options,
 ) -> Result<Import, LogError>
@@ -31,7 +31,7 @@ pub fn log_import<L: ReadLines>(
         → length (cow_slice_items text.entry) ≤ MAX_TEXT_BYTES }
 {
     if !may_list(&text) {
-        return read_log(alloc, lines, text, options);
+        return read_log(alloc, workers, text, options);
     }
     let log = spread_log(alloc, &text)?;
     drop(text);

@@ -2,6 +2,7 @@ use Rattle.std.proofs.Common.{ℕ, ◌≡◌, ◌<◌, ◌^◌, List, Ok, inl, i
 use Rattle.std.specs.Cow.{cow_slice_items}
 use Rattle.timed_events.specs.declared.events.Clock.{Clock}
 use Rattle.std.proofs.lemmas.Result.{err_from_is_err_and}
+use Rattle.timed_events.specs.Lateness.{lateness_of}
 use Rattle.event_log.specs.declared.options.Options.{Options}
 use Rattle.event_log.specs.Imports.{IsAlignRefusal, IsRead}
 use Rattle.event_log.specs.Logs.{SeenLog, seen_log}
@@ -99,7 +100,7 @@ returns-clause-import g c =
       fits = sym c.in_ok-clock.ensures.clock;
     }) c.in_ok-aligned.aligned
     c.in_ok-aligned.ensures.aligned c.in_ok-aligned.ensures.nodes c.in_ok-limit.limit (sym c.in_ok-limit.ensures) false
-    false (search rules) (search rules) c.in_ok-lateness.lateness c.in_ok-lateness.ensures.lateness
+    false (search rules) (search rules) (lateness_of c.in_ok-aligned.aligned.log.events.items) refl
     p.import p.events.items p.logged p.left_at (parts_seen p.parts) p.first p.clock p.places.items made given.nodes given.offsets given.lateness_is given.clock_is) c.whole_import.ensures.made c.whole_import.ensures.given
 
 pub returns-clause-short : goal.returns-clause-short

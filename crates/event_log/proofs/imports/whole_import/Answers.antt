@@ -10,7 +10,7 @@ use Rattle.event_log.proofs.UnmadeLogs.{meant-events, some-events}
 use Rattle.event_log.proofs.imports.whole_import.Goals as goal
 
 pub returns-clause-made : goal.returns-clause-made
-returns-clause-made c =
+returns-clause-made g c =
     let log = c.args.aligned.log in
     let limit = c.args.how.limit in
     let spread = c.args.how.spread in
@@ -37,7 +37,7 @@ returns-clause-made c =
     })
 
 pub least_time-first-requires : goal.least_time-first-requires
-least_time-first-requires c = subst (λ events. 0 < length events) (sym c.as_slice.ensures.value) (some-events c.args.aligned.log c.requires.sound)
+least_time-first-requires g c = subst (λ events. 0 < length events) (sym c.as_slice.ensures.value) (some-events c.args.aligned.log c.requires.sound)
 
 pub trace_of_passed-requires-clause-meant : goal.trace_of_passed-requires-clause-meant
-trace_of_passed-requires-clause-meant c = subst (λ n. AreMeant c.args.aligned.log.events.items n) (sym c.len-n.ensures) (meant-events c.args.aligned.log c.requires.sound)
+trace_of_passed-requires-clause-meant g c = subst (λ n. AreMeant c.args.aligned.log.events.items n) (sym c.len-n.ensures) (meant-events c.args.aligned.log c.requires.sound)
