@@ -1,5 +1,5 @@
 -- What is known of the events of which the trace of a log is made.
-use Rattle.std.proofs.Common.{ℕ, ◌≡◌, ◌∙◌, ◌<◌, ◌≤◌, Bool, true, false, not, cond, ◌⊎◌, inl, inr, List, [], ◌∷◌, Vec, length, map, Option, Some, None, refl, sym, ap, subst, arith}
+use Rattle.std.proofs.Common.{ℕ, ◌≡◌, ◌∙◌, ◌<◌, ◌≤◌, Bool, true, false, not, cond, ◌⊎◌, inl, inr, List, [], ◌∷◌, Vec, length, map, Option, Some, None, refl, sym, ap, ap₂, subst, arith}
 use Rattle.std.specs.Prelude.{All, MatchBool, ⊤, option_map, slice_get, slice_index, slice_index_or}
 use Rattle.std.specs.List.{filter, range_with_len}
 use Rattle.std.proofs.lemmas.List.{get_or-map, length-map}
@@ -15,7 +15,7 @@ use Rattle.timed_events.specs.declared.events.EventError.TheVariants as refused
 use Rattle.timed_events.specs.Times.{time_ticks, times_refusal}
 use Rattle.timed_events.proofs.SpreadTraces.{meant-processors}
 use Rattle.merged_receives.specs.Merges.{is_merged, is_part, parts_of, staying_before}
-use Rattle.merged_receives.specs.MergeWalks.{ArePart, AreParts, lists_of}
+use Rattle.merged_receives.specs.MergeWalks.{ArePart, AreParts}
 use Rattle.event_log.specs.declared.logs.NamedEvents.{NamedEvents}
 use Rattle.event_log.specs.declared.reading.TheConstants.{MAX_EVENTS}
 use Rattle.event_log.specs.declared.refusals.LogError.{LogError}
@@ -128,14 +128,26 @@ kept-places true events kept (Some at) k p l =
     let b : p < length at = omega (arith, long, l) in
     subst (λ (ps : List ℕ). slice_index ps p < length events) (sym k.places_are) (left-within events (length events) p (subst (λ (ps : List ℕ). p < length ps) k.places_are b))
 
--- the same of parts in vectors
-pub parts-within : {A B : Type 0} (parts : Option (Vec (Vec ℕ A) B)) (n : ℕ) → ((own : List (List ℕ)) → parts_seen parts ≡ Some own → AreParts n own) → ArePartsWithin parts n
-parts-within None n h = tt
-parts-within (Some v) n h = h (lists_of v.items) refl
+-- if each event is at its own place, so are those of parts
+own-places : (places : List ℕ) → places ≡ map (log_place None) places
+own-places [] = refl
+own-places (p ∷ ps) = ap (λ (qs : List ℕ). p ∷ qs) (own-places ps)
 
-pub within-parts : {A B : Type 0} (parts : Option (Vec (Vec ℕ A) B)) (n : ℕ) → ArePartsWithin parts n → (own : List (List ℕ)) → parts_seen parts ≡ Some own → AreParts n own
+own-parts : (parts : List (List ℕ)) → parts ≡ map (map (log_place None)) parts
+own-parts [] = refl
+own-parts (p ∷ ps) = ap₂ (λ (q : List ℕ) (qs : List (List ℕ)). q ∷ qs) (own-places p) (own-parts ps)
+
+pub all-placed : (at : Option (List ℕ)) (parts : List (List ℕ)) → at ≡ None → parts ≡ map (map (log_place at)) parts
+all-placed at parts e = subst (λ (o : Option (List ℕ)). parts ≡ map (map (log_place o)) parts) (sym e) (own-parts parts)
+
+-- the same of parts in vectors
+pub parts-within : {A : Type 0} (parts : Option (Vec (List ℕ) A)) (n : ℕ) → ((own : List (List ℕ)) → parts_seen parts ≡ Some own → AreParts n own) → ArePartsWithin parts n
+parts-within None n h = tt
+parts-within (Some v) n h = h v.items refl
+
+pub within-parts : {A : Type 0} (parts : Option (Vec (List ℕ) A)) (n : ℕ) → ArePartsWithin parts n → (own : List (List ℕ)) → parts_seen parts ≡ Some own → AreParts n own
 within-parts None n h own e = absurd (cc e)
-within-parts (Some v) n h own e = let same : lists_of v.items ≡ own = cc e in subst (λ (ps : List (List ℕ)). AreParts n ps) same h
+within-parts (Some v) n h own e = let same : v.items ≡ own = cc e in subst (λ (ps : List (List ℕ)). AreParts n ps) same h
 
 -- an event that is made of several sends within as many nodes
 sends-joined : (n : ℕ) (events : List Event) (new part : List ℕ) (a : EventAct) → SendsWithin n (seen_act a) → SendsWithin n (joined_act events new part a)

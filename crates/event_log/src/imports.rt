@@ -30,6 +30,7 @@ use crate::refusals::LogError;
 use crate::times::{LogEnd, TimeKind, TimeUnit, Width, nanoseconds_in};
 use crate::workers::Workers;
 use clock_offsets::Offsets;
+use merged_receives::Part;
 use std::alloc::{AllocError, Global};
 use std::borrow::CowSlice;
 use std::thread;
@@ -108,7 +109,7 @@ pub(crate) struct PlacedImport {
     /// Where these are in the log: the first ones if they are made of several.
     pub(crate) left_at: LogPlaces,
     /// Where the events are in the log of which each is made, if receives were merged.
-    pub(crate) parts: Option<Vec<Vec<u32>>>,
+    pub(crate) parts: Option<Vec<Part>>,
     /// When tick 1 begins.
     pub(crate) first: i128,
     /// How long ticks are.

@@ -3,14 +3,14 @@
 ghost use Rattle.std.specs.Prelude.{◌≡◌, ◌<◌, ◌≤◌, ◌++◌, ℕ, IfErr, IfOk, OnOk, Some, length, map, slice_index};
 ghost use Rattle.timed_events.specs.Checks.{AreOfProcessors, IsEventRefusal, messages_at};
 ghost use Rattle.timed_events.specs.Times.{times_refusal};
-ghost use Rattle.merged_receives.specs.MergeWalks.{ArePart, AreParts, lists_of};
+ghost use Rattle.merged_receives.specs.MergeWalks.{ArePart, AreParts};
 ghost use Rattle.event_log.specs.Events.{seen};
 ghost use Rattle.event_log.specs.LostSends.{left_message};
 ghost use Rattle.event_log.specs.Merges.{AreJoined, joined_at, joined_event, joined_messages};
 
 use crate::lost_sends::left_message;
 use crate::reading::MAX_EVENTS;
-use merged_receives::{MergedParts, merged_parts};
+use merged_receives::{MergedParts, Part, merged_parts};
 use std::alloc::{AllocError, Global};
 use timed_events::{Clock, Event, EventAct, EventError, Messages};
 
@@ -20,7 +20,7 @@ pub(crate) struct MergedEvents {
     /// Their messages are by the places of the sends among these events.
     pub(crate) events: Vec<Event>,
     /// Of each the places of the events of which it is made, in the order of their times.
-    pub(crate) parts: Vec<Vec<u32>>,
+    pub(crate) parts: Vec<Part>,
 }
 
 /// The events with the receives of a node in one tick as one event, if the node sends nothing between them.
@@ -36,9 +36,9 @@ pub(crate) fn merged_events(
     requires processors { AreOfProcessors events.now }
     requires width { 0 < clock.now.width }
     ensures merged { IfOk result
-        (λ m. AreJoined events.now clock.now m.events.items (lists_of m.parts.items)) }
-    ensures inside { IfOk result (λ m. AreParts (length events.now) (lists_of m.parts.items)) }
-    ensures some { IfOk result (λ m. 0 < length (lists_of m.parts.items)) }
+        (λ m. AreJoined events.now clock.now m.events.items m.parts.items) }
+    ensures inside { IfOk result (λ m. AreParts (length events.now) m.parts.items) }
+    ensures some { IfOk result (λ m. 0 < length m.parts.items) }
     ensures refused { IfErr result
         (λ why. IsEventRefusal why (times_refusal events.now clock.now)) }
 {
@@ -54,16 +54,16 @@ pub(crate) fn merged_events(
 fn joined_events(
     alloc: Global,
     events: &[Event],
-    parts: &[Vec<u32>],
+    parts: &[Part],
     places: &[u32],
 ) -> Result<Vec<Event>, AllocError>
-    requires { AreParts (length events.now) (lists_of parts.now) }
+    requires { AreParts (length events.now) parts.now }
     ensures { IfOk result (λ joined. map (λ e. Some (seen e)) joined.items ≡ map
-        (joined_at events.now places.now) (lists_of parts.now)) }
+        (joined_at events.now places.now) parts.now) }
 {
     let mut joined = Vec::with_capacity(alloc, parts.len())?;
     for part in parts {
-        let event = joined_at(alloc, events, part, places)?;
+        let event = joined_at(alloc, events, part.as_slice(), places)?;
         joined.push(event)?;
     }
     Ok(joined)

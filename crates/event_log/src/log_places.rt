@@ -1,12 +1,13 @@
 //! Where the events that are left of a log are in it.
 
-ghost use Rattle.std.specs.Prelude.{◌≡◌, ◌<◌, ◌^◌, ℕ, [], IfOk, None, Some, length};
+ghost use Rattle.std.specs.Prelude.{◌≡◌, ◌<◌, ◌^◌, ◌↔◌, ℕ, [], IfOk, IsTrue, None, Some, length};
 ghost use Rattle.std.specs.Prelude.{map, option_map, slice_index, slice_index_or};
 ghost use Rattle.timed_events.specs.declared.cause_cycles.Hop.{Hop};
-ghost use Rattle.merged_receives.specs.MergeWalks.{AreParts, lists_of};
+ghost use Rattle.merged_receives.specs.MergeWalks.{AreParts};
 ghost use Rattle.event_log.specs.Imports.{hop_in, log_place, moved_in, place_in, reason_in, source_in, source_of};
 ghost use Rattle.event_log.specs.MergedLogs.{ArePartsWithin, parts_seen};
 
+use merged_receives::Part;
 use std::alloc::{AllocError, Global};
 use std::marker::Model;
 use timed_events::{Event, EventError, Hop, Moved};
@@ -40,6 +41,13 @@ impl LogPlaces {
         LogPlaces {
             places: Some(places),
         }
+    }
+
+    /// Whether each event is at its own place.
+    pub(crate) fn are_all(&self) -> bool
+        ensures { IsTrue result ↔ (self.now ≡ None) }
+    {
+        self.places.is_none()
     }
 
     /// The place in the log of the event at this place.
@@ -81,8 +89,8 @@ pub(crate) fn moved_in(places: &[u32], moved: Moved) -> Moved
 }
 
 /// The list at a place; an empty one if there is no such place.
-pub(crate) fn part_at(parts: &[Vec<u32>], place: usize) -> &[u32]
-    ensures { result.now ≡ slice_index_or (lists_of parts.now) place [] }
+pub(crate) fn part_at(parts: &[Part], place: usize) -> &[u32]
+    ensures { result.now ≡ slice_index_or parts.now place [] }
 {
     if place >= parts.len() {
         return &[];
@@ -95,7 +103,7 @@ pub(crate) fn part_at(parts: &[Vec<u32>], place: usize) -> &[u32]
 fn source_in(
     events: &[Event],
     places: &[u32],
-    parts: &Option<Vec<Vec<u32>>>,
+    parts: &Option<Vec<Part>>,
     event: usize,
     message: usize,
 ) -> (usize, usize)
@@ -109,9 +117,9 @@ fn source_in(
 }
 
 /// The same if each event is made of events of the log.
-fn source_at(events: &[Event], parts: &[Vec<u32>], event: usize, message: usize) -> (usize, usize)
-    requires { AreParts (length events.now) (lists_of parts.now) }
-    ensures { result ≡ source_of events.now (slice_index_or (lists_of parts.now) event []) message }
+fn source_at(events: &[Event], parts: &[Part], event: usize, message: usize) -> (usize, usize)
+    requires { AreParts (length events.now) parts.now }
+    ensures { result ≡ source_of events.now (slice_index_or parts.now event []) message }
 {
     source_of(events, part_at(parts, event), message)
 }
@@ -137,7 +145,7 @@ fn source_of(events: &[Event], part: &[u32], message: usize) -> (usize, usize)
 pub(crate) fn reason_in(
     events: &[Event],
     places: &[u32],
-    parts: &Option<Vec<Vec<u32>>>,
+    parts: &Option<Vec<Part>>,
     why: EventError,
 ) -> EventError
     requires { ArePartsWithin parts.now (length events.now) }

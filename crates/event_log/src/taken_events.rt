@@ -7,7 +7,6 @@ ghost use Rattle.timed_events.specs.Times.{times_refusal};
 ghost use Rattle.event_log.specs.Imports.{AreTaken, IsEmptied, IsTimesError, IsUnmergedOf, kept_count, log_place};
 ghost use Rattle.event_log.specs.Logs.{seen_log};
 ghost use Rattle.event_log.specs.LostSends.{AreLeft, left_places};
-ghost use Rattle.merged_receives.specs.MergeWalks.{lists_of};
 ghost use Rattle.event_log.specs.MergedLogs.{AreMergedIn, ArePartsWithin, parts_seen};
 ghost use Rattle.event_log.specs.Naming.{is_memory};
 ghost use Rattle.event_log.specs.SoundLogs.{IsSound};
@@ -18,6 +17,7 @@ use crate::logs::NamedEvents;
 use crate::lost_sends::{LeftEvents, events_left};
 use crate::reading::MAX_EVENTS;
 use crate::refusals::LogError;
+use merged_receives::Part;
 use std::alloc::{AllocError, Global};
 use timed_events::{Clock, Event, EventError};
 
@@ -29,7 +29,7 @@ pub(crate) struct TakenEvents {
     /// Where they are in the log: the first ones if they are made of several.
     pub(crate) places: Vec<u32>,
     /// Where the events are in the log of which each is made, if receives are merged.
-    pub(crate) parts: Option<Vec<Vec<u32>>>,
+    pub(crate) parts: Option<Vec<Part>>,
     /// How many events are left before receives are merged.
     pub(crate) kept: usize,
 }
@@ -163,14 +163,14 @@ fn placed_in(
     ensures events { IfOk result (λ t. t.events.items ≡ merged.events.items) }
     ensures parts { IfOk result
         (λ t. parts_seen t.parts ≡ Some
-        (map (map (log_place at.now)) (lists_of merged.parts.items))) }
+        (map (map (log_place at.now)) merged.parts.items)) }
     ensures places { IfOk result
         (λ t. t.places.items ≡ map (λ part. slice_index part 0)
-        (map (map (log_place at.now)) (lists_of merged.parts.items))) }
+        (map (map (log_place at.now)) merged.parts.items)) }
     ensures kept { IfOk result (λ t. t.kept ≡ kept) }
 {
     let MergedEvents { events, parts } = merged;
-    let parts = placed_parts(alloc, &parts, at)?;
+    let parts = placed_parts(alloc, parts, at)?;
     let places = first_places(alloc, &parts)?;
     Ok(TakenEvents {
         events,
@@ -181,41 +181,40 @@ fn placed_in(
 }
 
 /// Lists of places among the events by the places in the log.
-fn placed_parts(
-    alloc: Global,
-    parts: &[Vec<u32>],
-    at: &LogPlaces,
-) -> Result<Vec<Vec<u32>>, AllocError>
+fn placed_parts(alloc: Global, parts: Vec<Part>, at: &LogPlaces) -> Result<Vec<Part>, AllocError>
     ensures { IfOk result
-        (λ placed. lists_of placed.items ≡ map (map (log_place at.now)) (lists_of parts.now)) }
+        (λ placed. placed.items ≡ map (map (log_place at.now)) parts.items) }
 {
+    if at.are_all() {
+        return Ok(parts);
+    }
     let mut placed = Vec::with_capacity(alloc, parts.len())?;
-    for part in parts {
-        let own = placed_part(alloc, part, at)?;
+    for part in &parts {
+        let own = placed_part(alloc, part.as_slice(), at)?;
         placed.push(own)?;
     }
     Ok(placed)
 }
 
 /// Places among the events by those in the log.
-fn placed_part(alloc: Global, part: &[u32], at: &LogPlaces) -> Result<Vec<u32>, AllocError>
-    ensures { IfOk result (λ placed. placed.items ≡ map (log_place at.now) part.now) }
+fn placed_part(alloc: Global, part: &[u32], at: &LogPlaces) -> Result<Part, AllocError>
+    ensures { IfOk result (λ placed. placed ≡ map (log_place at.now) part.now) }
 {
-    let mut placed = Vec::with_capacity(alloc, part.len())?;
+    let mut placed = Part::new();
     for place in part {
-        placed.push(at.at(*place as usize) as u32)?;
+        placed.push(alloc, at.at(*place as usize) as u32)?;
     }
     Ok(placed)
 }
 
 /// The first place of each list; 0 if it is empty.
-fn first_places(alloc: Global, parts: &[Vec<u32>]) -> Result<Vec<u32>, AllocError>
+fn first_places(alloc: Global, parts: &[Part]) -> Result<Vec<u32>, AllocError>
     ensures { IfOk result
-        (λ places. places.items ≡ map (λ part. slice_index part 0) (lists_of parts.now)) }
+        (λ places. places.items ≡ map (λ part. slice_index part 0) parts.now) }
 {
     let mut places = Vec::with_capacity(alloc, parts.len())?;
     for part in parts {
-        places.push(place_in(part, 0))?;
+        places.push(place_in(part.as_slice(), 0))?;
     }
     Ok(places)
 }

@@ -22,7 +22,7 @@ use Rattle.timed_events.proofs.SortedEvents.{place-found}
 use Rattle.timed_events.proofs.TimeBounds.{least_time-below}
 use Rattle.timed_events.proofs.TimeOrders.{inside-order}
 use Rattle.merged_receives.specs.Merges.{is_merged, is_part, parts_of, staying_before, staying_places}
-use Rattle.merged_receives.specs.MergeWalks.{AreHeadsOf, ArePart, AreParts, AreRising, has_some, lists_of, own_before, own_parts, places_before}
+use Rattle.merged_receives.specs.MergeWalks.{AreHeadsOf, ArePart, AreParts, AreRising, has_some, own_before, own_parts, places_before}
 use Rattle.merged_receives.proofs.JoinedReceives.{head-once, part-self}
 
 -- tests that agree on a list
@@ -234,13 +234,13 @@ pub record ArePartsTo (heads order : List ℕ) (k : ℕ) (parts : List (List ℕ
   pub long : length parts ≡ length heads
   pub each : (h : ℕ) → h < length heads → slice_index_or parts h [] ≡ filter (λ i. slice_index heads i == h) (take k order)
 
-none-in : {A : Type 0} (vs : List (Vec ℕ A)) (h : ℕ) → All (λ v. v.items ≡ []) vs → slice_index_or (lists_of vs) h [] ≡ []
+none-in : (parts : List (List ℕ)) (h : ℕ) → All (λ part. part ≡ []) parts → slice_index_or parts h [] ≡ []
 none-in [] h a = refl
-none-in (v ∷ vs) zero a = All-head (λ v. v.items ≡ []) v vs a
-none-in (v ∷ vs) (suc h) a = none-in vs h (All-tail (λ v. v.items ≡ []) v vs a)
+none-in (part ∷ parts) zero a = All-head (λ part. part ≡ []) part parts a
+none-in (part ∷ parts) (suc h) a = none-in parts h (All-tail (λ part. part ≡ []) part parts a)
 
-pub parts-start : {A : Type 0} (heads order : List ℕ) (vs : List (Vec ℕ A)) → length vs ≡ length heads → All (λ v. v.items ≡ []) vs → ArePartsTo heads order 0 (lists_of vs)
-parts-start heads order vs n a = record { long = length-map vs (λ v. v.items) ∙ n; each = λ h l. none-in vs h a }
+pub parts-start : (heads order : List ℕ) (parts : List (List ℕ)) → length parts ≡ length heads → All (λ part. part ≡ []) parts → ArePartsTo heads order 0 parts
+parts-start heads order parts n a = record { long = n; each = λ h l. none-in parts h a }
 
 pub parts-step : (heads order : List ℕ) (k : ℕ) (parts : List (List ℕ)) (i head : ℕ) → k < length order
     → i ≡ slice_index order k → head ≡ slice_index heads i → head < length heads → ArePartsTo heads order k parts
@@ -285,15 +285,6 @@ parts-all heads order k parts l w =
 pub some-test : (xs : List ℕ) → not (length xs == 0) ≡ has_some xs
 some-test [] = refl
 some-test (x ∷ xs) = not_from_false (length (x ∷ xs) == 0) (false_from_ne_true (length (x ∷ xs) == 0) (λ t. let e = eqb-true (length (x ∷ xs)) 0 t in omega (arith, e)))
-
-pub some-kept : {A : Type 0} (vs : List (Vec ℕ A)) → lists_of (filter (λ v. has_some v.items) vs) ≡ filter has_some (lists_of vs)
-some-kept [] = refl
-some-kept (v ∷ vs) = go (has_some v.items) (some-kept vs) where
-  go : (t : Bool) → lists_of (filter (λ v. has_some v.items) vs) ≡ filter has_some (lists_of vs)
-      → lists_of (cond t (v ∷ filter (λ v. has_some v.items) vs) (filter (λ v. has_some v.items) vs)) ≡ cond t
-      (v.items ∷ filter has_some (lists_of vs)) (filter has_some (lists_of vs))
-  go true rest = ap (λ (ys : List (List ℕ)). v.items ∷ ys) rest
-  go false rest = rest
 
 -- one event more
 own-cond : (t : Bool) (xs : List ℕ) (s : ℕ) → length (xs ++ cond t (s ∷ []) []) ≡ length xs + cond t 1 0

@@ -1,2 +1,3 @@
 pub mod Merges
 pub mod MergeWalks
+pub mod HeldPlaces

@@ -1,13 +1,9 @@
 -- How merged receives are found: each event is given the one into which it is merged.
-use Rattle.std.specs.Prelude.{ℕ, ◌≡◌, ◌==◌, ◌<◌, ◌≤◌, Bool, false, true, List, [], ◌∷◌, Vec, length}
+use Rattle.std.specs.Prelude.{ℕ, ◌≡◌, ◌==◌, ◌<◌, ◌≤◌, Bool, false, true, List, [], ◌∷◌, length}
 use Rattle.std.specs.Prelude.{map, nat_lt, slice_index, slice_index_or, if◌then◌else◌}
 use Rattle.std.specs.List.{filter, range_with_len}
 use Rattle.timed_events.specs.declared.events.Event.{Event}
 use Rattle.merged_receives.specs.Merges.{is_merged, is_part, receives_at}
-
--- the lists of vectors
-abbrev pub lists_of : {X A : Type 0} → List (Vec X A) → List (List X)
-lists_of vectors = map (λ v. v.items) vectors
 
 -- a part has an event at least, and its events are among so many
 pub record ArePart (n : ℕ) (part : List ℕ) : Type 0 where

@@ -2,5 +2,7 @@
 #![tactic(auto)]
 
 mod merges;
+mod parts;
 
 pub use merges::{MergedParts, merged_parts};
+pub use parts::Part;

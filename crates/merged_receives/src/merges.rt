@@ -7,8 +7,9 @@ ghost use Rattle.timed_events.specs.Checks.{AreOfProcessors, IsEventRefusal, pro
 ghost use Rattle.timed_events.specs.Times.{times_refusal};
 ghost use Rattle.merged_receives.specs.Merges.{AreMerged, receives_at};
 ghost use Rattle.merged_receives.specs.MergeWalks.{AreHeadsOf, AreParts, AreRising, has_some, head_by};
-ghost use Rattle.merged_receives.specs.MergeWalks.{lists_of, own_parts, places_before};
+ghost use Rattle.merged_receives.specs.MergeWalks.{own_parts, places_before};
 
+use crate::parts::Part;
 use std::alloc::{AllocError, Global};
 use step_trace::{MAX_PROCESSORS, MAX_STEPS};
 use timed_events::{Clock, Event, EventAct, EventError, span_of, ticks_of, time_order_of};
@@ -17,7 +18,7 @@ use timed_events::{Clock, Event, EventAct, EventError, span_of, ticks_of, time_o
 #[derive(Drop)]
 pub struct MergedParts {
     /// Of each event that stays the places of those of which it is made, in the order of their times.
-    pub parts: Vec<Vec<u32>>,
+    pub parts: Vec<Part>,
     /// Of each event how many before it stay.
     pub places: Vec<u32>,
 }
@@ -36,9 +37,9 @@ pub fn merged_parts(
     requires processors { AreOfProcessors events.now }
     requires width { 0 < clock.now.width }
     ensures merged { IfOk result
-        (λ m. AreMerged events.now clock.now (lists_of m.parts.items) m.places.items) }
-    ensures inside { IfOk result (λ m. AreParts (length events.now) (lists_of m.parts.items)) }
-    ensures some { IfOk result (λ m. 0 < length (lists_of m.parts.items)) }
+        (λ m. AreMerged events.now clock.now m.parts.items m.places.items) }
+    ensures inside { IfOk result (λ m. AreParts (length events.now) m.parts.items) }
+    ensures some { IfOk result (λ m. 0 < length m.parts.items) }
     ensures refused { IfErr result
         (λ why. IsEventRefusal why (times_refusal events.now clock.now)) }
 {
@@ -133,17 +134,17 @@ fn receives(events: &[Event], place: usize) -> bool
 }
 
 /// Of each event that is its own head the events of which it is the head, in their order.
-fn parts_of(alloc: Global, heads: &[u32], order: &[u32]) -> Result<Vec<Vec<u32>>, AllocError>
+fn parts_of(alloc: Global, heads: &[u32], order: &[u32]) -> Result<Vec<Part>, AllocError>
     requires order { (k : ℕ) → k < length order.now → slice_index order.now k < length heads.now }
     requires heads { (i : ℕ) → i < length heads.now → slice_index heads.now i < length heads.now }
-    ensures { IfOk result (λ parts. lists_of parts.items ≡ own_parts heads.now order.now) }
+    ensures { IfOk result (λ parts. parts.items ≡ own_parts heads.now order.now) }
 {
-    let mut parts = empty_lists(alloc, heads.len())?;
+    let mut parts = empty_parts(alloc, heads.len())?;
     for place in order {
         let head = heads[*place as usize] as usize;
-        put(&mut parts, head, *place)?;
+        put(alloc, &mut parts, head, *place)?;
     }
-    parts.retain(|part| has_some(part));
+    parts.retain(|part| has_some(part.as_slice()));
     Ok(parts)
 }
 
@@ -154,26 +155,26 @@ fn has_some(list: &[u32]) -> bool
     list.len() != 0
 }
 
-/// So many empty lists.
-fn empty_lists(alloc: Global, count: usize) -> Result<Vec<Vec<u32>>, AllocError>
-    ensures long { IfOk result (λ lists. length lists.items ≡ count) }
-    ensures empty { IfOk result (λ lists. All (λ v. v.items ≡ []) lists.items) }
+/// So many parts with no events.
+fn empty_parts(alloc: Global, count: usize) -> Result<Vec<Part>, AllocError>
+    ensures long { IfOk result (λ parts. length parts.items ≡ count) }
+    ensures empty { IfOk result (λ parts. All (λ part. part ≡ []) parts.items) }
 {
-    let mut lists = Vec::with_capacity(alloc, count)?;
+    let mut parts = Vec::with_capacity(alloc, count)?;
     for _ in 0..count {
-        lists.push(Vec::new(alloc))?;
+        parts.push(Part::new())?;
     }
-    Ok(lists)
+    Ok(parts)
 }
 
-/// Puts a number last in a list.
-fn put(lists: &mut [Vec<u32>], i: usize, number: u32) -> Result<(), AllocError>
-    requires { i < length lists.old }
-    ensures { OnOk result (lists_of lists.new ≡ slice_set (lists_of lists.old) i
-        (slice_index_or (lists_of lists.old) i [] ++ number ∷ [])) }
+/// Puts a place last in a part.
+fn put(alloc: Global, parts: &mut [Part], i: usize, place: u32) -> Result<(), AllocError>
+    requires { i < length parts.old }
+    ensures { OnOk result (parts.new ≡ slice_set parts.old i
+        (slice_index_or parts.old i [] ++ place ∷ [])) }
 {
-    let list = &mut lists[i];
-    list.push(number)?;
+    let part = &mut parts[i];
+    part.push(alloc, place)?;
     Ok(())
 }
 

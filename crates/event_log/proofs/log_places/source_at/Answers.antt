@@ -1,6 +1,5 @@
 use Rattle.std.proofs.Common.{ℕ, ◌<◌, ◌∙◌, List, length, sym, ap, subst}
 use Rattle.std.specs.Prelude.{slice_index}
-use Rattle.merged_receives.specs.MergeWalks.{lists_of}
 use Rattle.event_log.specs.Imports.{source_of}
 use Rattle.event_log.proofs.PlacedErrors.{part-inside}
 use Rattle.event_log.proofs.log_places.source_at.Goals as goal
@@ -8,7 +7,7 @@ use Rattle.event_log.proofs.log_places.source_at.Goals as goal
 pub source_of-requires : goal.source_of-requires
 source_of-requires c =
     let events = c.args.events.now in
-    let parts = lists_of c.args.parts.now in
+    let parts = c.args.parts.now in
     subst (λ (part : List ℕ). (k : ℕ) → k < length part → slice_index part k < length events) (sym c.part_at.ensures)
     (part-inside (length events) parts c.requires c.args.event)
 

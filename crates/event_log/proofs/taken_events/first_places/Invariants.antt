@@ -1,8 +1,7 @@
 use Rattle.std.proofs.Common.{◌≡◌, map, take}
 use Rattle.std.specs.Prelude.{slice_index}
-use Rattle.merged_receives.specs.MergeWalks.{lists_of}
 use Rattle.event_log.proofs.taken_events.first_places.Given as goal
 
 -- the places so far
 abbrev pub invariant-loop-part : goal.invariant-loop-part
-invariant-loop-part l = l.places.items ≡ map (λ part. slice_index part 0) (lists_of (take l.part-index l.parts))
+invariant-loop-part l = l.places.items ≡ map (λ part. slice_index part 0) (take l.part-index l.parts)

@@ -3,7 +3,7 @@ use Rattle.timed_events.specs.Causes.{IsTimeOrder}
 use Rattle.timed_events.specs.Times.{time_ticks}
 use Rattle.timed_events.proofs.TimeOrders.{inside-order}
 use Rattle.merged_receives.specs.Merges.{parts_of}
-use Rattle.merged_receives.specs.MergeWalks.{AreHeadsOf, AreParts, AreRising, lists_of, own_parts, places_before}
+use Rattle.merged_receives.specs.MergeWalks.{AreHeadsOf, AreParts, AreRising, own_parts, places_before}
 use Rattle.merged_receives.proofs.OwnParts.{own-inside, parts-are, places-staying, rising-ticks, some-stays}
 use Rattle.merged_receives.proofs.merges.merged_parts.Goals as goal
 
@@ -54,6 +54,6 @@ returns-clause-some c =
     let heads = c.in_ok-heads.heads.items in
     let order = c.in_ok-order.order.items in
     let w : AreHeadsOf events ticks heads = subst (λ (ts : List ℕ). AreHeadsOf events ts heads) (c.deref.ensures.value ∙ c.in_ok-ticks.ensures) c.in_ok-heads.ensures in
-    let are : lists_of c.in_ok-parts.parts.items ≡ parts_of events ticks order =
+    let are : c.in_ok-parts.parts.items ≡ parts_of events ticks order =
     c.in_ok-parts.ensures ∙ ap₂ (λ (hs os : List ℕ). own_parts hs os) c.deref-3.ensures.value c.deref-4.ensures.value ∙ parts-are events ticks heads w order c.in_ok-order.ensures in
     subst (λ (ps : List (List ℕ)). 0 < length ps) (sym are) (some-stays events ticks heads order w c.requires.some)

@@ -2,8 +2,7 @@ use Rattle.std.proofs.Common.{◌≡◌, ◌∙◌, length, refl, ap, arith, rul
 use Rattle.std.specs.Prelude.{slice_index}
 use Rattle.std.proofs.lemmas.Fn.{filter_same}
 use Rattle.std.proofs.lemmas.List.{with_items_is}
-use Rattle.merged_receives.specs.MergeWalks.{lists_of}
-use Rattle.merged_receives.proofs.OwnParts.{parts-all, parts-start, parts-step, some-kept}
+use Rattle.merged_receives.proofs.OwnParts.{parts-all, parts-start, parts-step}
 use Rattle.merged_receives.proofs.merges.parts_of.Goals as goal
 
 pub loop-place-init : goal.loop-place-init
@@ -15,13 +14,13 @@ loop-place-preserved c =
     let order = c.args.order.now in
     let k = c.loop-place.place-index in
     let l = c.loop-place-test.true in
-    let kept : length c.put.new.lists ≡ c.loop-place.parts.len = omega arith in
-    rw (with_items_is c.loop-place.parts c.put.new.lists kept, c.in_ok-put.ensures, c.deref_mut.ensures.value)
-    (parts-step heads order k (lists_of c.loop-place.parts.items) (slice_index order k)
+    let kept : length c.put.new.parts ≡ c.loop-place.parts.len = omega arith in
+    rw (with_items_is c.loop-place.parts c.put.new.parts kept, c.in_ok-put.ensures, c.deref_mut.ensures.value)
+    (parts-step heads order k c.loop-place.parts.items (slice_index order k)
     (slice_index heads (slice_index order k)) l refl refl
     (c.requires.heads (slice_index order k) (c.requires.order k l)) c.loop-place.invariant)
 
 pub returns : goal.returns
 returns c =
-    ap lists_of (filter_same _ _ _ (λ x b f' k. search rules) _ _ c.retain.ensures.filtered) ∙ some-kept c.loop-place.parts.items
-    ∙ parts-all c.args.heads.now c.args.order.now c.loop-place.place-index (lists_of c.loop-place.parts.items) c.loop-place-test.false c.loop-place.invariant
+    filter_same _ _ _ (λ x b f' k. search rules) _ _ c.retain.ensures.filtered
+    ∙ parts-all c.args.heads.now c.args.order.now c.loop-place.place-index c.loop-place.parts.items c.loop-place-test.false c.loop-place.invariant
