@@ -44,8 +44,8 @@ pub fn merged_parts(
         (λ why. IsEventRefusal why (times_refusal events.now clock.now)) }
 {
     let span = span_of(events, clock)?;
-    let ticks = ticks_of(alloc, events, clock, span.least)?;
     let order = time_order_of(alloc, events)?;
+    let ticks = ticks_of(alloc, events, clock, span.least)?;
     let heads = heads_of(alloc, events, &ticks, &order)?;
     let parts = parts_of(alloc, &heads, &order)?;
     let places = places_before(alloc, &heads)?;
