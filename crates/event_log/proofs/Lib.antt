@@ -24,9 +24,12 @@ pub mod SeenSilences
 pub mod UnmadeLogs
 pub mod ToldTimes
 pub mod StepPlaces
+pub mod KeptEvents
 pub mod LostSends
 pub mod LeftEvents
+pub mod JoinedEvents
 pub mod MergedOnce
+pub mod OneLog
 pub mod Outcomes
 pub mod TakenEvents
 pub mod PlacedImports

@@ -1,14 +1,18 @@
 -- The places of the events that are left.
-use Rattle.std.proofs.Common.{ℕ, zero, suc, ◌≡◌, ◌∙◌, ◌+◌, ◌-◌, ◌<◌, ◌≤◌, ◌⊎◌, inl, inr, Bool, true, false, not, cond}
+use Rattle.std.proofs.Common.{ℕ, zero, suc, ◌≡◌, ◌∙◌, ◌+◌, ◌-◌, ◌<◌, ◌≤◌, ◌⊎◌, inl, inr, Bool, true, false, not, cond, ap₂}
 use Rattle.std.proofs.Common.{List, [], ◌∷◌, ◌++◌, length, map, get_or, slice_index, refl, sym, ap, subst, arith}
 use Rattle.std.proofs.Common.{append-nil, length-append}
+use Rattle.std.specs.Prelude.{Option, Some, option_map, slice_get}
 use Rattle.std.specs.List.{filter, range_with_len}
+use Rattle.std.specs.List.Sorted.{IsStrictlyIncreasing}
 use Rattle.std.proofs.lemmas.List.{get_or-append_right, get_or_append_left, map-append}
 use Rattle.std.proofs.lemmas.List.Elements.{filter-append}
 use Rattle.std.proofs.lemmas.Bool.{cases_lt}
 use Rattle.timed_events.specs.declared.events.Event.{Event}
 use Rattle.timed_events.proofs.CausalWalks.{range-more}
-use Rattle.event_log.specs.LostSends.{is_lost, left_before, new_places}
+use Rattle.event_log.specs.Events.{Seen, seen}
+use Rattle.event_log.specs.LostSends.{is_lost, left_before, left_event, left_places, new_places, renumbered_at}
+use Rattle.event_log.proofs.KeptEvents.{rising-places}
 
 -- one place more is left, unless its event is lost
 one-left : (t : Bool) (xs : List ℕ) (s : ℕ) → xs ++ cond (not t) (s ∷ []) [] ≡ cond t xs (xs ++ s ∷ [])
@@ -81,3 +85,26 @@ new-places-are events = refl
 
 pub left-start : (events : List Event) → [] ≡ left_before events 0
 left-start events = sym (left-none events)
+
+-- they rise
+pub left-rising : (events : List Event) → IsStrictlyIncreasing (left_places events)
+unfolding left_before
+left-rising events = rising-places (λ p. not (is_lost events p)) (length events)
+
+-- the events at these places, with their messages by the new places of the sends
+pub left-each : (events kept left : List Event) (new places : List ℕ) → map Some kept ≡ map (slice_get events) places
+    → map seen left ≡ map (left_event new) (map seen kept)
+    → map (λ e. Some (seen e)) left ≡ map (renumbered_at events new) places
+left-each events [] [] new [] at is = refl
+left-each events [] (x ∷ xs) new places at is = absurd (cc is)
+left-each events (e ∷ es) [] new places at is = absurd (cc is)
+left-each events [] [] new (p ∷ ps) at is = absurd (cc at)
+left-each events (e ∷ es) (x ∷ xs) new [] at is = absurd (cc at)
+left-each events (e ∷ es) (x ∷ xs) new (p ∷ ps) at is =
+    let own : ◌≡◌ {A = Option Event} (Some e) (slice_get events p) = cc at in
+    let rest : map Some es ≡ map (slice_get events) ps = cc at in
+    let head : seen x ≡ left_event new (seen e) = cc is in
+    let tail : map seen xs ≡ map (left_event new) (map seen es) = cc is in
+    ap₂ (λ (o : Option Seen) (os : List (Option Seen)). o ∷ os)
+    (ap (λ (s : Seen). Some s) head ∙ ap (option_map (λ (y : Event). left_event new (seen y))) own)
+    (left-each events es xs new ps rest tail)

@@ -18,7 +18,8 @@ use Rattle.event_log.specs.LostSends.{left_message}
 use Rattle.merged_receives.specs.Merges.{is_joined, is_merged, is_part, is_receive, is_send_between, parts_of, receives_at, sends_at, staying_before, staying_places}
 use Rattle.merged_receives.proofs.OneMerge.{order-once}
 use Rattle.event_log.specs.Imports.{AreMergedBy, AreTaken, first_places, log_parts}
-use Rattle.event_log.specs.Merges.{AreJoined, joined_act, joined_at, joined_event, joined_messages}
+use Rattle.event_log.specs.Merges.{AreJoined, joined_at, joined_event, joined_messages, receiving}
+use Rattle.event_log.proofs.JoinedEvents.{joined-is}
 use Rattle.event_log.proofs.LeftEvents.{left-once, maps-same, seen_send, sends-seen, somes-same}
 use Rattle.event_log.proofs.SeenEvents.{earlier, lengths, messages, own-ticks, processors}
 
@@ -49,26 +50,11 @@ lists-same : {Y : Type 0} (f g : List ℕ → Y) → ((s : List ℕ) → f s ≡
 lists-same f g h [] = refl
 lists-same f g h (x ∷ xs) = ap₂ (λ y ys. y ∷ ys) (h x) (lists-same f g h xs)
 
--- what is seen of an event that is made of several
-seen_joined : List (Option ℕ) → SeenAct → SeenAct
-seen_joined messages (Sends to) = Sends to
-seen_joined messages (Receives own) = Receives messages
-
-act-joined : (events : List Event) (new part : List ℕ) (a : EventAct) → joined_act events new part a ≡ seen_joined (joined_messages events new part) (seen_act a)
-unfolding seen_joined
-act-joined events new part (act.Send to) = refl
-act-joined events new part (act.Receive messages) = refl
-
 joined-seen : (events : List Event) (new part : List ℕ) (xs : List Event) (p : ℕ)
-    → option_map (joined_event events new part) (slice_get xs p) ≡ option_map
-    (λ (s : Seen).
-    let z : Seen = record {
-      time = s.time;
-      processor = s.processor;
-      act = seen_joined (joined_messages events new part) s.act;
-    } in z) (slice_get (map seen xs) p)
+    → option_map (joined_event events new part) (slice_get xs p)
+    ≡ option_map (receiving (joined_messages events new part)) (slice_get (map seen xs) p)
 joined-seen events new part [] p = refl
-joined-seen events new part (e ∷ es) zero = ap (λ (a : SeenAct). let z : Option Seen = Some (record { time = e.time; processor = e.processor; act = a }) in z) (act-joined events new part e.act)
+joined-seen events new part (e ∷ es) zero = ap (λ (s : Seen). Some s) (joined-is events new part e)
 joined-seen events new part (e ∷ es) (suc p) = joined-seen events new part es p
 
 module _ (xs ys : List Event) (same : map seen xs ≡ map seen ys) where
@@ -127,10 +113,7 @@ module _ (xs ys : List Event) (same : map seen xs ≡ map seen ys) where
   at-same : (new part : List ℕ) → joined_at xs new part ≡ joined_at ys new part
   at-same new part =
       joined-seen xs new part xs (slice_index part 0)
-      ∙ ap₂ (λ (ms : List (Option ℕ)) (ss : List Seen).
-      option_map (λ (s : Seen). let z : Seen =
-      record { time = s.time; processor = s.processor; act = seen_joined ms s.act } in
-      z) (slice_get ss (slice_index part 0))) (joined-messages new part) same
+      ∙ ap₂ (λ (ms : List (Option ℕ)) (ss : List Seen). option_map (receiving ms) (slice_get ss (slice_index part 0))) (joined-messages new part) same
       ∙ sym (joined-seen ys new part ys (slice_index part 0))
 
   order-same : (order : List ℕ) → IsTimeOrder xs order → IsTimeOrder ys order

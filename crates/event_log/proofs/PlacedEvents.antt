@@ -16,7 +16,7 @@ inside-old old now i rest l =
     let same = ap length rest in
     omega (arith, l, same, length-drop i now, length-drop i old)
 
-same-at : {X : Type 0} (old now : List X) (i : ℕ) (d : X) → drop i now ≡ drop i old → get_or now i d ≡ get_or old i d
+pub same-at : {X : Type 0} (old now : List X) (i : ℕ) (d : X) → drop i now ≡ drop i old → get_or now i d ≡ get_or old i d
 same-at {X = X} old now i d rest =
     let first = λ (xs : List X). get_or-drop i xs 0 d ∙ ap (λ k. get_or xs k d) (add-zero i) in
     sym (first now) ∙ ap (λ xs. get_or xs 0 d) rest ∙ first old

@@ -350,6 +350,16 @@ pub record AreEventsOf (o : Options) (text : List ℕ) (log : SeenLog) (events :
   pub same : map seen events ≡ log.events
   pub fits : clock_in o log.kind ≡ Ok clock
 
+-- The nodes and the events of the log of a text, with aligned clocks if that is asked for.
+pub record IsAlignedLogOf (o : Options) (text : List ℕ) (nodes : List (List ℕ)) (aligned : List Event) : Type 0 where
+  pub log : SeenLog
+  pub events : List Event
+  pub read : IsRead o text (Ok log)
+  pub same : map seen events ≡ log.events
+  pub offsets : Option (List ℤ)
+  pub clocks : AreAligned o.align (length log.nodes) events offsets aligned
+  pub nodes_are : nodes ≡ log.nodes
+
 -- how many events are left, if lost sends are left out or not
 abbrev pub kept_count : Bool → List Event → ℕ
 kept_count drop events = if drop then length (left_places events) else length events

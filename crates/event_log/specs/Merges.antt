@@ -1,5 +1,5 @@
 -- The events of a log with the receives of a node in one tick as one event, if the node sends nothing between them.
-use Rattle.std.specs.Prelude.{ℕ, ◌≡◌, List, map, Option, Some, option_map, slice_get, slice_index}
+use Rattle.std.specs.Prelude.{ℕ, ◌≡◌, List, [], ◌∷◌, map, Option, Some, option_map, slice_get, slice_index}
 use Rattle.std.specs.List.{flat_map}
 use Rattle.timed_events.specs.declared.events.Clock.{Clock}
 use Rattle.timed_events.specs.declared.events.Event.{Event}
@@ -31,3 +31,17 @@ pub record AreJoined (events : List Event) (clock : Clock) (left : List Event) (
   pub places : List ℕ
   pub are : AreMerged events clock parts places
   pub each : map (λ e. Some (seen e)) left ≡ map (joined_at events places) parts
+
+-- an event with these messages in place of its own, if it receives
+abbrev pub receiving_act : List (Option ℕ) → SeenAct → SeenAct
+receiving_act messages (Sends to) = Sends to
+receiving_act messages (Receives own) = Receives messages
+
+abbrev pub receiving : List (Option ℕ) → Seen → Seen
+receiving messages e = record { time = e.time; processor = e.processor; act = receiving_act messages e.act }
+
+-- each event with the messages that are listed for it
+abbrev pub receiving_all : List (List (Option ℕ)) → List Seen → List Seen
+receiving_all [] es = es
+receiving_all (m ∷ ms) [] = []
+receiving_all (m ∷ ms) (e ∷ es) = receiving m e ∷ receiving_all ms es

@@ -153,7 +153,7 @@ pub(crate) fn placed_import<W: Workers>(
     };
     if how.drop_lost || how.merge {
         let lateness = lateness_in(alloc, &aligned.log)?;
-        return left_import(alloc, text, aligned, lateness, how);
+        return left_import(workers, alloc, text, options, aligned, lateness, how);
     }
     whole_import(workers, alloc, text, aligned, how)
 }

@@ -1,11 +1,12 @@
 //! Logs read as traces without lost sends, or with merged receives.
 
-ghost use Rattle.std.specs.Prelude.{◌≡◌, ◌<◌, ◌≤◌, ℕ, IfErr, IfOk, MatchBool, Some};
+ghost use Rattle.std.specs.Prelude.{◌≡◌, ◌<◌, ◌≤◌, ℕ, List, IfErr, IfOk, MatchBool, Some};
 ghost use Rattle.std.specs.Prelude.{⊤, false, length, slice_index, true};
 ghost use Rattle.std.specs.Cow.{cow_slice_items};
 ghost use Rattle.timed_events.specs.Checks.{AreOfProcessors};
+ghost use Rattle.timed_events.specs.declared.events.Event.{Event};
 ghost use Rattle.event_log.specs.Given.{AreGiven};
-ghost use Rattle.event_log.specs.Imports.{IsBehindCycle, IsErrorUnlessMemory, IsLeftCycleError};
+ghost use Rattle.event_log.specs.Imports.{IsAlignedLogOf, IsBehindCycle, IsErrorUnlessMemory, IsLeftCycleError};
 ghost use Rattle.event_log.specs.Imports.{IsPlacedErrorUnlessMemory, IsPlacedOfLog, IsUnmadeUnlessMemory, moved_in};
 ghost use Rattle.event_log.specs.Imports.{reason_in, removed_by};
 ghost use Rattle.event_log.specs.Logs.{seen_log};
@@ -13,28 +14,34 @@ ghost use Rattle.event_log.specs.MergedLogs.{ArePartsWithin, parts_seen};
 ghost use Rattle.event_log.specs.Naming.{is_memory};
 ghost use Rattle.event_log.specs.SoundLogs.{IsSound};
 
-use crate::alignments::AlignedLog;
+use crate::alignments::{AlignedLog, aligned_log};
 use crate::event_refusals::error_of;
 use crate::hop_lines::hop_lines;
-use crate::imports::{Import, PlacedImport};
+use crate::imports::{Import, PlacedImport, events_by};
 use crate::log_places::{LogPlaces, hops_in, moved_in, place_in, reason_in};
 use crate::log_traces::{LogTrace, TraceOptions, passed_events, trace_of_passed};
 use crate::logs::NamedEvents;
+use crate::options::Options;
 use crate::reading::MAX_EVENTS;
 use crate::refusals::LogError;
 use crate::taken_events::{TakenEvents, taken_events};
+use crate::workers::Workers;
+use clock_offsets::Offsets;
 use std::alloc::{AllocError, Global};
 use std::borrow::CowSlice;
 use timed_events::{Clock, EventError, IdleError, Lateness, cycle_of_causes, least_time};
 
 /// The import of the events of an aligned log without lost sends, and then with merged receives. Asks for one of the
-/// two.
+/// two, and for the log of the text, which is read once more if a refusal names something in it: what is left takes the
+/// place of all.
 ///
 /// Refuses NoEvents if none is left; UntilUnfit and TooManyTicks before receives are merged; then the first reason
 /// against the events that are left. Memory may come at any step.
-pub(crate) fn left_import(
+pub(crate) fn left_import<W: Workers>(
+    workers: &W,
     alloc: Global,
     text: CowSlice<'_, u8, Global>,
+    options: &Options,
     aligned: AlignedLog,
     lateness: Lateness,
     how: TraceOptions,
@@ -42,6 +49,8 @@ pub(crate) fn left_import(
     requires sound { IsSound (seen_log aligned.log) }
     requires width { 0 < how.clock.width }
     requires asked { how.drop_lost ≡ false → how.merge ≡ true }
+    requires given { IsAlignedLogOf options.now (cow_slice_items text) aligned.log.nodes
+        aligned.log.events.items }
     ensures made { IfOk result
         (λ p. IsPlacedOfLog how.drop_lost how.merge how.limit how.spread (length aligned.log.nodes)
         aligned.log.events.items how.clock p.import p.events.items p.logged p.left_at
@@ -52,9 +61,10 @@ pub(crate) fn left_import(
         (IsUnmadeUnlessMemory how.drop_lost how.merge how.limit how.spread
         (cow_slice_items text.entry) aligned.log.nodes aligned.log.events.items how.clock) }
 {
-    let mut left = taken_events(alloc, &aligned.log, &how.clock, how.drop_lost, how.merge)?;
-    let n = aligned.log.nodes.len() as u64;
-    let all = aligned.log.events.len();
+    let AlignedLog { log, offsets } = aligned;
+    let all = log.events.len();
+    let mut left = taken_events(alloc, log, &how.clock, how.drop_lost, how.merge)?;
+    let n = left.nodes.len() as u64;
     let logged = left.events.len();
     let lost = removed(how.drop_lost, all, left.kept);
     let merged = removed(how.merge, left.kept, logged);
@@ -66,12 +76,12 @@ pub(crate) fn left_import(
     let first = least_time(left.events.as_slice());
     let passed = match passed_events(alloc, n, left.events.as_slice(), how) {
         Ok(passed) => passed,
-        Err(why) => return Err(left_error(alloc, &text, &aligned.log, &left, why)),
+        Err(why) => return Err(told_again(alloc, workers, &text, options, &left, why)),
     };
     drop(text);
     let events = &mut left.events;
     let made = trace_of_passed(alloc, n, events, how, passed)?;
-    Ok(left_import_of(aligned, left, made, lateness, counts, first, how.clock))
+    Ok(left_import_of(offsets, left, made, lateness, counts, first, how.clock))
 }
 
 /// How many events are lost sends and how many receives are merged into others, if these are counted, and how many are
@@ -93,10 +103,10 @@ fn removed(asked: bool, before: usize, after: usize) -> Option<u64>
     None
 }
 
-/// The import of an aligned log, of the events that are left of it, of their trace and its late messages, by a clock.
-/// The first of them is at a time.
+/// The import of the events that are left of a log, by how much its clocks were moved, of the trace and the late
+/// messages, by a clock. The first of the events is at a time.
 fn left_import_of(
-    aligned: AlignedLog,
+    offsets: Option<Offsets>,
     left: TakenEvents,
     made: LogTrace,
     lateness: Lateness,
@@ -107,10 +117,10 @@ fn left_import_of(
     ensures import { result.import
         ≡ record {
           trace = made.trace;
-          nodes = aligned.log.nodes;
+          nodes = left.nodes;
           moved = moved_in (Some left.places.items) made.moved;
           lateness = lateness;
-          offsets = aligned.offsets;
+          offsets = offsets;
           idle = made.idle;
           lost = counts.lost;
           merged = counts.merged;
@@ -123,8 +133,8 @@ fn left_import_of(
     ensures clock { result.clock ≡ clock }
     ensures places { result.places.items ≡ made.places.items }
 {
-    let AlignedLog { log, offsets } = aligned;
     let TakenEvents {
+        nodes,
         events,
         places,
         parts,
@@ -134,7 +144,7 @@ fn left_import_of(
     PlacedImport {
         import: Import {
             trace: made.trace,
-            nodes: log.nodes,
+            nodes,
             moved,
             lateness,
             offsets,
@@ -152,8 +162,56 @@ fn left_import_of(
     }
 }
 
+/// The refusal of the log of a text, which is read once more, for a reason against the events that are left of it, or
+/// Memory.
+pub(crate) fn told_again<W: Workers>(
+    alloc: Global,
+    workers: &W,
+    text: &[u8],
+    options: &Options,
+    left: &TakenEvents,
+    why: IdleError,
+) -> LogError
+    requires within { (k : ℕ) → k < length left.now.places.items
+        → slice_index left.now.places.items k < MAX_EVENTS }
+    requires parts { (nodes : List (List ℕ)) (events : List Event)
+        → IsAlignedLogOf options.now text.now nodes events
+        → ArePartsWithin left.now.parts (length events) }
+    requires few { length left.now.events.items ≤ MAX_EVENTS }
+    requires processors { AreOfProcessors left.now.events.items }
+    requires behind { (i : ℕ) → why ≡ IdleError.Events (EventError.Cycle i)
+        → IsBehindCycle left.now.events.items i }
+    ensures { (nodes : List (List ℕ)) (events : List Event)
+        → IsAlignedLogOf options.now text.now nodes events
+        → IsPlacedErrorUnlessMemory text.now nodes events left.now.events.items
+        left.now.places.items (parts_seen left.now.parts) why result }
+{
+    match read_again(alloc, workers, text, options) {
+        Ok(log) => left_error(alloc, text, &log, left, why),
+        Err(_) => LogError::Memory,
+    }
+}
+
+/// The log of a text, with aligned clocks if that is asked for.
+///
+/// Refuses the first reason against it, or Memory.
+fn read_again<W: Workers>(
+    alloc: Global,
+    workers: &W,
+    text: &[u8],
+    options: &Options,
+) -> Result<NamedEvents, LogError>
+    ensures again { IfOk result
+        (λ log. IsAlignedLogOf options.now text.now log.nodes log.events.items) }
+    ensures sound { IfOk result (λ log. IsSound (seen_log log)) }
+{
+    let log = events_by(alloc, workers, text, options)?;
+    let aligned = aligned_log(alloc, text, log, options.align)?;
+    Ok(aligned.log)
+}
+
 /// The refusal of a log for a reason against the events that are left of it, or Memory.
-pub(crate) fn left_error(
+fn left_error(
     alloc: Global,
     text: &[u8],
     log: &NamedEvents,

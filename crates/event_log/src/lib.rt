@@ -12,6 +12,7 @@ mod hop_lines;
 mod idle_limits;
 mod imports;
 mod joined_receives;
+mod kept_events;
 mod laws;
 mod left_imports;
 mod log_places;

@@ -4,9 +4,10 @@ ghost use Rattle.std.specs.Prelude.{◌≡◌, ◌==◌, ◌||◌, ◌∷◌, �
 ghost use Rattle.std.specs.Prelude.{OnOk, Some, false, length, map, slice_index, slice_index_or};
 ghost use Rattle.std.specs.List.{list_any};
 ghost use Rattle.event_log.specs.Events.{seen};
-ghost use Rattle.event_log.specs.LostSends.{AreLeft, is_lost, is_received, renumbered_at, left_event};
+ghost use Rattle.event_log.specs.LostSends.{AreLeft, is_lost, is_received, left_event};
 ghost use Rattle.event_log.specs.LostSends.{left_message, left_places, new_places};
 
+use crate::kept_events::kept_at;
 use crate::reading::MAX_EVENTS;
 use std::alloc::{AllocError, Global};
 use timed_events::{Event, EventAct, Hop, Messages, hops_of};
@@ -20,16 +21,16 @@ pub(crate) struct LeftEvents {
     pub(crate) places: Vec<u32>,
 }
 
-/// The events but the sends of messages that none of them received.
-pub(crate) fn events_left(alloc: Global, events: &[Event]) -> Result<LeftEvents, AllocError>
-    requires few { length events.now ≤ MAX_EVENTS }
-    ensures left { IfOk result (λ left. AreLeft events.now left.events.items left.places.items) }
+/// The events but the sends of messages that none of them received. Takes no second list of events.
+pub(crate) fn events_left(alloc: Global, events: Vec<Event>) -> Result<LeftEvents, AllocError>
+    requires few { length events.items ≤ MAX_EVENTS }
+    ensures left { IfOk result (λ left. AreLeft events.items left.events.items left.places.items) }
     ensures within { IfOk result (λ left. (k : ℕ) → k < length left.places.items
-        → slice_index left.places.items k < length events.now) }
+        → slice_index left.places.items k < length events.items) }
 {
-    let received = received_sends(alloc, events)?;
-    let places = places_left(alloc, events, &received)?;
-    let left = renumbered(alloc, events, &places.old, &places.new)?;
+    let received = received_sends(alloc, events.as_slice())?;
+    let places = places_left(alloc, events.as_slice(), &received)?;
+    let left = renumbered(alloc, kept_at(events, &places.old), &places.new)?;
     Ok(LeftEvents {
         events: left,
         places: places.old,
@@ -121,68 +122,46 @@ fn is_lost(events: &[Event], received: &[bool], place: usize) -> bool
     }
 }
 
-/// The events at the old places, with their messages by the new places of the sends.
-fn renumbered(
-    alloc: Global,
-    events: &[Event],
-    old: &[u32],
-    new: &[u32],
-) -> Result<Vec<Event>, AllocError>
-    requires { (k : ℕ) → k < length old.now → slice_index old.now k < length events.now }
-    ensures { IfOk result (λ left. map (λ e. Some (seen e)) left.items ≡ map
-        (renumbered_at events.now new.now) old.now) }
+/// The events, with their messages by the new places of the sends. Takes no second list of events.
+fn renumbered(alloc: Global, events: Vec<Event>, places: &[u32]) -> Result<Vec<Event>, AllocError>
+    ensures { IfOk result
+        (λ v. map seen v.items ≡ map (left_event places.now) (map seen events.items)) }
 {
-    let mut left = Vec::with_capacity(alloc, old.len())?;
-    for place in old {
-        left.push(left_at(alloc, events, new, *place as usize)?)?;
+    let mut renumbered = events;
+    for event in renumbered.iter_mut() {
+        renumber(alloc, event, places)?;
     }
-    Ok(left)
+    Ok(renumbered)
 }
 
-/// The event at a place, with its messages by the new places of the sends.
-fn left_at(
-    alloc: Global,
-    events: &[Event],
-    places: &[u32],
-    place: usize,
-) -> Result<Event, AllocError>
-    requires { place < length events.now }
-    ensures { IfOk result (λ left. Some (seen left) ≡ renumbered_at events.now places.now place) }
+/// Puts the messages of an event by the new places of the sends.
+fn renumber(alloc: Global, event: &mut Event, places: &[u32]) -> Result<(), AllocError>
+    ensures { OnOk result (seen event.new ≡ left_event places.now (seen event.old)) }
 {
-    let left = left_event(alloc, &events[place], places)?;
-    Ok(left)
-}
-
-/// The event, with its messages by the new places of the sends.
-fn left_event(alloc: Global, event: &Event, places: &[u32]) -> Result<Event, AllocError>
-    ensures { IfOk result (λ left. seen left ≡ left_event places.now (seen event.now)) }
-{
-    let act = match &event.act {
-        EventAct::Send { to } => EventAct::Send { to: *to },
-        EventAct::Receive { messages } => EventAct::Receive {
-            messages: Messages::new(alloc, left_messages(alloc, messages.as_slice(), places)?)?,
-        },
+    let left = match &event.act {
+        EventAct::Send { .. } => return Ok(()),
+        EventAct::Receive { messages } => left_messages(alloc, messages.as_slice(), places)?,
     };
-    Ok(Event {
-        time: event.time,
-        processor: event.processor,
-        act,
-    })
+    event.act = EventAct::Receive { messages: left };
+    Ok(())
 }
 
-/// The messages by the new places of the sends.
-fn left_messages(
+/// The messages by the new places of the sends. Takes memory only if there is more than one.
+pub(crate) fn left_messages(
     alloc: Global,
     messages: &[Option<u32>],
     places: &[u32],
-) -> Result<Vec<Option<u32>>, AllocError>
-    ensures { IfOk result (λ left. left.items ≡ map (left_message places.now) messages.now) }
+) -> Result<Messages, AllocError>
+    ensures { IfOk result (λ left. left ≡ map (left_message places.now) messages.now) }
 {
+    if messages.len() == 1 {
+        return Messages::copied(alloc, &[left_message(messages[0], places)]);
+    }
     let mut left = Vec::with_capacity(alloc, messages.len())?;
     for message in messages {
         left.push(left_message(*message, places))?;
     }
-    Ok(left)
+    Messages::new(alloc, left)
 }
 
 /// A message by the new place of its send.

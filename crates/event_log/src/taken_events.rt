@@ -11,10 +11,11 @@ ghost use Rattle.event_log.specs.MergedLogs.{AreMergedIn, ArePartsWithin, parts_
 ghost use Rattle.event_log.specs.Naming.{is_memory};
 ghost use Rattle.event_log.specs.SoundLogs.{IsSound};
 
-use crate::joined_receives::{MergedEvents, merged_events};
-use crate::log_places::{LogPlaces, place_in};
+use crate::joined_receives::{MergedEvents, first_places, merged_events};
+use crate::log_places::LogPlaces;
 use crate::logs::NamedEvents;
 use crate::lost_sends::{LeftEvents, events_left};
+use crate::names::NameSet;
 use crate::reading::MAX_EVENTS;
 use crate::refusals::LogError;
 use merged_receives::Part;
@@ -24,6 +25,8 @@ use timed_events::{Clock, Event, EventError};
 /// The events of a log of which its trace is made.
 #[derive(Drop)]
 pub(crate) struct TakenEvents {
+    /// The nodes of the log.
+    pub(crate) nodes: NameSet,
     /// Their messages are by the places of the sends among these events.
     pub(crate) events: Vec<Event>,
     /// Where they are in the log: the first ones if they are made of several.
@@ -40,52 +43,53 @@ pub(crate) struct TakenEvents {
 /// Refuses NoEvents if none is left; UntilUnfit and TooManyTicks before receives are merged; and Memory.
 pub(crate) fn taken_events(
     alloc: Global,
-    log: &NamedEvents,
+    log: NamedEvents,
     clock: &Clock,
     drop: bool,
     merge: bool,
 ) -> Result<TakenEvents, LogError>
-    requires sound { IsSound (seen_log log.now) }
+    requires sound { IsSound (seen_log log) }
     requires width { 0 < clock.now.width }
     requires asked { drop ≡ false → merge ≡ true }
     ensures taken { IfOk result
-        (λ t. AreTaken drop merge log.now.events.items clock.now t.events.items
+        (λ t. AreTaken drop merge log.events.items clock.now t.events.items
         (Some t.places.items) (parts_seen t.parts)) }
-    ensures kept { IfOk result (λ t. t.kept ≡ kept_count drop log.now.events.items) }
+    ensures nodes { IfOk result (λ t. t.nodes ≡ log.nodes) }
+    ensures kept { IfOk result (λ t. t.kept ≡ kept_count drop log.events.items) }
     ensures within { IfOk result (λ t. (k : ℕ) → k < length t.places.items
         → slice_index t.places.items k < MAX_EVENTS) }
-    ensures parts { IfOk result (λ t. ArePartsWithin t.parts (length log.now.events.items)) }
+    ensures parts { IfOk result (λ t. ArePartsWithin t.parts (length log.events.items)) }
     ensures some { IfOk result (λ t. 0 < length t.places.items) }
     ensures refused { IfErr result
-        (λ why. MatchBool (is_memory why) ⊤ (IsEmptied drop log.now.events.items why
-        ⊎ IsUnmergedOf drop merge log.now.events.items clock.now why)) }
+        (λ why. MatchBool (is_memory why) ⊤ (IsEmptied drop log.events.items why
+        ⊎ IsUnmergedOf drop merge log.events.items clock.now why)) }
 {
+    let NamedEvents { nodes, events, .. } = log;
     if !drop {
-        return merged_in(alloc, log.events.as_slice(), clock, &LogPlaces::all());
+        return merged_in(alloc, nodes, events, clock, &LogPlaces::all());
     }
-    let kept = kept_events(alloc, log)?;
+    let kept = kept_events(alloc, events)?;
     if !merge {
-        return Ok(unmerged(kept));
+        return Ok(unmerged(nodes, kept));
     }
     let LeftEvents { events, places } = kept;
-    merged_in(alloc, events.as_slice(), clock, &LogPlaces::of(places))
+    merged_in(alloc, nodes, events, clock, &LogPlaces::of(places))
 }
 
-/// The events of a log but lost sends.
+/// The events but lost sends.
 ///
 /// Refuses NoEvents if none is left, and Memory.
-fn kept_events(alloc: Global, log: &NamedEvents) -> Result<LeftEvents, LogError>
-    requires sound { IsSound (seen_log log.now) }
-    ensures left { IfOk result
-        (λ left. AreLeft log.now.events.items left.events.items left.places.items) }
+fn kept_events(alloc: Global, events: Vec<Event>) -> Result<LeftEvents, LogError>
+    requires few { length events.items ≤ MAX_EVENTS }
+    ensures left { IfOk result (λ left. AreLeft events.items left.events.items left.places.items) }
     ensures within { IfOk result (λ left. (k : ℕ) → k < length left.places.items
-        → slice_index left.places.items k < length log.now.events.items) }
+        → slice_index left.places.items k < length events.items) }
     ensures some { IfOk result (λ left. 0 < length left.places.items) }
     ensures refused { IfErr result
-        (λ why. MatchBool (is_memory why) ⊤ ((left_places log.now.events.items ≡ [])
+        (λ why. MatchBool (is_memory why) ⊤ ((left_places events.items ≡ [])
         × (why ≡ LogError.NoEvents))) }
 {
-    let Ok(left) = events_left(alloc, log.events.as_slice()) else {
+    let Ok(left) = events_left(alloc, events) else {
         return Err(LogError::Memory);
     };
     if left.places.len() == 0 {
@@ -94,8 +98,9 @@ fn kept_events(alloc: Global, log: &NamedEvents) -> Result<LeftEvents, LogError>
     Ok(left)
 }
 
-/// Events of which none is made of several.
-fn unmerged(left: LeftEvents) -> TakenEvents
+/// Events of these nodes, of which none is made of several.
+fn unmerged(nodes: NameSet, left: LeftEvents) -> TakenEvents
+    ensures nodes { result.nodes ≡ nodes }
     ensures events { result.events.items ≡ left.events.items }
     ensures places { result.places.items ≡ left.places.items }
     ensures parts { result.parts ≡ None }
@@ -104,6 +109,7 @@ fn unmerged(left: LeftEvents) -> TakenEvents
     let LeftEvents { events, places } = left;
     let kept = events.len();
     TakenEvents {
+        nodes,
         events,
         places,
         parts: None,
@@ -111,32 +117,35 @@ fn unmerged(left: LeftEvents) -> TakenEvents
     }
 }
 
-/// Events of a log, where they are at these places, with merged receives.
+/// Events of these nodes, where they are at these places of a log, with merged receives.
 ///
 /// Refuses UntilUnfit and TooManyTicks, in this order, and Memory.
 fn merged_in(
     alloc: Global,
-    events: &[Event],
+    nodes: NameSet,
+    events: Vec<Event>,
     clock: &Clock,
     at: &LogPlaces,
 ) -> Result<TakenEvents, LogError>
-    requires some { 0 < length events.now }
-    requires few { length events.now ≤ MAX_EVENTS }
-    requires processors { AreOfProcessors events.now }
+    requires some { 0 < length events.items }
+    requires few { length events.items ≤ MAX_EVENTS }
+    requires processors { AreOfProcessors events.items }
     requires width { 0 < clock.now.width }
     ensures merged { IfOk result
-        (λ t. AreMergedIn events.now clock.now at.now t.events.items t.places.items
+        (λ t. AreMergedIn events.items clock.now at.now t.events.items t.places.items
         (parts_seen t.parts)) }
-    ensures kept { IfOk result (λ t. t.kept ≡ length events.now) }
+    ensures nodes { IfOk result (λ t. t.nodes ≡ nodes) }
+    ensures kept { IfOk result (λ t. t.kept ≡ length events.items) }
     ensures refused { IfErr result
         (λ why. MatchBool (is_memory why) ⊤ ((reason : EventError)
-        × (times_refusal events.now clock.now ≡ Some reason) × IsTimesError reason why)) }
+        × (times_refusal events.items clock.now ≡ Some reason) × IsTimesError reason why)) }
 {
+    let kept = events.len();
     let merged = match merged_events(alloc, events, clock) {
         Ok(merged) => merged,
         Err(why) => return Err(times_error(why)),
     };
-    match placed_in(alloc, merged, events.len(), at) {
+    match placed_in(alloc, nodes, merged, kept, at) {
         Ok(taken) => Ok(taken),
         Err(_) => Err(LogError::Memory),
     }
@@ -153,13 +162,15 @@ fn times_error(why: EventError) -> LogError
     }
 }
 
-/// Events with merged receives, of so many, by their places in the log.
+/// Events of these nodes with merged receives, of so many, by their places in the log.
 fn placed_in(
     alloc: Global,
+    nodes: NameSet,
     merged: MergedEvents,
     kept: usize,
     at: &LogPlaces,
 ) -> Result<TakenEvents, AllocError>
+    ensures nodes { IfOk result (λ t. t.nodes ≡ nodes) }
     ensures events { IfOk result (λ t. t.events.items ≡ merged.events.items) }
     ensures parts { IfOk result
         (λ t. parts_seen t.parts ≡ Some
@@ -173,6 +184,7 @@ fn placed_in(
     let parts = placed_parts(alloc, parts, at)?;
     let places = first_places(alloc, &parts)?;
     Ok(TakenEvents {
+        nodes,
         events,
         places,
         parts: Some(parts),
@@ -180,7 +192,7 @@ fn placed_in(
     })
 }
 
-/// Lists of places among the events by the places in the log.
+/// Lists of places among the events by the places in the log. Takes no second list of lists.
 fn placed_parts(alloc: Global, parts: Vec<Part>, at: &LogPlaces) -> Result<Vec<Part>, AllocError>
     ensures { IfOk result
         (λ placed. placed.items ≡ map (map (log_place at.now)) parts.items) }
@@ -188,10 +200,9 @@ fn placed_parts(alloc: Global, parts: Vec<Part>, at: &LogPlaces) -> Result<Vec<P
     if at.are_all() {
         return Ok(parts);
     }
-    let mut placed = Vec::with_capacity(alloc, parts.len())?;
-    for part in &parts {
-        let own = placed_part(alloc, part.as_slice(), at)?;
-        placed.push(own)?;
+    let mut placed = parts;
+    for part in placed.iter_mut() {
+        *part = placed_part(alloc, part.as_slice(), at)?;
     }
     Ok(placed)
 }
@@ -205,16 +216,4 @@ fn placed_part(alloc: Global, part: &[u32], at: &LogPlaces) -> Result<Part, Allo
         placed.push(alloc, at.at(*place as usize) as u32)?;
     }
     Ok(placed)
-}
-
-/// The first place of each list; 0 if it is empty.
-fn first_places(alloc: Global, parts: &[Part]) -> Result<Vec<u32>, AllocError>
-    ensures { IfOk result
-        (λ places. places.items ≡ map (λ part. slice_index part 0) parts.now) }
-{
-    let mut places = Vec::with_capacity(alloc, parts.len())?;
-    for part in parts {
-        places.push(place_in(part.as_slice(), 0))?;
-    }
-    Ok(places)
 }

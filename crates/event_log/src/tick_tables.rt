@@ -1,13 +1,14 @@
 //! The table of the lengths of a tick for a log: what an import says with each.
 
 ghost use Rattle.std.specs.Prelude.{◌≡◌, ◌≤◌, Err, IfErr, IfOk, false, length, true};
+ghost use Rattle.event_log.specs.Imports.{IsAlignedLogOf};
 ghost use Rattle.event_log.specs.Logs.{seen_log};
 ghost use Rattle.event_log.specs.SoundLogs.{IsSound};
 ghost use Rattle.event_log.specs.TickTables.{AreLogRows, IsLogRowRefusal, IsTickRefusal, IsTickTable};
 
 use crate::alignments::aligned_log;
 use crate::imports::{events_by, log_error, until_for};
-use crate::left_imports::left_error;
+use crate::left_imports::told_again;
 use crate::logs::NamedEvents;
 use crate::options::Options;
 use crate::refusals::LogError;
@@ -46,28 +47,29 @@ pub fn read_ticks(alloc: Global, text: &[u8], options: &Options) -> Result<TickT
     let kind = log.kind;
     let until = until_for(kind, options.until)?;
     let aligned = aligned_log(alloc, text, log, options.align)?;
-    let rows = log_rows(alloc, text, &aligned.log, until, options.drop_lost)?;
+    let rows = log_rows(alloc, text, options, aligned.log, until)?;
     Ok(TickTable { kind, rows })
 }
 
-/// The rows of the events of a log, without lost sends if these are left out.
+/// The rows of the events of the log of a text, without lost sends if these are left out.
 fn log_rows(
     alloc: Global,
     text: &[u8],
-    log: &NamedEvents,
+    options: &Options,
+    log: NamedEvents,
     until: Option<i128>,
-    drop: bool,
 ) -> Result<Vec<TickRow>, LogError>
-    requires sound { IsSound (seen_log log.now) }
-    ensures rows { IfOk result (λ rows. AreLogRows drop log.now.kind
-        (length log.now.nodes) log.now.events.items until rows.items) }
-    ensures refused { IfErr result
-        (IsLogRowRefusal drop text.now log.now.nodes log.now.events.items log.now.kind until) }
+    requires sound { IsSound (seen_log log) }
+    requires given { IsAlignedLogOf options.now text.now log.nodes log.events.items }
+    ensures rows { IfOk result (λ rows. AreLogRows options.now.drop_lost log.kind
+        (length log.nodes) log.events.items until rows.items) }
+    ensures refused { IfErr result (IsLogRowRefusal options.now.drop_lost text.now
+        log.nodes log.events.items log.kind until) }
 {
-    if drop {
-        return left_rows(alloc, text, log, until);
+    if options.drop_lost {
+        return left_rows(alloc, text, options, log, until);
     }
-    whole_rows(alloc, text, log, until)
+    whole_rows(alloc, text, &log, until)
 }
 
 /// The rows of all events of a log.
@@ -90,24 +92,30 @@ fn whole_rows(
     }
 }
 
-/// The rows of the events of a log but lost sends.
+/// The rows of the events of the log of a text but lost sends.
 fn left_rows(
     alloc: Global,
     text: &[u8],
-    log: &NamedEvents,
+    options: &Options,
+    log: NamedEvents,
     until: Option<i128>,
 ) -> Result<Vec<TickRow>, LogError>
-    requires sound { IsSound (seen_log log.now) }
-    ensures rows { IfOk result (λ rows. AreLogRows true log.now.kind
-        (length log.now.nodes) log.now.events.items until rows.items) }
+    requires sound { IsSound (seen_log log) }
+    requires given { IsAlignedLogOf options.now text.now log.nodes log.events.items }
+    ensures rows { IfOk result (λ rows. AreLogRows true log.kind
+        (length log.nodes) log.events.items until rows.items) }
     ensures refused { IfErr result
-        (IsLogRowRefusal true text.now log.now.nodes log.now.events.items log.now.kind until) }
+        (IsLogRowRefusal true text.now log.nodes log.events.items log.kind until) }
 {
-    let clock = clock_of(log.kind, until, 1);
+    let kind = log.kind;
+    let clock = clock_of(kind, until, 1);
     let left = taken_events(alloc, log, &clock, true, false)?;
-    let n = log.nodes.len() as u64;
-    match tick_rows(alloc, n, left.events.as_slice(), log.kind, until) {
+    let n = left.nodes.len() as u64;
+    match tick_rows(alloc, n, left.events.as_slice(), kind, until) {
         Ok(rows) => Ok(rows),
-        Err(why) => Err(left_error(alloc, text, log, &left, IdleError::Events(why))),
+        Err(why) => {
+            let why = IdleError::Events(why);
+            Err(told_again(alloc, &OneThread, text, options, &left, why))
+        }
     }
 }

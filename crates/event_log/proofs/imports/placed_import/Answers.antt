@@ -121,3 +121,14 @@ returns-clause-refused g c =
 
 pub returns-clause-more : goal.returns-clause-more
 returns-clause-more g c = λ e. (let same = c.len.ensures in let few = c.if-len-gt-MAX_TEXT_BYTES.false in omega (arith, same, few))
+
+pub left_import-requires-clause-given : goal.left_import-requires-clause-given
+left_import-requires-clause-given g c = record {
+  log = seen_log c.in_ok-log.log;
+  events = c.in_ok-log.log.events.items;
+  read = lent-read c.args.options.now _ _ _ c.deref.ensures.value c.in_ok-log.ensures.read;
+  same = refl;
+  offsets = c.in_ok-aligned.aligned.offsets;
+  clocks = c.in_ok-aligned.ensures.aligned;
+  nodes_are = c.in_ok-aligned.ensures.nodes;
+}

@@ -1,8 +1,9 @@
-use Rattle.std.proofs.Common.{◌≡◌, Some, map, take}
+use Rattle.std.proofs.Common.{◌≡◌, map}
 use Rattle.event_log.specs.Events.{seen}
-use Rattle.event_log.specs.LostSends.{renumbered_at}
+use Rattle.event_log.specs.LostSends.{left_event}
+use Rattle.event_log.proofs.KeptEvents.{changed_to}
 use Rattle.event_log.proofs.lost_sends.renumbered.Given as goal
 
--- the events at the places so far
-abbrev pub invariant-loop-place : goal.invariant-loop-place
-invariant-loop-place l = map (λ e. Some (seen e)) l.left.items ≡ map (renumbered_at l.events l.new) (take l.place-index l.old)
+-- the events so far have their messages by the new places
+abbrev pub invariant-loop-event : goal.invariant-loop-event
+invariant-loop-event l = map seen l.event-items ≡ changed_to (left_event l.places) (map seen l.fn.events.items) l.event-index

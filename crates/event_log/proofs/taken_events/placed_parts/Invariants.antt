@@ -1,7 +1,8 @@
-use Rattle.std.proofs.Common.{◌≡◌, map, take}
+use Rattle.std.proofs.Common.{◌≡◌, map}
 use Rattle.event_log.specs.Imports.{log_place}
+use Rattle.event_log.proofs.KeptEvents.{changed_to}
 use Rattle.event_log.proofs.taken_events.placed_parts.Given as goal
 
--- the parts so far
+-- the lists so far are by the places in the log
 abbrev pub invariant-loop-part : goal.invariant-loop-part
-invariant-loop-part l = l.placed.items ≡ map (map (log_place l.at)) (take l.part-index l.fn.parts.items)
+invariant-loop-part l = l.part-items ≡ changed_to (map (log_place l.at)) l.fn.parts.items l.part-index

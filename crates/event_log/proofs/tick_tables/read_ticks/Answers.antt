@@ -101,3 +101,14 @@ returns-clause-table c =
           (sym c.in_ok-until.ensures) h.left h.left_at h.are_left)
           rows h.each;
     }
+
+pub log_rows-requires-clause-given : goal.log_rows-requires-clause-given
+log_rows-requires-clause-given c = record {
+  log = seen_log c.in_ok-log.log;
+  events = c.in_ok-log.log.events.items;
+  read = c.in_ok-log.ensures.read;
+  same = refl;
+  offsets = c.in_ok-aligned.aligned.offsets;
+  clocks = c.in_ok-aligned.ensures.aligned;
+  nodes_are = c.in_ok-aligned.ensures.nodes;
+}

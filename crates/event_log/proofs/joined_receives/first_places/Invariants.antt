@@ -1,6 +1,6 @@
 use Rattle.std.proofs.Common.{◌≡◌, map, take}
 use Rattle.std.specs.Prelude.{slice_index}
-use Rattle.event_log.proofs.taken_events.first_places.Given as goal
+use Rattle.event_log.proofs.joined_receives.first_places.Given as goal
 
 -- the places so far
 abbrev pub invariant-loop-part : goal.invariant-loop-part
