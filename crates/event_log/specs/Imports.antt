@@ -331,6 +331,13 @@ IsPlacedErrorOf text nodes events left places parts (filled.Events why) error =
     IsErrorOf text nodes events (reason_in events places parts why) error
 IsPlacedErrorOf text nodes events left places parts filled.TooManySteps error = error ≡ TooManySteps
 
+-- the refusal of a log for a reason that is against none of its events
+abbrev pub IsToldAtOnce : IdleError → LogError → Type 0
+IsToldAtOnce filled.TooManySteps error = error ≡ TooManySteps
+IsToldAtOnce (filled.Events refused.UntilTooEarly) error = error ≡ UntilUnfit
+IsToldAtOnce (filled.Events refused.TooManyTicks) error = error ≡ TooManyTicks
+IsToldAtOnce (filled.Events why) error = ⊥
+
 abbrev pub IsLeftErrorOf : List ℕ → List (List ℕ) → List Event → List Event → Option (List ℕ) → Option (List (List ℕ))
     → IdleError → LogError → Type 0
 IsLeftErrorOf text nodes events left None parts why error = IsIdleErrorOf text nodes events why error

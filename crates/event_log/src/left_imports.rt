@@ -1,12 +1,13 @@
 //! Logs read as traces without lost sends, or with merged receives.
 
-ghost use Rattle.std.specs.Prelude.{◌≡◌, ◌<◌, ◌≤◌, ℕ, List, IfErr, IfOk, MatchBool, Some};
+ghost use Rattle.std.specs.Prelude.{◌≡◌, ◌<◌, ◌≤◌, ℕ, List, IfErr, IfOk, IfSome, MatchBool, Some};
 ghost use Rattle.std.specs.Prelude.{⊤, false, length, slice_index, true};
 ghost use Rattle.std.specs.Cow.{cow_slice_items};
 ghost use Rattle.timed_events.specs.Checks.{AreOfProcessors};
 ghost use Rattle.timed_events.specs.declared.events.Event.{Event};
 ghost use Rattle.event_log.specs.Given.{AreGiven};
 ghost use Rattle.event_log.specs.Imports.{IsAlignedLogOf, IsBehindCycle, IsErrorUnlessMemory, IsLeftCycleError};
+ghost use Rattle.event_log.specs.Imports.{IsToldAtOnce};
 ghost use Rattle.event_log.specs.Imports.{IsPlacedErrorUnlessMemory, IsPlacedOfLog, IsUnmadeUnlessMemory, moved_in};
 ghost use Rattle.event_log.specs.Imports.{reason_in, removed_by};
 ghost use Rattle.event_log.specs.Logs.{seen_log};
@@ -162,8 +163,8 @@ fn left_import_of(
     }
 }
 
-/// The refusal of the log of a text, which is read once more, for a reason against the events that are left of it, or
-/// Memory.
+/// The refusal of the log of a text for a reason against the events that are left of it, or Memory. If the reason is
+/// against one of these, the log is read once more for its names.
 pub(crate) fn told_again<W: Workers>(
     alloc: Global,
     workers: &W,
@@ -186,9 +187,24 @@ pub(crate) fn told_again<W: Workers>(
         → IsPlacedErrorUnlessMemory text.now nodes events left.now.events.items
         left.now.places.items (parts_seen left.now.parts) why result }
 {
+    if let Some(error) = told_at_once(why) {
+        return error;
+    }
     match read_again(alloc, workers, text, options) {
         Ok(log) => left_error(alloc, text, &log, left, why),
         Err(_) => LogError::Memory,
+    }
+}
+
+/// The refusal of a log for a reason that is against none of its events.
+fn told_at_once(why: IdleError) -> Option<LogError>
+    ensures { IfSome result (λ error. IsToldAtOnce why error) }
+{
+    match why {
+        IdleError::TooManySteps => Some(LogError::TooManySteps),
+        IdleError::Events(EventError::UntilTooEarly) => Some(LogError::UntilUnfit),
+        IdleError::Events(EventError::TooManyTicks) => Some(LogError::TooManyTicks),
+        IdleError::Events(_) => None,
     }
 }
 
