@@ -3,6 +3,7 @@ pub mod Firsts
 pub mod TakenMessages
 pub mod Moments
 pub mod EventReasons
+pub mod EventsInTime
 pub mod PassedEvents
 pub mod PlacedSlots
 pub mod SortedEvents
