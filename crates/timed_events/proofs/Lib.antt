@@ -16,6 +16,7 @@ pub mod EarlierEvents
 pub mod GreatestTicks
 pub mod TimeOrders
 pub mod SpreadSteps
+pub mod NearTimes
 pub mod OrderedTimes
 pub mod RankedEvents
 pub mod MovedEvents
@@ -25,6 +26,7 @@ pub mod OneOrder
 pub mod OneTrace
 pub mod OneSpread
 pub mod BriefEvents
+pub mod WalkBriefs
 pub mod CausalWalks
 pub mod OwnSequences
 pub mod CausalOrders

@@ -6,6 +6,7 @@ pub mod Orders
 pub mod TimedTraces
 pub mod Spreads
 pub mod Briefs
+pub mod WalkBriefs
 pub mod Causes
 pub mod CausalWalks
 pub mod CauseCycles

@@ -1,16 +1,18 @@
 //! An order of events that keeps their causes: the earlier events of their processors, and the Sends of what they
 //! received.
 
-ghost use Rattle.std.specs.Prelude.{◌≡◌, ◌<◌, ◌≤◌, ◌+◌, ◌∷◌, ◌++◌, ℕ, [], true, length};
+ghost use Rattle.std.specs.Prelude.{◌≡◌, ◌<◌, ◌≤◌, ◌+◌, ◌∷◌, ◌++◌, ℕ, [], length, map};
 ghost use Rattle.std.specs.Prelude.{IfNone, IfOk, IfErr, IfSome, OnOk, slice_index};
 ghost use Rattle.std.specs.List.{range_with_len};
-ghost use Rattle.timed_events.specs.Checks.{is_for, AreOfProcessors};
+ghost use Rattle.timed_events.specs.WalkBriefs.{walk_brief_of};
+ghost use Rattle.timed_events.specs.Checks.{AreOfProcessors};
 ghost use Rattle.timed_events.specs.Causes.{IsCausalOrder, IsSentTo, IsTimeOrder};
 ghost use Rattle.timed_events.specs.CausalWalks.{left_to_do, AreFirsts, AreMet, AreNexts, AreRightlyReceived};
 ghost use Rattle.timed_events.specs.CausalWalks.{IsIn, IsCycleRefusal, IsWaiting, IsWalked};
 
-use crate::events::{Event, EventAct, EventError};
+use crate::events::{Event, EventError};
 use crate::own_sequences::own_sequences;
+use crate::walk_briefs::{WalkBrief, messages_of, one_at, receiver_at, walk_briefs_of};
 use std::alloc::{AllocError, Global};
 use step_trace::{MAX_PROCESSORS, MAX_STEPS};
 
@@ -38,11 +40,11 @@ pub(crate) struct Walk {
 pub(crate) fn causal_order(
     alloc: Global,
     events: &[Event],
-    time_order: &[u32],
+    time_order: Vec<u32>,
 ) -> Result<Vec<u32>, EventError>
     requires few { length events.now ≤ MAX_STEPS }
     requires processors { AreOfProcessors events.now }
-    requires ordered { IsTimeOrder events.now time_order.now }
+    requires ordered { IsTimeOrder events.now time_order.items }
     requires received { AreRightlyReceived events.now }
     ensures order { IfOk result (λ v. IsCausalOrder events.now v.items) }
     ensures refused { IfErr result (λ why. IsCycleRefusal events.now why) }
@@ -58,21 +60,29 @@ pub(crate) fn causal_order(
 pub(crate) fn walked(
     alloc: Global,
     events: &[Event],
-    time_order: &[u32],
+    time_order: Vec<u32>,
 ) -> Result<Walk, AllocError>
     requires few { length events.now ≤ MAX_STEPS }
     requires processors { AreOfProcessors events.now }
-    requires ordered { IsTimeOrder events.now time_order.now }
+    requires ordered { IsTimeOrder events.now time_order.items }
     requires received { AreRightlyReceived events.now }
     ensures walked { IfOk result
         (λ w. IsWalked events.now w.heads.items w.met.items w.waits.items w.ranks.items
         w.order.items w.awake.items) }
     ensures stopped { IfOk result (λ w. length w.awake.items ≡ 0) }
 {
-    let sequences = own_sequences(alloc, events, time_order)?;
+    let briefs = walk_briefs_of(alloc, events)?;
+    let sequences = own_sequences(alloc, events, &briefs, &time_order)?;
+    drop(time_order);
     let mut walk = started(alloc, events, sequences.firsts)?;
     while let Some(processor) = walk.awake.pop() {
-        look_at(events, &sequences.nexts, processor as usize, &mut walk)?;
+        look_at(
+            events,
+            &briefs,
+            &sequences.nexts,
+            processor as usize,
+            &mut walk,
+        )?;
     }
     Ok(walk)
 }
@@ -112,12 +122,14 @@ fn all_processors(alloc: Global) -> Result<Vec<u8>, AllocError>
 /// Places the head of a processor that was awake, or finds the message for which it waits.
 fn look_at(
     events: &[Event],
+    briefs: &[WalkBrief],
     nexts: &[u32],
     processor: usize,
     walk: &mut Walk,
 ) -> Result<(), AllocError>
     requires few { length events.now ≤ MAX_STEPS }
     requires processors { AreOfProcessors events.now }
+    requires briefs { briefs.now ≡ map walk_brief_of events.now }
     requires nexts { AreNexts events.now nexts.now }
     requires received { AreRightlyReceived events.now }
     requires inside { processor < MAX_PROCESSORS }
@@ -135,7 +147,7 @@ fn look_at(
     if head >= events.len() {
         return Ok(());
     }
-    let unmet = unmet_from(events, head, walk.met[processor], &walk.ranks);
+    let unmet = unmet_from(events, briefs, head, walk.met[processor], &walk.ranks);
     if (unmet.message as usize) < events.len() {
         walk.met[processor] = unmet.met;
         walk.waits[processor] = unmet.message;
@@ -146,20 +158,9 @@ fn look_at(
     walk.heads[processor] = nexts[head];
     walk.met[processor] = 0;
     walk.awake.push(processor as u8)?;
-    let to = receiver_at(events, head);
+    let to = receiver_at(events, briefs, head);
     wake(head, to, &walk.waits, &mut walk.awake)?;
     Ok(())
-}
-
-/// The processor to which the event at `place` is a Send; 0 for a Receive.
-fn receiver_at(events: &[Event], place: usize) -> u64
-    requires { place < length events.now }
-    ensures { (p : ℕ) → is_for events.now place p ≡ true → result ≡ p }
-{
-    match &events[place].act {
-        EventAct::Send { to } => *to,
-        EventAct::Receive { .. } => 0,
-    }
 }
 
 /// The first message whose Send isn't placed.
@@ -172,9 +173,16 @@ struct Unmet {
 }
 
 /// The first message of the event at `place` whose Send isn't placed; those before `from` are known.
-fn unmet_from(events: &[Event], place: usize, from: usize, ranks: &[u32]) -> Unmet
+fn unmet_from(
+    events: &[Event],
+    briefs: &[WalkBrief],
+    place: usize,
+    from: usize,
+    ranks: &[u32],
+) -> Unmet
     requires few { length events.now ≤ MAX_STEPS }
     requires inside { place < length events.now }
+    requires briefs { briefs.now ≡ map walk_brief_of events.now }
     requires ranks { length ranks.now ≡ length events.now }
     requires met { AreMet events.now ranks.now place from }
     ensures met { AreMet events.now ranks.now place result.met }
@@ -183,7 +191,8 @@ fn unmet_from(events: &[Event], place: usize, from: usize, ranks: &[u32]) -> Unm
     ensures none { length events.now ≤ result.message → (s : ℕ) → IsSentTo events.now place s
         → 0 < slice_index ranks.now s }
 {
-    let messages = events[place].act.messages();
+    let one = one_at(briefs, place);
+    let messages = messages_of(events, briefs, place, &one);
     for k in from..messages.len() {
         if let Some(message) = messages[k] {
             if (message as usize) < ranks.len() && ranks[message as usize] == 0 {

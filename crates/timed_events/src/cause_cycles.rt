@@ -42,17 +42,21 @@ pub fn cycle_of_causes(alloc: Global, events: &[Event]) -> Result<Vec<Hop>, Allo
         → (order : List ℕ) × IsCausalOrder events.now order) }
 {
     let times = time_order_of(alloc, events)?;
-    let cycle = cause_cycle(alloc, events, &times)?;
+    let cycle = cause_cycle(alloc, events, times)?;
     begun_at_least(alloc, &cycle)
 }
 
 /// A cycle of causes, begun anywhere; no hops if some order of the events keeps their causes.
 ///
 /// Asks for the same as `causal_order`.
-fn cause_cycle(alloc: Global, events: &[Event], time_order: &[u32]) -> Result<Vec<Hop>, AllocError>
+fn cause_cycle(
+    alloc: Global,
+    events: &[Event],
+    time_order: Vec<u32>,
+) -> Result<Vec<Hop>, AllocError>
     requires few { length events.now ≤ MAX_STEPS }
     requires processors { AreOfProcessors events.now }
-    requires ordered { IsTimeOrder events.now time_order.now }
+    requires ordered { IsTimeOrder events.now time_order.items }
     requires received { AreRightlyReceived events.now }
     ensures cycle { IfOk result (λ v. 0 < length v.items → IsCauseCycle events.now v.items) }
     ensures none { IfOk result (λ v. length v.items ≡ 0

@@ -8,7 +8,7 @@ ghost use Rattle.timed_events.specs.IdleWalks.{IsWalkedTo, HaveEnded, noted};
 ghost use Rattle.timed_events.specs.Orders.{IsOrder};
 
 use crate::events::Event;
-use crate::spread_ticks::processor_index;
+use crate::walk_briefs::{processor_of, walk_briefs_of};
 use std::alloc::{AllocError, Global};
 use step_trace::{MAX_PROCESSORS, MAX_TICKS};
 
@@ -77,11 +77,12 @@ fn idle_before_events(
     ensures { IfOk result (λ w. IsWalkedTo events.now ticks.now order.now limit
         (length order.now) w.lasts.items w.idles.items) }
 {
+    let briefs = walk_briefs_of(alloc, events)?;
     let mut lasts = vec![in alloc; 0; MAX_PROCESSORS as usize]?;
     let mut idles = Vec::new(alloc);
     for k in 0..order.len() {
         let place = order[k] as usize;
-        let processor = processor_index(events, place);
+        let processor = processor_of(events, &briefs, place);
         let tick = ticks[place];
         note_silence(&mut idles, processor, lasts[processor], tick - 1, limit)?;
         lasts[processor] = tick;

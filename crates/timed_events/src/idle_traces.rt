@@ -149,8 +149,9 @@ pub fn idle_trace(
         ticks,
         last,
         moved,
-        ..
+        order,
     } = ticked;
+    drop(order);
     let added = idles.len() as u64;
     let ordered = filled_trace(alloc, n, events, ticks, last, &idles)?;
     let OrderedTrace { trace, order } = ordered;

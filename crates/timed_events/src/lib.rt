@@ -23,6 +23,7 @@ mod ticked_events;
 mod time_orders;
 mod timed_traces;
 mod times;
+mod walk_briefs;
 
 pub use cause_cycles::{Hop, cycle_of_causes};
 pub use checks::{are_meant, check_events};
@@ -33,7 +34,7 @@ pub use lateness::{LateMessage, Lateness, lateness_of, time_at};
 pub use laws::{cause_laws, idle_laws, trace_laws};
 pub use message_checks::check_messages;
 pub use messages::Messages;
-pub use orders::{numbers_of, order_of};
+pub use orders::numbers_of;
 pub use received::hops_of;
 pub use spread_traces::{Moved, PlacedTrace, TimedTrace, placed_trace};
 pub use ticked_events::{EventTicks, event_ticks};

@@ -119,8 +119,7 @@ fn spread_events(
     let span = span_of(events, clock)?;
     check_messages(alloc, events)?;
     let times = time_order_of(alloc, events)?;
-    let causal = causal_order(alloc, events, &times)?;
-    drop(times);
+    let causal = causal_order(alloc, events, times)?;
     let own = ticks_of(alloc, events, clock, span.least)?;
     let ticks = spread_ticks(alloc, events, &own, &causal)?;
     drop(causal);

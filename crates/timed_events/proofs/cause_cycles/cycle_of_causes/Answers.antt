@@ -11,11 +11,11 @@ cause_cycle-requires-clause-received c = received-by c.args.events.now c.require
 
 pub returns-clause-cycle : goal.returns-clause-cycle
 returns-clause-cycle c = IfOk-weaker _ _ _
-    (λ (v : Vec Hop Global) t. turned-cycle c.args.events.now c.in_ok-cycle.cycle.items c.deref-2.result.now v.items
-    c.deref-2.ensures.value c.in_ok-cycle.ensures.cycle t) c.begun_at_least.ensures.turned
+    (λ (v : Vec Hop Global) t. turned-cycle c.args.events.now c.in_ok-cycle.cycle.items c.deref.result.now v.items
+    c.deref.ensures.value c.in_ok-cycle.ensures.cycle t) c.begun_at_least.ensures.turned
 
 pub returns-clause-none : goal.returns-clause-none
 returns-clause-none c = IfOk-weaker _ _ _
     (λ (v : Vec Hop Global) t. turned-none ((order : List ℕ) × IsCausalOrder c.args.events.now order)
-    c.in_ok-cycle.cycle.items c.deref-2.result.now v.items c.deref-2.ensures.value c.in_ok-cycle.ensures.none t)
+    c.in_ok-cycle.cycle.items c.deref.result.now v.items c.deref.ensures.value c.in_ok-cycle.ensures.none t)
     c.begun_at_least.ensures.turned
