@@ -68,7 +68,7 @@ module _ (places : List ℕ) (up : IsStrictlyIncreasing places) where
         lt (inl m) = m
         lt (inr m) = absurd (n (omega (arith, b, m)))
 
-  few : (n k : ℕ) → k ≡ length places → ((i : ℕ) → i < length places → slice_index places i < n) → length places ≤ n
+  pub few : (n k : ℕ) → k ≡ length places → ((i : ℕ) → i < length places → slice_index places i < n) → length places ≤ n
   few n zero e inside = omega (arith, e)
   few n (suc k) e inside =
       let l : k < length places = omega (arith, e) in
@@ -105,10 +105,6 @@ module _ {X : Type 0} (f : X → X) where
   changed-next [] k d l = absurd (omega arith)
   changed-next (y ∷ ys) zero d l = refl
   changed-next (y ∷ ys) (suc k) d l = let e : suc k + 1 ≡ suc (k + 1) = omega arith in rw e (ap (λ zs. f y ∷ zs) (changed-next ys k d (omega arith)))
-
-  pub items-next : (ys items : List X) (k : ℕ) (d new : X) → items ≡ changed_to f ys k → k < length ys → new ≡ f (get_or items k d) → set items k new ≡ changed_to f ys (k + 1)
-  items-next ys items k d new e l h =
-      ap₂ (λ xs x. set xs k x) e (h ∙ ap f (ap (λ xs. get_or xs k d) e ∙ next-is ys k d)) ∙ changed-next ys k d l
 
 -- what is seen of the one at a place
 pub at-seen : (xs : List Event) (k : ℕ) (d : Event) → get_or (map seen xs) k (seen d) ≡ seen (get_or xs k d)

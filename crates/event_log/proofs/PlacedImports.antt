@@ -69,17 +69,17 @@ module _ (o : Options) (text : List ℕ) (log : SeenLog) (events : List Event) (
     (clocks : AreAligned o.align (length log.nodes) events aligned.offsets aligned.log.events.items)
     (nodes : aligned.log.nodes ≡ log.nodes) (limit : Option ℕ) (fits : limit_in o log.kind clock ≡ Ok limit)
     (drop merge : Bool) (asked : o.drop_lost ≡ drop) (joined : o.merge ≡ merge) where
-  pub placed-import : (lateness : Lateness) → lateness ≡ lateness_of aligned.log.events.items
+  pub placed-import : (table : Bool) (lateness : Lateness) → lateness ≡ lateness_of aligned.log.events.items
       → (import : Import) (filled : List Event) (logged : ℕ) (left_at : Option (List ℕ)) (parts : Option (List (List ℕ))) (first : ℤ) (ticks : Clock) (places : List ℕ)
-      → IsPlacedOfLog drop merge limit o.spread (length aligned.log.nodes) aligned.log.events.items clock import filled logged left_at parts first places
+      → IsPlacedOfLog table drop merge limit o.spread (length aligned.log.nodes) aligned.log.events.items clock import filled logged left_at parts first places
       → import.nodes ≡ aligned.log.nodes → import.offsets ≡ aligned.offsets → import.lateness ≡ lateness → ticks ≡ clock
-      → IsPlacedImport o text import filled logged left_at parts first ticks places
-  placed-import lateness late import filled logged left_at parts first ticks places h nodes_are offsets_are lateness_is clock_is =
-      let is : IsPlacedOfLog o.drop_lost o.merge limit o.spread (length log.nodes) aligned.log.events.items clock import filled logged left_at parts first places =
-      subst (λ (d : Bool). IsPlacedOfLog d o.merge limit o.spread (length log.nodes) aligned.log.events.items clock import filled logged left_at parts first places) (sym asked)
-      (subst (λ (m : Bool). IsPlacedOfLog drop m limit o.spread (length log.nodes) aligned.log.events.items clock import filled logged left_at parts first places) (sym joined)
-      (subst (λ (ns : List (List ℕ)). IsPlacedOfLog drop merge limit o.spread (length ns) aligned.log.events.items clock import filled logged left_at parts first places) nodes h)) in
-      subst (λ (c : Clock). IsPlacedImport o text import filled logged left_at parts first c places) (sym clock_is) (record {
+      → IsPlacedImport table o text import filled logged left_at parts first ticks places
+  placed-import table lateness late import filled logged left_at parts first ticks places h nodes_are offsets_are lateness_is clock_is =
+      let is : IsPlacedOfLog table o.drop_lost o.merge limit o.spread (length log.nodes) aligned.log.events.items clock import filled logged left_at parts first places =
+      subst (λ (d : Bool). IsPlacedOfLog table d o.merge limit o.spread (length log.nodes) aligned.log.events.items clock import filled logged left_at parts first places) (sym asked)
+      (subst (λ (m : Bool). IsPlacedOfLog table drop m limit o.spread (length log.nodes) aligned.log.events.items clock import filled logged left_at parts first places) (sym joined)
+      (subst (λ (ns : List (List ℕ)). IsPlacedOfLog table drop merge limit o.spread (length ns) aligned.log.events.items clock import filled logged left_at parts first places) nodes h)) in
+      subst (λ (c : Clock). IsPlacedImport table o text import filled logged left_at parts first c places) (sym clock_is) (record {
         is = record {
           log = log;
           events = events;

@@ -1,5 +1,5 @@
 -- The places of the steps of a trace of events.
-use Rattle.std.proofs.Common.{ℕ, ◌≡◌, ◌∙◌, ℤ, Bool, List, Option, ap, ap₂, length, subst, sym}
+use Rattle.std.proofs.Common.{ℕ, ◌≡◌, ◌∙◌, ℤ, Bool, true, List, Option, ap, ap₂, length, refl, subst, sym}
 use Rattle.std.proofs.lemmas.Slice.Zip.{AllZip-long}
 use Rattle.timed_events.specs.declared.events.Clock.{Clock}
 use Rattle.timed_events.specs.declared.events.Event.{Event}
@@ -33,7 +33,7 @@ filled-long spread n events clock limit timed filled places t p = one-each n fil
 -- the table of an import whose events, clock and places are known
 pub table-made : (o : Options) (text : List ℕ) (import : Import) (filled : List Event) (logged : ℕ)
     (left_at : Option (List ℕ)) (parts : Option (List (List ℕ))) (first : ℤ) (clock : Clock) (places table : List ℕ)
-    → IsPlacedImport o text import filled logged left_at parts first clock places
+    → IsPlacedImport true o text import filled logged left_at parts first clock places
     → table ≡ table_text text import.nodes filled logged left_at parts first clock.width import.trace.ticks places
     → IsTableOf o text import table
 table-made o text import filled logged left_at parts first clock places table h e = record {
@@ -43,6 +43,6 @@ table-made o text import filled logged left_at parts first clock places table h 
   placed = subst (λ (c : Clock). ArePlacedBy h.is.limit o.spread (length h.is.log.nodes) h.is.made.left c filled places) (sym h.clock_is) h.placed;
   written = e
       ∙ ap₂ (λ (n : ℕ) (at : Option (List ℕ)). table_text text import.nodes filled n at parts first clock.width import.trace.ticks places) h.so_many h.at
-      ∙ ap (λ (ps : Option (List (List ℕ))). table_text text import.nodes filled (length h.is.made.left) h.is.made.left_at ps first clock.width import.trace.ticks places) h.parts_are
+      ∙ ap (λ (ps : Option (List (List ℕ))). table_text text import.nodes filled (length h.is.made.left) h.is.made.left_at ps first clock.width import.trace.ticks places) (h.parts_are refl)
       ∙ ap₂ (λ (z : ℤ) (c : Clock). table_text text import.nodes filled (length h.is.made.left) h.is.made.left_at h.is.made.parts z c.width import.trace.ticks places) h.begins (sym h.clock_is);
 }

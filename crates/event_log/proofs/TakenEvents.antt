@@ -1,5 +1,5 @@
 -- What is known of the events of which the trace of a log is made.
-use Rattle.std.proofs.Common.{ℕ, ◌≡◌, ◌∙◌, ◌<◌, ◌≤◌, Bool, true, false, not, cond, ◌⊎◌, inl, inr, List, [], ◌∷◌, Vec, length, map, Option, Some, None, refl, sym, ap, ap₂, subst, arith}
+use Rattle.std.proofs.Common.{ℕ, ◌≡◌, ◌∙◌, ◌<◌, ◌≤◌, Bool, true, false, not, cond, ◌⊎◌, inl, inr, List, [], ◌∷◌, length, map, Option, Some, None, refl, sym, ap, ap₂, subst, arith}
 use Rattle.std.specs.Prelude.{All, MatchBool, ⊤, option_map, slice_get, slice_index, slice_index_or}
 use Rattle.std.specs.List.{filter, range_with_len}
 use Rattle.std.proofs.lemmas.List.{get_or-map, length-map}
@@ -24,7 +24,7 @@ use Rattle.event_log.specs.Events.{Seen, seen, seen_act}
 use Rattle.event_log.specs.Imports.{AreLeftBy, AreMergedBy, AreTaken, IsEmptied, IsTimesError, IsUnmergedOf, first_places, log_parts, log_place}
 use Rattle.event_log.specs.Logs.{seen_log}
 use Rattle.event_log.specs.LostSends.{AreLeft, left_places, new_places}
-use Rattle.event_log.specs.MergedLogs.{AreMergedIn, ArePartsWithin, parts_seen}
+use Rattle.event_log.specs.MergedLogs.{AreMergedIn, ArePartsWithin}
 use Rattle.event_log.specs.Merges.{AreJoined, joined_act, joined_at, joined_event}
 use Rattle.event_log.specs.Naming.{is_memory}
 use Rattle.event_log.specs.SoundLogs.{IsSound, IsWithin, SendsWithin}
@@ -140,14 +140,14 @@ own-parts (p ∷ ps) = ap₂ (λ (q : List ℕ) (qs : List (List ℕ)). q ∷ qs
 pub all-placed : (at : Option (List ℕ)) (parts : List (List ℕ)) → at ≡ None → parts ≡ map (map (log_place at)) parts
 all-placed at parts e = subst (λ (o : Option (List ℕ)). parts ≡ map (map (log_place o)) parts) (sym e) (own-parts parts)
 
--- the same of parts in vectors
-pub parts-within : {A : Type 0} (parts : Option (Vec (List ℕ) A)) (n : ℕ) → ((own : List (List ℕ)) → parts_seen parts ≡ Some own → AreParts n own) → ArePartsWithin parts n
+-- the same of parts, if there are any
+pub parts-within : (parts : Option (List (List ℕ))) (n : ℕ) → ((own : List (List ℕ)) → parts ≡ Some own → AreParts n own) → ArePartsWithin parts n
 parts-within None n h = tt
-parts-within (Some v) n h = h v.items refl
+parts-within (Some parts) n h = h parts refl
 
-pub within-parts : {A : Type 0} (parts : Option (Vec (List ℕ) A)) (n : ℕ) → ArePartsWithin parts n → (own : List (List ℕ)) → parts_seen parts ≡ Some own → AreParts n own
+pub within-parts : (parts : Option (List (List ℕ))) (n : ℕ) → ArePartsWithin parts n → (own : List (List ℕ)) → parts ≡ Some own → AreParts n own
 within-parts None n h own e = absurd (cc e)
-within-parts (Some v) n h own e = let same : v.items ≡ own = cc e in subst (λ (ps : List (List ℕ)). AreParts n ps) same h
+within-parts (Some parts) n h own e = let same : parts ≡ own = cc e in subst (λ (ps : List (List ℕ)). AreParts n ps) same h
 
 -- an event that is made of several sends within as many nodes
 sends-joined : (n : ℕ) (events : List Event) (new part : List ℕ) (a : EventAct) → SendsWithin n (seen_act a) → SendsWithin n (joined_act events new part a)

@@ -408,26 +408,27 @@ pub record IsImportOf (o : Options) (text : List ℕ) (import : Import) : Type 0
 -- The import is that of a log's events. `filled` has those that are left, so many, in the order of
 -- their records, and behind them the receives of nothing that were added. The events are at the
 -- places `left_at` of the log, or made of those at the places `parts`. Tick 1 begins at the time
--- `first`, and the steps are those of the list at these places.
-pub record IsPlacedOfLog (drop merge : Bool) (limit : Option ℕ) (spread : Bool) (n : ℕ) (events : List Event)
+-- `first`, and the steps are those of the list at these places. The parts are known if a table has to
+-- tell them.
+pub record IsPlacedOfLog (told drop merge : Bool) (limit : Option ℕ) (spread : Bool) (n : ℕ) (events : List Event)
     (clock : Clock) (import : Import) (filled : List Event) (logged : ℕ) (left_at : Option (List ℕ))
     (parts : Option (List (List ℕ))) (first : ℤ) (places : List ℕ) : Type 0 where
   pub is : IsMadeOfLog drop merge limit spread n events clock import
   pub so_many : logged ≡ length is.left
   pub at : left_at ≡ is.left_at
-  pub parts_are : parts ≡ is.parts
+  pub parts_are : told ≡ true → parts ≡ is.parts
   pub begins : first ≡ least_time is.left
   pub placed : ArePlacedBy limit spread n is.left clock filled places
 
 -- The import is that of the text by the options, and its events are placed so.
-pub record IsPlacedImport (o : Options) (text : List ℕ) (import : Import) (filled : List Event) (logged : ℕ)
-    (left_at : Option (List ℕ)) (parts : Option (List (List ℕ))) (first : ℤ) (clock : Clock)
+pub record IsPlacedImport (told : Bool) (o : Options) (text : List ℕ) (import : Import) (filled : List Event)
+    (logged : ℕ) (left_at : Option (List ℕ)) (parts : Option (List (List ℕ))) (first : ℤ) (clock : Clock)
     (places : List ℕ) : Type 0 where
   pub is : IsImportOf o text import
   pub clock_is : is.clock ≡ clock
   pub so_many : logged ≡ length is.made.left
   pub at : left_at ≡ is.made.left_at
-  pub parts_are : parts ≡ is.made.parts
+  pub parts_are : told ≡ true → parts ≡ is.made.parts
   pub begins : first ≡ least_time is.made.left
   pub placed : ArePlacedBy is.limit o.spread (length is.log.nodes) is.made.left clock filled places
 

@@ -1,19 +1,15 @@
 -- Events of a log that are made of several, by their places in it.
-use Rattle.std.specs.Prelude.{ℕ, ◌≡◌, ◌<◌, List, Option, Some, None, Vec, ⊤, length, map, option_map, slice_index}
+use Rattle.std.specs.Prelude.{ℕ, ◌≡◌, ◌<◌, List, Option, Some, None, ⊤, length, map, slice_index}
 use Rattle.timed_events.specs.declared.events.Clock.{Clock}
 use Rattle.timed_events.specs.declared.events.Event.{Event}
 use Rattle.merged_receives.specs.MergeWalks.{AreParts}
 use Rattle.event_log.specs.Imports.{log_place}
 use Rattle.event_log.specs.Merges.{AreJoined}
 
--- the parts of events, as plain lists
-abbrev pub parts_seen : {X A : Type 0} → Option (Vec X A) → Option (List X)
-parts_seen parts = option_map (λ v. v.items) parts
-
 -- the events at these places are among so many
-abbrev pub ArePartsWithin : {A : Type 0} → Option (Vec (List ℕ) A) → ℕ → Type 0
+abbrev pub ArePartsWithin : Option (List (List ℕ)) → ℕ → Type 0
 ArePartsWithin None n = ⊤
-ArePartsWithin (Some parts) n = AreParts n parts.items
+ArePartsWithin (Some parts) n = AreParts n parts
 
 -- `merged` are the events with merged receives. In the log, where the events are at these places,
 -- they are made of those at the places `parts`, of which `places` are the first.

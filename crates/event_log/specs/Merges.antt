@@ -1,5 +1,6 @@
 -- The events of a log with the receives of a node in one tick as one event, if the node sends nothing between them.
-use Rattle.std.specs.Prelude.{ℕ, ◌≡◌, List, [], ◌∷◌, map, Option, Some, option_map, slice_get, slice_index}
+use Rattle.std.specs.Prelude.{ℕ, zero, suc, ◌≡◌, ◌+◌, ◌++◌, List, [], ◌∷◌, length, map, nat_lt, if◌then◌else◌}
+use Rattle.std.specs.Prelude.{Option, Some, option_map, slice_get, slice_index}
 use Rattle.std.specs.List.{flat_map}
 use Rattle.timed_events.specs.declared.events.Clock.{Clock}
 use Rattle.timed_events.specs.declared.events.Event.{Event}
@@ -9,6 +10,7 @@ use Rattle.timed_events.specs.Checks.{messages_at}
 use Rattle.merged_receives.specs.Merges.{AreMerged}
 use Rattle.event_log.specs.Events.{Seen, SeenAct, Sends, Receives, seen}
 use Rattle.event_log.specs.LostSends.{left_message}
+use Rattle.event_log.specs.declared.joined_receives.JoinedReceive.{JoinedReceive}
 
 -- the messages of events, by the new places of their sends
 abbrev pub joined_messages : List Event → List ℕ → List ℕ → List (Option ℕ)
@@ -40,8 +42,23 @@ receiving_act messages (Receives own) = Receives messages
 abbrev pub receiving : List (Option ℕ) → Seen → Seen
 receiving messages e = record { time = e.time; processor = e.processor; act = receiving_act messages e.act }
 
--- each event with the messages that are listed for it
-abbrev pub receiving_all : List (List (Option ℕ)) → List Seen → List Seen
-receiving_all [] es = es
-receiving_all (m ∷ ms) [] = []
-receiving_all (m ∷ ms) (e ∷ es) = receiving m e ∷ receiving_all ms es
+-- a list of which the one at a place is changed, if there is such a one
+abbrev pub changed_at : ℕ → (Seen → Seen) → List Seen → List Seen
+changed_at k f [] = []
+changed_at zero f (e ∷ es) = f e ∷ es
+changed_at (suc k) f (e ∷ es) = e ∷ changed_at k f es
+
+-- events of which one has the messages of a receive that is made of several
+abbrev pub with_messages : List Seen → JoinedReceive → List Seen
+with_messages es receive = changed_at receive.event (receiving receive.messages) es
+
+-- the messages of all events of a part, if these are several, for the event at a place
+abbrev pub joined_receive : List Event → List ℕ → ℕ → List ℕ → List JoinedReceive
+joined_receive events places k part = if nat_lt (length part) 2 then []
+    else (record { event = k; messages = joined_messages events places part } ∷ [])
+
+-- the same of each part, the first of which is at a place
+abbrev pub joined_from : List Event → List ℕ → ℕ → List (List ℕ) → List JoinedReceive
+joined_from events places k [] = []
+joined_from events places k (part ∷ parts) =
+    joined_receive events places k part ++ joined_from events places (k + 1) parts

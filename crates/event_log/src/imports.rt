@@ -12,7 +12,6 @@ ghost use Rattle.event_log.specs.Imports.{above_zero, clock_in, end_in, idle_pla
 ghost use Rattle.event_log.specs.Given.{AreGiven};
 ghost use Rattle.event_log.specs.LogTraces.{HavePassed};
 ghost use Rattle.event_log.specs.Logs.{seen_log};
-ghost use Rattle.event_log.specs.MergedLogs.{parts_seen};
 ghost use Rattle.event_log.specs.SoundLogs.{IsSound};
 ghost use Rattle.event_log.specs.Times.{nanoseconds_in, nanoseconds_of};
 
@@ -30,7 +29,7 @@ use crate::refusals::LogError;
 use crate::times::{LogEnd, TimeKind, TimeUnit, Width, nanoseconds_in};
 use crate::workers::Workers;
 use clock_offsets::Offsets;
-use merged_receives::Part;
+use merged_receives::Parts;
 use std::alloc::{AllocError, Global};
 use std::borrow::CowSlice;
 use std::thread;
@@ -80,7 +79,8 @@ pub struct IdleReceives {
 /// the other refusals of events, and TooManyTicks last if an event came too far. Memory comes only for a text that
 /// isn't too large.
 ///
-/// A text that is given, not lent, is freed once no refusal can name something in it: before the trace is made.
+/// A text that is given, not lent, is freed once no refusal can name something in it: before the trace is made. What is
+/// left of a log takes the place of all: if a refusal names an event then, the text is read once more.
 pub fn read_log<W: Workers>(
     alloc: Global,
     workers: &W,
@@ -94,7 +94,7 @@ pub fn read_log<W: Workers>(
     ensures more { result ≡ Err LogError.Memory
         → length (cow_slice_items text.entry) ≤ MAX_TEXT_BYTES }
 {
-    Ok(placed_import(alloc, workers, text, options)?.import)
+    Ok(placed_import(alloc, workers, text, options, false)?.import)
 }
 
 /// A log read as a trace, with what its steps are made of.
@@ -108,8 +108,8 @@ pub(crate) struct PlacedImport {
     pub(crate) logged: usize,
     /// Where these are in the log: the first ones if they are made of several.
     pub(crate) left_at: LogPlaces,
-    /// Where the events are in the log of which each is made, if receives were merged.
-    pub(crate) parts: Option<Vec<Part>>,
+    /// Where the events are in the log of which each is made, if receives were merged and a table tells it.
+    pub(crate) parts: Option<Parts>,
     /// When tick 1 begins.
     pub(crate) first: i128,
     /// How long ticks are.
@@ -118,7 +118,8 @@ pub(crate) struct PlacedImport {
     pub(crate) places: Vec<u32>,
 }
 
-/// The same import as that of `read_log`, with what its steps are made of.
+/// The same import as that of `read_log`, with what its steps are made of; with the parts of merged receives only if a
+/// table has to tell them.
 ///
 /// Refuses the same.
 pub(crate) fn placed_import<W: Workers>(
@@ -126,10 +127,11 @@ pub(crate) fn placed_import<W: Workers>(
     workers: &W,
     text: CowSlice<'_, u8, Global>,
     options: &Options,
+    told: bool,
 ) -> Result<PlacedImport, LogError>
     ensures import { IfOk result
-        (λ p. IsPlacedImport options.now (cow_slice_items text.entry) p.import p.events.items
-        p.logged p.left_at (parts_seen p.parts) p.first p.clock p.places.items) }
+        (λ p. IsPlacedImport told options.now (cow_slice_items text.entry) p.import p.events.items
+        p.logged p.left_at p.parts p.first p.clock p.places.items) }
     ensures long { IfOk result (λ p. length p.places.items ≡ length p.import.trace.steps) }
     ensures short { IfOk result (λ p. p.clock.width < 2 ^ 94) }
     ensures refused { IfErr result
@@ -150,6 +152,7 @@ pub(crate) fn placed_import<W: Workers>(
         spread: options.spread,
         drop_lost: options.drop_lost,
         merge: options.merge,
+        told,
     };
     if how.drop_lost || how.merge {
         let lateness = lateness_in(alloc, &aligned.log)?;
@@ -171,9 +174,9 @@ fn whole_import<W: Workers>(
     requires sound { IsSound (seen_log aligned.log) }
     requires width { 0 < how.clock.width }
     ensures made { IfOk result
-        (λ p. IsPlacedOfLog false false how.limit how.spread (length aligned.log.nodes)
+        (λ p. IsPlacedOfLog how.told false false how.limit how.spread (length aligned.log.nodes)
         aligned.log.events.items how.clock p.import p.events.items p.logged p.left_at
-        (parts_seen p.parts) p.first p.places.items) }
+        p.parts p.first p.places.items) }
     ensures given { IfOk result
         (λ p. AreGiven aligned (lateness_of aligned.log.events.items) how.clock p) }
     ensures long { IfOk result (λ p. length p.places.items ≡ length p.import.trace.steps) }

@@ -11,7 +11,7 @@ ghost use Rattle.event_log.specs.Imports.{IsToldAtOnce};
 ghost use Rattle.event_log.specs.Imports.{IsPlacedErrorUnlessMemory, IsPlacedOfLog, IsUnmadeUnlessMemory, moved_in};
 ghost use Rattle.event_log.specs.Imports.{reason_in, removed_by};
 ghost use Rattle.event_log.specs.Logs.{seen_log};
-ghost use Rattle.event_log.specs.MergedLogs.{ArePartsWithin, parts_seen};
+ghost use Rattle.event_log.specs.MergedLogs.{ArePartsWithin};
 ghost use Rattle.event_log.specs.Naming.{is_memory};
 ghost use Rattle.event_log.specs.SoundLogs.{IsSound};
 
@@ -28,6 +28,7 @@ use crate::refusals::LogError;
 use crate::taken_events::{TakenEvents, taken_events};
 use crate::workers::Workers;
 use clock_offsets::Offsets;
+use merged_receives::Parts;
 use std::alloc::{AllocError, Global};
 use std::borrow::CowSlice;
 use timed_events::{Clock, EventError, IdleError, Lateness, cycle_of_causes, least_time};
@@ -53,9 +54,9 @@ pub(crate) fn left_import<W: Workers>(
     requires given { IsAlignedLogOf options.now (cow_slice_items text) aligned.log.nodes
         aligned.log.events.items }
     ensures made { IfOk result
-        (λ p. IsPlacedOfLog how.drop_lost how.merge how.limit how.spread (length aligned.log.nodes)
-        aligned.log.events.items how.clock p.import p.events.items p.logged p.left_at
-        (parts_seen p.parts) p.first p.places.items) }
+        (λ p. IsPlacedOfLog how.told how.drop_lost how.merge how.limit how.spread
+        (length aligned.log.nodes) aligned.log.events.items how.clock p.import p.events.items
+        p.logged p.left_at p.parts p.first p.places.items) }
     ensures given { IfOk result (λ p. AreGiven aligned lateness how.clock p) }
     ensures long { IfOk result (λ p. length p.places.items ≡ length p.import.trace.steps) }
     ensures refused { IfErr result
@@ -80,9 +81,20 @@ pub(crate) fn left_import<W: Workers>(
         Err(why) => return Err(told_again(alloc, workers, &text, options, &left, why)),
     };
     drop(text);
+    left.parts = parts_for(left.parts.take(), how.told);
     let events = &mut left.events;
     let made = trace_of_passed(alloc, n, events, how, passed)?;
     Ok(left_import_of(offsets, left, made, lateness, counts, first, how.clock))
+}
+
+/// Parts of events if a table has to tell them. Else none: they would stay beside the trace.
+fn parts_for(parts: Option<Parts>, told: bool) -> Option<Parts>
+    ensures { told ≡ true → result ≡ parts }
+{
+    if told {
+        return parts;
+    }
+    None
 }
 
 /// How many events are lost sends and how many receives are merged into others, if these are counted, and how many are
@@ -129,7 +141,7 @@ fn left_import_of(
     ensures events { result.events.items ≡ left.events.items }
     ensures logged { result.logged ≡ counts.logged }
     ensures at { result.left_at ≡ Some left.places.items }
-    ensures parts { parts_seen result.parts ≡ parts_seen left.parts }
+    ensures parts { result.parts ≡ left.parts }
     ensures first { result.first ≡ first }
     ensures clock { result.clock ≡ clock }
     ensures places { result.places.items ≡ made.places.items }
@@ -185,7 +197,7 @@ pub(crate) fn told_again<W: Workers>(
     ensures { (nodes : List (List ℕ)) (events : List Event)
         → IsAlignedLogOf options.now text.now nodes events
         → IsPlacedErrorUnlessMemory text.now nodes events left.now.events.items
-        left.now.places.items (parts_seen left.now.parts) why result }
+        left.now.places.items left.now.parts why result }
 {
     if let Some(error) = told_at_once(why) {
         return error;
@@ -243,7 +255,7 @@ fn left_error(
     requires behind { (i : ℕ) → why ≡ IdleError.Events (EventError.Cycle i)
         → IsBehindCycle left.now.events.items i }
     ensures { IsPlacedErrorUnlessMemory text.now log.now.nodes log.now.events.items
-        left.now.events.items left.now.places.items (parts_seen left.now.parts) why result }
+        left.now.events.items left.now.places.items left.now.parts why result }
 {
     match why {
         IdleError::Events(why) => event_error(alloc, text, log, left, why),
@@ -267,7 +279,7 @@ fn event_error(
     requires processors { AreOfProcessors left.now.events.items }
     requires behind { (i : ℕ) → why ≡ EventError.Cycle i → IsBehindCycle left.now.events.items i }
     ensures { IsPlacedErrorUnlessMemory text.now log.now.nodes log.now.events.items
-        left.now.events.items left.now.places.items (parts_seen left.now.parts)
+        left.now.events.items left.now.places.items left.now.parts
         (IdleError.Events why) result }
 {
     match why {
@@ -290,7 +302,7 @@ fn placed_error(
     requires parts { ArePartsWithin left.now.parts (length log.now.events.items) }
     requires other { (i : ℕ) → ¬ (why ≡ EventError.Cycle i) }
     ensures { IsErrorUnlessMemory text.now log.now.nodes log.now.events.items
-        (reason_in log.now.events.items left.now.places.items (parts_seen left.now.parts) why)
+        (reason_in log.now.events.items left.now.places.items left.now.parts why)
         result }
 {
     let why = reason_in(log.events.as_slice(), &left.places, &left.parts, why);

@@ -1,13 +1,13 @@
 //! Where the events that are left of a log are in it.
 
-ghost use Rattle.std.specs.Prelude.{◌≡◌, ◌<◌, ◌^◌, ◌↔◌, ℕ, [], IfOk, IsTrue, None, Some, length};
+ghost use Rattle.std.specs.Prelude.{◌≡◌, ◌<◌, ◌^◌, ℕ, [], IfOk, None, Some, length};
 ghost use Rattle.std.specs.Prelude.{map, option_map, slice_index, slice_index_or};
 ghost use Rattle.timed_events.specs.declared.cause_cycles.Hop.{Hop};
 ghost use Rattle.merged_receives.specs.MergeWalks.{AreParts};
 ghost use Rattle.event_log.specs.Imports.{hop_in, log_place, moved_in, place_in, reason_in, source_in, source_of};
-ghost use Rattle.event_log.specs.MergedLogs.{ArePartsWithin, parts_seen};
+ghost use Rattle.event_log.specs.MergedLogs.{ArePartsWithin};
 
-use merged_receives::Part;
+use merged_receives::Parts;
 use std::alloc::{AllocError, Global};
 use std::marker::Model;
 use timed_events::{Event, EventError, Hop, Moved};
@@ -43,13 +43,6 @@ impl LogPlaces {
         }
     }
 
-    /// Whether each event is at its own place.
-    pub(crate) fn are_all(&self) -> bool
-        ensures { IsTrue result ↔ (self.now ≡ None) }
-    {
-        self.places.is_none()
-    }
-
     /// The place in the log of the event at this place.
     pub(crate) fn at(&self, place: usize) -> usize
         requires { place < 2 ^ 32 }
@@ -59,6 +52,20 @@ impl LogPlaces {
         match &self.places {
             None => place,
             Some(places) => place_in(places, place) as usize,
+        }
+    }
+
+    /// Parts of events by the places of these in the log. Takes no memory.
+    pub(crate) fn of_parts(&self, parts: Parts) -> Parts
+        ensures { result ≡ map (map (log_place self.now)) parts }
+    {
+        match &self.places {
+            None => parts,
+            Some(places) => {
+                let mut parts = parts;
+                parts.renumber(places);
+                parts
+            }
         }
     }
 }
@@ -88,27 +95,17 @@ pub(crate) fn moved_in(places: &[u32], moved: Moved) -> Moved
     }
 }
 
-/// The list at a place; an empty one if there is no such place.
-pub(crate) fn part_at(parts: &[Part], place: usize) -> &[u32]
-    ensures { result.now ≡ slice_index_or parts.now place [] }
-{
-    if place >= parts.len() {
-        return &[];
-    }
-    parts[place].as_slice()
-}
-
 /// The place in the log of the event that received message `message` of the event at a place, and which of its messages
 /// it is.
 fn source_in(
     events: &[Event],
     places: &[u32],
-    parts: &Option<Vec<Part>>,
+    parts: &Option<Parts>,
     event: usize,
     message: usize,
 ) -> (usize, usize)
     requires { ArePartsWithin parts.now (length events.now) }
-    ensures { result ≡ source_in events.now places.now (parts_seen parts.now) event message }
+    ensures { result ≡ source_in events.now places.now parts.now event message }
 {
     match parts {
         None => (place_in(places, event) as usize, message),
@@ -117,11 +114,11 @@ fn source_in(
 }
 
 /// The same if each event is made of events of the log.
-fn source_at(events: &[Event], parts: &[Part], event: usize, message: usize) -> (usize, usize)
+fn source_at(events: &[Event], parts: &Parts, event: usize, message: usize) -> (usize, usize)
     requires { AreParts (length events.now) parts.now }
     ensures { result ≡ source_of events.now (slice_index_or parts.now event []) message }
 {
-    source_of(events, part_at(parts, event), message)
+    source_of(events, parts.part(event), message)
 }
 
 /// The same of an event that is made of these events of the log.
@@ -145,11 +142,11 @@ fn source_of(events: &[Event], part: &[u32], message: usize) -> (usize, usize)
 pub(crate) fn reason_in(
     events: &[Event],
     places: &[u32],
-    parts: &Option<Vec<Part>>,
+    parts: &Option<Parts>,
     why: EventError,
 ) -> EventError
     requires { ArePartsWithin parts.now (length events.now) }
-    ensures { result ≡ reason_in events.now places.now (parts_seen parts.now) why }
+    ensures { result ≡ reason_in events.now places.now parts.now why }
 {
     match why {
         EventError::NeverSent { event, message } => {

@@ -42,6 +42,8 @@ pub struct TraceOptions {
     pub spread: bool,
     pub drop_lost: bool,
     pub merge: bool,
+    /// Whether a table has to tell of which events of the log each step is made.
+    pub told: bool,
 }
 
 /// Tests whether the events of a log make a trace. Which events are left is settled before.

@@ -123,7 +123,11 @@ fn is_lost(events: &[Event], received: &[bool], place: usize) -> bool
 }
 
 /// The events, with their messages by the new places of the sends. Takes no second list of events.
-fn renumbered(alloc: Global, events: Vec<Event>, places: &[u32]) -> Result<Vec<Event>, AllocError>
+pub(crate) fn renumbered(
+    alloc: Global,
+    events: Vec<Event>,
+    places: &[u32],
+) -> Result<Vec<Event>, AllocError>
     ensures { IfOk result
         (λ v. map seen v.items ≡ map (left_event places.now) (map seen events.items)) }
 {
@@ -147,7 +151,7 @@ fn renumber(alloc: Global, event: &mut Event, places: &[u32]) -> Result<(), Allo
 }
 
 /// The messages by the new places of the sends. Takes memory only if there is more than one.
-pub(crate) fn left_messages(
+fn left_messages(
     alloc: Global,
     messages: &[Option<u32>],
     places: &[u32],

@@ -9,7 +9,6 @@ ghost use Rattle.csv.specs.Writing.{row_text};
 ghost use Rattle.timed_events.specs.Checks.{processor_at, time_at};
 ghost use Rattle.trace_text.specs.RecordWriting.{IsReady, our_writer, written};
 ghost use Rattle.event_log.specs.Imports.{IsLogRefusal, log_place};
-ghost use Rattle.event_log.specs.MergedLogs.{parts_seen};
 ghost use Rattle.event_log.specs.StepTables.{IsTableOf, begin_of, field_at, if_logged, joined_fields, message_fields};
 ghost use Rattle.event_log.specs.StepTables.{receiver_name_at, record_of_step, step_record, table_header, table_text};
 ghost use Rattle.event_log.specs.StepTables.{with_field, word_at};
@@ -17,7 +16,6 @@ ghost use Rattle.event_log.specs.ToldNames.{node_name};
 
 use crate::event_refusals::processor_at;
 use crate::imports::{Import, PlacedImport, placed_import};
-use crate::log_places::part_at;
 use crate::message_fields::message_fields;
 use crate::names::{Name, NameSet};
 use crate::options::Options;
@@ -54,7 +52,7 @@ pub fn read_table(alloc: Global, text: &[u8], options: &Options) -> Result<LogTa
     ensures refused { IfErr result (λ why. IsLogRefusal options.now text.now why) }
     ensures more { result ≡ Err LogError.Memory → length text.now ≤ MAX_TEXT_BYTES }
 {
-    let placed = placed_import(alloc, &OneThread, CowSlice::Borrowed(text), options)?;
+    let placed = placed_import(alloc, &OneThread, CowSlice::Borrowed(text), options, true)?;
     match table_of(alloc, text, &placed) {
         Ok(table) => Ok(LogTable {
             import: placed.import,
@@ -70,7 +68,7 @@ fn table_of(alloc: Global, text: &[u8], placed: &PlacedImport) -> Result<Vec<u8>
     requires short { placed.now.clock.width < 2 ^ 94 }
     ensures { IfOk result
         (λ table. table.items ≡ table_text text.now placed.now.import.nodes placed.now.events.items
-        placed.now.logged placed.now.left_at (parts_seen placed.now.parts) placed.now.first
+        placed.now.logged placed.now.left_at placed.now.parts placed.now.first
         placed.now.clock.width placed.now.import.trace.ticks placed.now.places.items) }
 {
     let messages = message_fields(alloc, text)?;
@@ -111,7 +109,7 @@ fn write_step(
     ensures ready { OnOk result (IsReady writer.new) }
     ensures text { OnOk result (written writer.new ≡ written writer.old ++ row_text our_writer
         (record_of_step messages.now placed.now.import.nodes placed.now.events.items
-        placed.now.logged placed.now.left_at (parts_seen placed.now.parts) placed.now.first
+        placed.now.logged placed.now.left_at placed.now.parts placed.now.first
         placed.now.clock.width placed.now.import.trace.ticks placed.now.places.items k)) }
 {
     let place = placed.places[k] as usize;
@@ -281,7 +279,7 @@ fn push_message(
     ensures whole { OnOk result (partial_of fields.new ≡ []) }
     ensures fields { OnOk result (fields_of fields.new ≡ fields_of fields.old
         ++ if_logged placed.now.logged place
-        (field_at messages.now placed.now.left_at (parts_seen placed.now.parts) place) ∷ []) }
+        (field_at messages.now placed.now.left_at placed.now.parts place) ∷ []) }
 {
     if place >= placed.logged {
         return fields.push_field(&[]);
@@ -289,7 +287,7 @@ fn push_message(
     match &placed.parts {
         None => fields.push_field(message_at(messages, placed.left_at.at(place) + 1)),
         Some(parts) => {
-            let text = joined_fields(alloc, messages, part_at(parts, place))?;
+            let text = joined_fields(alloc, messages, parts.part(place))?;
             fields.push_field(&text)
         }
     }

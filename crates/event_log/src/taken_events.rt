@@ -7,7 +7,7 @@ ghost use Rattle.timed_events.specs.Times.{times_refusal};
 ghost use Rattle.event_log.specs.Imports.{AreTaken, IsEmptied, IsTimesError, IsUnmergedOf, kept_count, log_place};
 ghost use Rattle.event_log.specs.Logs.{seen_log};
 ghost use Rattle.event_log.specs.LostSends.{AreLeft, left_places};
-ghost use Rattle.event_log.specs.MergedLogs.{AreMergedIn, ArePartsWithin, parts_seen};
+ghost use Rattle.event_log.specs.MergedLogs.{AreMergedIn, ArePartsWithin};
 ghost use Rattle.event_log.specs.Naming.{is_memory};
 ghost use Rattle.event_log.specs.SoundLogs.{IsSound};
 
@@ -18,7 +18,7 @@ use crate::lost_sends::{LeftEvents, events_left};
 use crate::names::NameSet;
 use crate::reading::MAX_EVENTS;
 use crate::refusals::LogError;
-use merged_receives::Part;
+use merged_receives::Parts;
 use std::alloc::{AllocError, Global};
 use timed_events::{Clock, Event, EventError};
 
@@ -32,7 +32,7 @@ pub(crate) struct TakenEvents {
     /// Where they are in the log: the first ones if they are made of several.
     pub(crate) places: Vec<u32>,
     /// Where the events are in the log of which each is made, if receives are merged.
-    pub(crate) parts: Option<Vec<Part>>,
+    pub(crate) parts: Option<Parts>,
     /// How many events are left before receives are merged.
     pub(crate) kept: usize,
 }
@@ -53,7 +53,7 @@ pub(crate) fn taken_events(
     requires asked { drop ≡ false → merge ≡ true }
     ensures taken { IfOk result
         (λ t. AreTaken drop merge log.events.items clock.now t.events.items
-        (Some t.places.items) (parts_seen t.parts)) }
+        (Some t.places.items) t.parts) }
     ensures nodes { IfOk result (λ t. t.nodes ≡ log.nodes) }
     ensures kept { IfOk result (λ t. t.kept ≡ kept_count drop log.events.items) }
     ensures within { IfOk result (λ t. (k : ℕ) → k < length t.places.items
@@ -133,7 +133,7 @@ fn merged_in(
     requires width { 0 < clock.now.width }
     ensures merged { IfOk result
         (λ t. AreMergedIn events.items clock.now at.now t.events.items t.places.items
-        (parts_seen t.parts)) }
+        t.parts) }
     ensures nodes { IfOk result (λ t. t.nodes ≡ nodes) }
     ensures kept { IfOk result (λ t. t.kept ≡ length events.items) }
     ensures refused { IfErr result
@@ -173,15 +173,15 @@ fn placed_in(
     ensures nodes { IfOk result (λ t. t.nodes ≡ nodes) }
     ensures events { IfOk result (λ t. t.events.items ≡ merged.events.items) }
     ensures parts { IfOk result
-        (λ t. parts_seen t.parts ≡ Some
-        (map (map (log_place at.now)) merged.parts.items)) }
+        (λ t. t.parts ≡ Some
+        (map (map (log_place at.now)) merged.parts)) }
     ensures places { IfOk result
         (λ t. t.places.items ≡ map (λ part. slice_index part 0)
-        (map (map (log_place at.now)) merged.parts.items)) }
+        (map (map (log_place at.now)) merged.parts)) }
     ensures kept { IfOk result (λ t. t.kept ≡ kept) }
 {
     let MergedEvents { events, parts } = merged;
-    let parts = placed_parts(alloc, parts, at)?;
+    let parts = at.of_parts(parts);
     let places = first_places(alloc, &parts)?;
     Ok(TakenEvents {
         nodes,
@@ -190,30 +190,4 @@ fn placed_in(
         parts: Some(parts),
         kept,
     })
-}
-
-/// Lists of places among the events by the places in the log. Takes no second list of lists.
-fn placed_parts(alloc: Global, parts: Vec<Part>, at: &LogPlaces) -> Result<Vec<Part>, AllocError>
-    ensures { IfOk result
-        (λ placed. placed.items ≡ map (map (log_place at.now)) parts.items) }
-{
-    if at.are_all() {
-        return Ok(parts);
-    }
-    let mut placed = parts;
-    for part in placed.iter_mut() {
-        *part = placed_part(alloc, part.as_slice(), at)?;
-    }
-    Ok(placed)
-}
-
-/// Places among the events by those in the log.
-fn placed_part(alloc: Global, part: &[u32], at: &LogPlaces) -> Result<Part, AllocError>
-    ensures { IfOk result (λ placed. placed ≡ map (log_place at.now) part.now) }
-{
-    let mut placed = Part::new();
-    for place in part {
-        placed.push(alloc, at.at(*place as usize) as u32)?;
-    }
-    Ok(placed)
 }

@@ -29,9 +29,10 @@ pub struct TickTable {
     pub rows: Vec<TickRow>,
 }
 
-/// Reads a log once, and tells what its trace is like with ticks of 1, 2, 5, 10 and so on units of its times, up to the
-/// first length that is longer than the log. Events may be spread. The length of a tick, merged receives and receives
-/// of nothing of the options don't count.
+/// Tells what the trace of a log is like with ticks of 1, 2, 5, 10 and so on units of its times, up to the first length
+/// that is longer than the log. Events may be spread. The length of a tick, merged receives and receives of nothing of
+/// the options don't count. The text is read once; once more only if lost sends are left out and a refusal names an
+/// event.
 ///
 /// Refuses what `read_log` refuses with ticks of one of these lengths, but TooManyTicks for the times or the spread of
 /// events. Memory comes only for a text that isn't too large.

@@ -1,16 +1,16 @@
 -- The events of which each is made, by their heads, and the places of those that stay.
-use Rattle.std.proofs.Common.{ℕ, ℤ, zero, suc, ◌≡◌, ◌∙◌, ◌+◌, ◌/◌, ◌<◌, ◌≤◌, ◌≤ℤ◌, ◌-ℤ◌, ◌⊎◌, inl, inr, Bool, true}
-use Rattle.std.proofs.Common.{false, not, cond, List, [], ◌∷◌, ◌++◌, Vec, All, length, length-append, append-nil, map}
-use Rattle.std.proofs.Common.{set, take, get_or, refl, sym, ap, ap₂, subst, arith}
+use Rattle.std.proofs.Common.{ℕ, ℤ, zero, suc, ◌≡◌, ◌∙◌, ◌+◌, ◌/◌, ◌<◌, ◌≤◌, ◌≤ℤ◌, ◌-ℤ◌, Bool, true}
+use Rattle.std.proofs.Common.{false, not, cond, List, [], ◌∷◌, ◌++◌, length, length-append, map}
+use Rattle.std.proofs.Common.{get_or, refl, sym, ap, ap₂, subst, arith}
 use Rattle.std.specs.Prelude.{◌==◌, ◌||◌, ◌&&◌, int_lt, nat_lt, slice_index, slice_index_or}
 use Rattle.std.specs.List.{filter, range_with_len}
-use Rattle.std.proofs.lemmas.Bool.{cases_eq, eq-eqb, eqb-true, false_from_ne_true, not_from_false, true≢false}
+use Rattle.std.proofs.lemmas.Bool.{eq-eqb, eqb-true, false_from_ne_true, not_from_false, true≢false}
 use Rattle.std.proofs.lemmas.Int.{ints}
 use Rattle.std.proofs.lemmas.Nat.{le-div}
 use Rattle.std.proofs.Math.Nat.{div-mul-le_self}
 use Rattle.std.specs.Int.RustNames.{unsigned_abs}
-use Rattle.std.proofs.lemmas.List.{get_or-set_same, get_or-set_other, length-map, length-set, map-append, take_all}
-use Rattle.std.proofs.lemmas.List.Elements.{All-head, All-tail, filter-append, filter_more}
+use Rattle.std.proofs.lemmas.List.{length-map, map-append}
+use Rattle.std.proofs.lemmas.List.Elements.{filter-append}
 use Rattle.std.proofs.lemmas.List.FromFn.{length-range_with_len, get_or-range_with_len}
 use Rattle.timed_events.specs.declared.events.Clock.{Clock}
 use Rattle.timed_events.specs.declared.events.Event.{Event}
@@ -220,71 +220,6 @@ rising-ticks events clock order width o = λ j k b l.
     let tk = tick-at (time_tick events clock) events (slice_index order k) lk in
     let up = div_up _ _ clock.width width (apart (least_time events) _ _ (least-at events (slice_index order j) lj) (earlier-time events (slice_index order j) (slice_index order k) (o.rising j k b l))) in
     omega (arith, tj, tk, up)
-
--- a list of lists by its elements
-listed : (f : ℕ → List ℕ) (xs : List (List ℕ)) (a : ℕ) → ((k : ℕ) → k < length xs → slice_index_or xs k [] ≡ f (a + k)) → xs ≡ map f (range_with_len a (length xs))
-listed f [] a h = refl
-listed f (x ∷ xs) a h =
-    let first : a + 0 ≡ a = omega arith in
-    ap₂ (λ (y : List ℕ) (ys : List (List ℕ)). y ∷ ys) (h zero (omega arith) ∙ ap f first)
-    (listed f xs (a + 1) (λ k l. let next : a + suc k ≡ a + 1 + k = omega arith in h (suc k) (omega (arith, l)) ∙ ap f next))
-
--- the parts of the events before k in an order
-pub record ArePartsTo (heads order : List ℕ) (k : ℕ) (parts : List (List ℕ)) : Type 0 where
-  pub long : length parts ≡ length heads
-  pub each : (h : ℕ) → h < length heads → slice_index_or parts h [] ≡ filter (λ i. slice_index heads i == h) (take k order)
-
-none-in : (parts : List (List ℕ)) (h : ℕ) → All (λ part. part ≡ []) parts → slice_index_or parts h [] ≡ []
-none-in [] h a = refl
-none-in (part ∷ parts) zero a = All-head (λ part. part ≡ []) part parts a
-none-in (part ∷ parts) (suc h) a = none-in parts h (All-tail (λ part. part ≡ []) part parts a)
-
-pub parts-start : (heads order : List ℕ) (parts : List (List ℕ)) → length parts ≡ length heads → All (λ part. part ≡ []) parts → ArePartsTo heads order 0 parts
-parts-start heads order parts n a = record { long = n; each = λ h l. none-in parts h a }
-
-pub parts-step : (heads order : List ℕ) (k : ℕ) (parts : List (List ℕ)) (i head : ℕ) → k < length order
-    → i ≡ slice_index order k → head ≡ slice_index heads i → head < length heads → ArePartsTo heads order k parts
-    → ArePartsTo heads order (k + 1) (set parts head (slice_index_or parts head [] ++ i ∷ []))
-parts-step heads order k parts i head l at is inside w = record { long = length-set parts head _ ∙ w.long; each = λ h lh. each h lh (cases_eq h head) } where
-  more : (h : ℕ) → filter (λ j. slice_index heads j == h) (take (k + 1) order) ≡ filter (λ j. slice_index heads j == h)
-      (take k order) ++ cond (slice_index heads (slice_index order k) == h) (slice_index order k ∷ []) []
-  more h = filter_more (λ j. slice_index heads j == h) order k 0 l
-
-  each : (h : ℕ) → h < length heads → (h ≡ head) ⊎ ¬ (h ≡ head)
-      → slice_index_or (set parts head (slice_index_or parts head [] ++ i ∷ [])) h [] ≡ filter
-      (λ j. slice_index heads j == h) (take (k + 1) order)
-  each h lh (inl e) =
-      let same : slice_index heads (slice_index order k) ≡ h = ap (slice_index heads) (sym at) ∙ sym is ∙ sym e in
-      subst (λ x. slice_index_or (set parts head (slice_index_or parts head [] ++ i ∷ [])) x []
-      ≡ slice_index_or parts head [] ++ i ∷ []) (sym e)
-      (get_or-set_same parts head (slice_index_or parts head [] ++ i ∷ []) []
-      (let n = w.long in omega (arith, n, inside)))
-      ∙ ap₂ (λ (ys : List ℕ) (y : ℕ). ys ++ y ∷ []) (ap (λ x. slice_index_or parts x []) (sym e) ∙ w.each h lh) at
-      ∙ ap (λ (t : Bool). filter (λ j. slice_index heads j == h) (take k order) ++ cond t (slice_index order k ∷ []) []) (sym (eq-eqb (slice_index heads (slice_index order k)) h same))
-      ∙ sym (more h)
-  each h lh (inr n) =
-      let other : (slice_index heads (slice_index order k) == h) ≡ false =
-      false_from_ne_true (slice_index heads (slice_index order k) == h)
-      (λ t. n (sym (eqb-true (slice_index heads (slice_index order k)) h t)
-      ∙ ap (slice_index heads) (sym at) ∙ sym is)) in
-      get_or-set_other parts head h (slice_index_or parts head [] ++ i ∷ []) [] n ∙ w.each h lh
-      ∙ sym (append-nil (filter (λ j. slice_index heads j == h) (take k order)))
-      ∙ ap (λ (t : Bool). filter (λ j. slice_index heads j == h) (take k order) ++ cond t (slice_index order k ∷ []) []) (sym other)
-      ∙ sym (more h)
-
-pub parts-all : (heads order : List ℕ) (k : ℕ) (parts : List (List ℕ)) → length order ≤ k → ArePartsTo heads order k parts → filter has_some parts ≡ own_parts heads order
-unfolding own_parts
-parts-all heads order k parts l w =
-    ap (filter has_some) (listed (λ h. filter (λ i. slice_index heads i == h) order) parts 0
-    (λ h b. w.each h (let n = w.long in omega (arith, n, b))
-    ∙ ap (filter (λ i. slice_index heads i == h)) (take_all k order l)
-    ∙ ap (λ x. filter (λ i. slice_index heads i == x) order) (let e : h ≡ 0 + h = omega arith in e))
-    ∙ ap (λ n. map (λ h. filter (λ i. slice_index heads i == h) order) (range_with_len 0 n)) w.long)
-
--- the lists that aren't empty
-pub some-test : (xs : List ℕ) → not (length xs == 0) ≡ has_some xs
-some-test [] = refl
-some-test (x ∷ xs) = not_from_false (length (x ∷ xs) == 0) (false_from_ne_true (length (x ∷ xs) == 0) (λ t. let e = eqb-true (length (x ∷ xs)) 0 t in omega (arith, e)))
 
 -- one event more
 own-cond : (t : Bool) (xs : List ℕ) (s : ℕ) → length (xs ++ cond t (s ∷ []) []) ≡ length xs + cond t 1 0

@@ -1,3 +1,5 @@
 pub mod Merges
 pub mod MergeWalks
-pub mod HeldPlaces
+pub mod Pieces
+pub mod HeadSizes
+pub mod Actors

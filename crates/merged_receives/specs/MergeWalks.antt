@@ -19,11 +19,15 @@ abbrev pub AreRising : List ℕ → List ℕ → Type 0
 AreRising ticks order = (j k : ℕ) → j < k → k < length order
     → slice_index ticks (slice_index order j) ≤ slice_index ticks (slice_index order k)
 
+-- the event into which event i of n is merged if it receives, or itself, if this receive of its processor is open
+abbrev pub head_if : Bool → ℕ → List ℕ → ℕ → ℕ → ℕ
+head_if receives n ticks latest i =
+    if receives then (if nat_lt latest n
+    then (if slice_index ticks latest == slice_index ticks i then latest else i) else i) else i
+
 -- the event into which event i is merged, or itself, if this receive of its processor is open
 abbrev pub head_by : List Event → List ℕ → ℕ → ℕ → ℕ
-head_by events ticks latest i =
-    if receives_at events i then (if nat_lt latest (length events)
-    then (if slice_index ticks latest == slice_index ticks i then latest else i) else i) else i
+head_by events ticks latest i = head_if (receives_at events i) (length events) ticks latest i
 
 -- event h isn't merged into another, and event i is it or is merged into it
 pub record IsHead (events : List Event) (ticks : List ℕ) (h i : ℕ) : Type 0 where

@@ -1,24 +1,24 @@
 //! The events of which each is made if receives are merged.
 
-ghost use Rattle.std.specs.Prelude.{◌≡◌, ◌<◌, ◌≤◌, ◌+◌, ◌-◌, ◌==◌, ◌++◌, ◌∷◌, [], ℕ, All, if◌then◌else◌};
-ghost use Rattle.std.specs.Prelude.{IfErr, IfOk, OnOk, length, slice_index, slice_index_or, slice_set};
+ghost use Rattle.std.specs.Prelude.{◌≡◌, ◌<◌, ◌≤◌, ◌+◌, ◌==◌, ℕ, IfErr, IfOk, if◌then◌else◌, length, slice_index};
 ghost use Rattle.timed_events.specs.Causes.{IsTimeOrder};
-ghost use Rattle.timed_events.specs.Checks.{AreOfProcessors, IsEventRefusal, processor_at};
+ghost use Rattle.timed_events.specs.Checks.{AreOfProcessors, IsEventRefusal};
 ghost use Rattle.timed_events.specs.Times.{times_refusal};
-ghost use Rattle.merged_receives.specs.Merges.{AreMerged, receives_at};
-ghost use Rattle.merged_receives.specs.MergeWalks.{AreHeadsOf, AreParts, AreRising, has_some, head_by};
-ghost use Rattle.merged_receives.specs.MergeWalks.{own_parts, places_before};
+ghost use Rattle.merged_receives.specs.Merges.{AreMerged};
+ghost use Rattle.merged_receives.specs.MergeWalks.{AreHeadsOf, AreParts, AreRising, head_if, own_parts, places_before};
 
-use crate::parts::Part;
+use crate::actors::actors_of;
+use crate::counting::{ends_of, places_by_head, put_begins, sizes_of};
+use crate::parts::Parts;
 use std::alloc::{AllocError, Global};
 use step_trace::{MAX_PROCESSORS, MAX_STEPS};
-use timed_events::{Clock, Event, EventAct, EventError, span_of, ticks_of, time_order_of};
+use timed_events::{Clock, Event, EventError, span_of, ticks_of, time_order_of};
 
 /// The events of which each is made that stays if receives are merged.
 #[derive(Drop)]
 pub struct MergedParts {
     /// Of each event that stays the places of those of which it is made, in the order of their times.
-    pub parts: Vec<Part>,
+    pub parts: Parts,
     /// Of each event how many before it stay.
     pub places: Vec<u32>,
 }
@@ -37,9 +37,9 @@ pub fn merged_parts(
     requires processors { AreOfProcessors events.now }
     requires width { 0 < clock.now.width }
     ensures merged { IfOk result
-        (λ m. AreMerged events.now clock.now m.parts.items m.places.items) }
-    ensures inside { IfOk result (λ m. AreParts (length events.now) m.parts.items) }
-    ensures some { IfOk result (λ m. 0 < length m.parts.items) }
+        (λ m. AreMerged events.now clock.now m.parts m.places.items) }
+    ensures inside { IfOk result (λ m. AreParts (length events.now) m.parts) }
+    ensures some { IfOk result (λ m. 0 < length m.parts) }
     ensures refused { IfErr result
         (λ why. IsEventRefusal why (times_refusal events.now clock.now)) }
 {
@@ -67,37 +67,28 @@ fn heads_of(
     ensures { IfOk result (λ heads. AreHeadsOf events.now ticks.now heads.items) }
 {
     let none = events.len() as u32;
+    let actors = actors_of(alloc, events)?;
     let mut opens = vec![in alloc; none; MAX_PROCESSORS as usize]?;
     let mut heads = vec![in alloc; none; events.len()]?;
     for k in 0..order.len() {
         let place = order[k] as usize;
-        let processor = index_of(events, place);
-        let head = head_of(events, ticks, opens[processor], place);
+        let actor = actors[place];
+        let processor = actor.processor as usize - 1;
+        let head = head_of(actor.receives, ticks, opens[processor], place);
         heads[place] = head;
-        opens[processor] = open_after(events, place, head);
+        opens[processor] = open_after(actor.receives, head, none);
     }
     Ok(heads)
 }
 
-/// The processor of the event at a place, counted from 0.
-fn index_of(events: &[Event], place: usize) -> usize
-    requires inside { place < length events.now }
-    requires processors { AreOfProcessors events.now }
-    ensures value { result ≡ processor_at events.now place - 1 }
-    ensures inside { result < MAX_PROCESSORS }
-{
-    events[place].processor as usize - 1
-}
-
 /// The event into which the one at a place is merged, or itself: if it receives in the tick of the receive of its
 /// processor that is open. The number of all events denotes that none is.
-fn head_of(events: &[Event], ticks: &[u32], latest: u32, place: usize) -> u32
-    requires inside { place < length events.now }
-    requires few { length events.now ≤ MAX_STEPS }
-    requires long { length ticks.now ≡ length events.now }
-    ensures { result ≡ head_by events.now ticks.now latest place }
+fn head_of(receives: bool, ticks: &[u32], latest: u32, place: usize) -> u32
+    requires inside { place < length ticks.now }
+    requires few { length ticks.now ≤ MAX_STEPS }
+    ensures { result ≡ head_if receives (length ticks.now) ticks.now latest place }
 {
-    if !receives(events, place) {
+    if !receives {
         return place as u32;
     }
     let last = latest as usize;
@@ -110,72 +101,28 @@ fn head_of(events: &[Event], ticks: &[u32], latest: u32, place: usize) -> u32
     latest
 }
 
-/// The receive of a processor that is open after the event at a place, whose head this is: none if it sends.
-fn open_after(events: &[Event], place: usize, head: u32) -> u32
-    requires inside { place < length events.now }
-    requires few { length events.now ≤ MAX_STEPS }
-    ensures { result ≡ (if receives_at events.now place then head else length events.now) }
+/// The receive of a processor that is open after one of its events, whose head this is: none if it sends.
+fn open_after(receives: bool, head: u32, none: u32) -> u32
+    ensures { result ≡ (if receives then head else none) }
 {
-    if receives(events, place) {
+    if receives {
         return head;
     }
-    events.len() as u32
+    none
 }
 
-/// Whether the event at a place receives.
-fn receives(events: &[Event], place: usize) -> bool
-    requires { place < length events.now }
-    ensures { result ≡ receives_at events.now place }
-{
-    match events[place].act {
-        EventAct::Send { .. } => false,
-        EventAct::Receive { .. } => true,
-    }
-}
-
-/// Of each event that is its own head the events of which it is the head, in their order.
-fn parts_of(alloc: Global, heads: &[u32], order: &[u32]) -> Result<Vec<Part>, AllocError>
+/// Of each event that is some event's head the events of which it is the head, in their order.
+fn parts_of(alloc: Global, heads: &[u32], order: &[u32]) -> Result<Parts, AllocError>
+    requires few { length order.now ≤ MAX_STEPS }
     requires order { (k : ℕ) → k < length order.now → slice_index order.now k < length heads.now }
     requires heads { (i : ℕ) → i < length heads.now → slice_index heads.now i < length heads.now }
-    ensures { IfOk result (λ parts. parts.items ≡ own_parts heads.now order.now) }
+    ensures { IfOk result (λ parts. parts ≡ own_parts heads.now order.now) }
 {
-    let mut parts = empty_parts(alloc, heads.len())?;
-    for place in order {
-        let head = heads[*place as usize] as usize;
-        put(alloc, &mut parts, head, *place)?;
-    }
-    parts.retain(|part| has_some(part.as_slice()));
-    Ok(parts)
-}
-
-/// Whether a list isn't empty.
-fn has_some(list: &[u32]) -> bool
-    ensures { result ≡ has_some list.now }
-{
-    list.len() != 0
-}
-
-/// So many parts with no events.
-fn empty_parts(alloc: Global, count: usize) -> Result<Vec<Part>, AllocError>
-    ensures long { IfOk result (λ parts. length parts.items ≡ count) }
-    ensures empty { IfOk result (λ parts. All (λ part. part ≡ []) parts.items) }
-{
-    let mut parts = Vec::with_capacity(alloc, count)?;
-    for _ in 0..count {
-        parts.push(Part::new())?;
-    }
-    Ok(parts)
-}
-
-/// Puts a place last in a part.
-fn put(alloc: Global, parts: &mut [Part], i: usize, place: u32) -> Result<(), AllocError>
-    requires { i < length parts.old }
-    ensures { OnOk result (parts.new ≡ slice_set parts.old i
-        (slice_index_or parts.old i [] ++ place ∷ [])) }
-{
-    let part = &mut parts[i];
-    part.push(alloc, place)?;
-    Ok(())
+    let mut sizes = sizes_of(alloc, heads, order)?;
+    let ends = ends_of(alloc, &sizes)?;
+    put_begins(&mut sizes);
+    let places = places_by_head(alloc, heads, order, &mut sizes)?;
+    Ok(Parts::new(ends, places))
 }
 
 /// Of each event how many before it are their own heads.

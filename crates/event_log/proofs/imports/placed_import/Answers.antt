@@ -6,7 +6,6 @@ use Rattle.timed_events.specs.Lateness.{lateness_of}
 use Rattle.event_log.specs.declared.options.Options.{Options}
 use Rattle.event_log.specs.Imports.{IsAlignRefusal, IsRead}
 use Rattle.event_log.specs.Logs.{SeenLog, seen_log}
-use Rattle.event_log.specs.MergedLogs.{parts_seen}
 use Rattle.event_log.proofs.LogRefusals.{large-text, unaligned-refusal, unfit-refusal}
 use Rattle.event_log.proofs.Outcomes.{err-weaker, ok-both}
 use Rattle.event_log.proofs.PlacedImports.{placed-import, unmade-refusal}
@@ -67,8 +66,8 @@ returns-then-how-clause-import g c =
       fits = sym c.in_ok-clock.ensures.clock;
     }) c.in_ok-aligned.aligned
     c.in_ok-aligned.ensures.aligned c.in_ok-aligned.ensures.nodes c.in_ok-limit.limit (sym c.in_ok-limit.ensures) c.args.options.now.drop_lost
-    c.args.options.now.merge refl refl c.in_ok-lateness.lateness c.in_ok-lateness.ensures.lateness
-    p.import p.events.items p.logged p.left_at (parts_seen p.parts) p.first p.clock p.places.items made given.nodes given.offsets given.lateness_is given.clock_is) c.left_import.ensures.made c.left_import.ensures.given
+    c.args.options.now.merge refl refl c.args.told c.in_ok-lateness.lateness c.in_ok-lateness.ensures.lateness
+    p.import p.events.items p.logged p.left_at p.parts p.first p.clock p.places.items made given.nodes given.offsets given.lateness_is given.clock_is) c.left_import.ensures.made c.left_import.ensures.given
 
 pub returns-then-how-clause-short : goal.returns-then-how-clause-short
 returns-then-how-clause-short g c =
@@ -100,8 +99,8 @@ returns-clause-import g c =
       fits = sym c.in_ok-clock.ensures.clock;
     }) c.in_ok-aligned.aligned
     c.in_ok-aligned.ensures.aligned c.in_ok-aligned.ensures.nodes c.in_ok-limit.limit (sym c.in_ok-limit.ensures) false
-    false (search rules) (search rules) (lateness_of c.in_ok-aligned.aligned.log.events.items) refl
-    p.import p.events.items p.logged p.left_at (parts_seen p.parts) p.first p.clock p.places.items made given.nodes given.offsets given.lateness_is given.clock_is) c.whole_import.ensures.made c.whole_import.ensures.given
+    false (search rules) (search rules) c.args.told (lateness_of c.in_ok-aligned.aligned.log.events.items) refl
+    p.import p.events.items p.logged p.left_at p.parts p.first p.clock p.places.items made given.nodes given.offsets given.lateness_is given.clock_is) c.whole_import.ensures.made c.whole_import.ensures.given
 
 pub returns-clause-short : goal.returns-clause-short
 returns-clause-short g c =

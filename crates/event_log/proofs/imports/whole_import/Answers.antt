@@ -31,7 +31,7 @@ returns-clause-made g c =
       };
       so_many = c.len-logged.ensures ∙ sym c.as_slice.ensures.len ∙ ap length c.as_slice.ensures.value;
       at = refl;
-      parts_are = refl;
+      parts_are = λ _. refl;
       begins = to_z-of_z w128 c.least_time-first.result fits ∙ c.least_time-first.ensures ∙ ap least_time c.as_slice.ensures.value;
       placed = subst (λ n. ArePlacedBy limit spread n log.events.items clock c.trace_of_passed.new.events.items made.places.items) c.len-n.ensures c.in_ok-made.ensures.places;
     })

@@ -9,7 +9,7 @@ use Rattle.timed_events.specs.Times.{least_time}
 use Rattle.step_trace.specs.declared.traces.TheConstants.{MAX_STEPS}
 use Rattle.timed_events.specs.declared.events.Event.{Event}
 use Rattle.event_log.specs.Imports.{ArePlacedBy, IsAlignedLogOf, IsMadeBy, IsPlacedErrorUnlessMemory, IsUnmadeFor, removed_by}
-use Rattle.event_log.specs.MergedLogs.{ArePartsWithin, parts_seen}
+use Rattle.event_log.specs.MergedLogs.{ArePartsWithin}
 use Rattle.event_log.proofs.OneLog.{aligned-log-once}
 use Rattle.event_log.proofs.PlacedImports.{left-unmade, untaken-unmade}
 use Rattle.event_log.proofs.TakenEvents.{taken-few, taken-long, taken-meant, taken-processors}
@@ -32,9 +32,9 @@ returns-in-Err-clause-refused g c =
     let unmade = subst (λ events. IsUnmadeFor c.args.how.limit c.args.how.spread c.len-n.result events c.args.how.clock why) c.as_slice-2.ensures.value c.in-Err.ensures.refused in
     left-unmade c.args.how.drop_lost c.args.how.merge c.args.how.limit c.args.how.spread
     (cow_slice_items c.args.text) log.nodes log.events.items left.events.items left.places.items
-    (parts_seen left.parts) c.args.how.clock why c.told_again.result c.in_ok-left.ensures.taken
+    left.parts c.args.how.clock why c.told_again.result c.in_ok-left.ensures.taken
     (subst (λ n. IsUnmadeFor c.args.how.limit c.args.how.spread n left.events.items c.args.how.clock why) (c.len-n.ensures ∙ ap (λ (ns : List (List ℕ)). length ns) c.in_ok-left.ensures.nodes) unmade)
-    (subst (λ text. IsPlacedErrorUnlessMemory text log.nodes log.events.items left.events.items left.places.items (parts_seen left.parts) why c.told_again.result) c.deref.ensures.value
+    (subst (λ text. IsPlacedErrorUnlessMemory text log.nodes log.events.items left.events.items left.places.items left.parts why c.told_again.result) c.deref.ensures.value
     (c.told_again.ensures log.nodes log.events.items (subst (λ t. IsAlignedLogOf c.args.options.now t log.nodes log.events.items) (sym c.deref.ensures.value) c.requires.given)))
 
 pub returns-clause-made : goal.returns-clause-made
@@ -58,7 +58,7 @@ returns-clause-made g c =
       is = record {
         left = left.events.items;
         left_at = Some left.places.items;
-        parts = parts_seen left.parts;
+        parts = left.parts;
         are_left = c.in_ok-left.ensures.taken;
         moved = made.moved;
         made = subst (λ n. IsMadeBy limit spread n left.events.items clock made.trace made.moved made.idle) nodes c.in_ok-made.ensures.trace;
@@ -72,7 +72,7 @@ returns-clause-made g c =
       };
       so_many = c.len-logged.ensures ∙ sym c.as_slice.ensures.len ∙ ap length c.as_slice.ensures.value;
       at = refl;
-      parts_are = refl;
+      parts_are = λ told. c.parts_for.ensures told ∙ c.take.ensures.value;
       begins = to_z-of_z w128 c.least_time-first.result fits ∙ c.least_time-first.ensures ∙ ap least_time c.as_slice.ensures.value;
       placed = subst (λ n. ArePlacedBy limit spread n left.events.items clock c.trace_of_passed.new.events.items made.places.items) nodes c.in_ok-made.ensures.places;
     })
@@ -80,7 +80,7 @@ returns-clause-made g c =
 pub least_time-first-requires : goal.least_time-first-requires
 least_time-first-requires g c =
     let left = c.in_ok-left.left in
-    let long = taken-long c.args.how.drop_lost c.args.how.merge c.args.aligned.log.events.items left.events.items c.args.how.clock left.places.items (parts_seen left.parts) c.in_ok-left.ensures.taken in
+    let long = taken-long c.args.how.drop_lost c.args.how.merge c.args.aligned.log.events.items left.events.items c.args.how.clock left.places.items left.parts c.in_ok-left.ensures.taken in
     subst (λ events. 0 < length events) (sym c.as_slice.ensures.value) (subst (λ n. 0 < n) (sym long) c.in_ok-left.ensures.some)
 
 pub trace_of_passed-requires-clause-some : goal.trace_of_passed-requires-clause-some
@@ -88,47 +88,47 @@ trace_of_passed-requires-clause-some g c =
     let left = c.in_ok-left.left in
     subst (λ n. 0 < n)
     (sym (taken-long c.args.how.drop_lost c.args.how.merge c.args.aligned.log.events.items left.events.items c.args.how.clock
-    left.places.items (parts_seen left.parts) c.in_ok-left.ensures.taken)) c.in_ok-left.ensures.some
+    left.places.items left.parts c.in_ok-left.ensures.taken)) c.in_ok-left.ensures.some
 
 pub trace_of_passed-requires-clause-few : goal.trace_of_passed-requires-clause-few
 trace_of_passed-requires-clause-few g c =
     let left = c.in_ok-left.left in
-    taken-few c.args.aligned.log c.requires.sound c.args.how.drop_lost c.args.how.merge c.args.how.clock left.events.items (Some left.places.items) (parts_seen left.parts) c.in_ok-left.ensures.taken
+    taken-few c.args.aligned.log c.requires.sound c.args.how.drop_lost c.args.how.merge c.args.how.clock left.events.items (Some left.places.items) left.parts c.in_ok-left.ensures.taken
 
 pub trace_of_passed-requires-clause-meant : goal.trace_of_passed-requires-clause-meant
 trace_of_passed-requires-clause-meant g c =
     let left = c.in_ok-left.left in
     subst (λ n. AreMeant left.events.items n) (sym (c.len-n.ensures ∙ ap (λ (ns : List (List ℕ)). length ns) c.in_ok-left.ensures.nodes))
-    (taken-meant c.args.aligned.log c.requires.sound c.args.how.drop_lost c.args.how.merge c.args.how.clock left.events.items (Some left.places.items) (parts_seen left.parts) c.in_ok-left.ensures.taken)
+    (taken-meant c.args.aligned.log c.requires.sound c.args.how.drop_lost c.args.how.merge c.args.how.clock left.events.items (Some left.places.items) left.parts c.in_ok-left.ensures.taken)
 
 pub passed_events-requires-clause-some : goal.passed_events-requires-clause-some
 passed_events-requires-clause-some g c =
     let left = c.in_ok-left.left in
-    let long = taken-long c.args.how.drop_lost c.args.how.merge c.args.aligned.log.events.items left.events.items c.args.how.clock left.places.items (parts_seen left.parts) c.in_ok-left.ensures.taken in
+    let long = taken-long c.args.how.drop_lost c.args.how.merge c.args.aligned.log.events.items left.events.items c.args.how.clock left.places.items left.parts c.in_ok-left.ensures.taken in
     subst (λ events. 0 < length events) (sym c.as_slice-2.ensures.value) (subst (λ n. 0 < n) (sym long) c.in_ok-left.ensures.some)
 
 pub passed_events-requires-clause-few : goal.passed_events-requires-clause-few
 passed_events-requires-clause-few g c =
     let left = c.in_ok-left.left in
     subst (λ events. length events ≤ MAX_STEPS) (sym c.as_slice-2.ensures.value)
-    (taken-few c.args.aligned.log c.requires.sound c.args.how.drop_lost c.args.how.merge c.args.how.clock left.events.items (Some left.places.items) (parts_seen left.parts) c.in_ok-left.ensures.taken)
+    (taken-few c.args.aligned.log c.requires.sound c.args.how.drop_lost c.args.how.merge c.args.how.clock left.events.items (Some left.places.items) left.parts c.in_ok-left.ensures.taken)
 
 pub passed_events-requires-clause-meant : goal.passed_events-requires-clause-meant
 passed_events-requires-clause-meant g c =
     let left = c.in_ok-left.left in
     subst (λ events. AreMeant events c.len-n.result) (sym c.as_slice-2.ensures.value)
     (subst (λ n. AreMeant left.events.items n) (sym (c.len-n.ensures ∙ ap (λ (ns : List (List ℕ)). length ns) c.in_ok-left.ensures.nodes))
-    (taken-meant c.args.aligned.log c.requires.sound c.args.how.drop_lost c.args.how.merge c.args.how.clock left.events.items (Some left.places.items) (parts_seen left.parts) c.in_ok-left.ensures.taken))
+    (taken-meant c.args.aligned.log c.requires.sound c.args.how.drop_lost c.args.how.merge c.args.how.clock left.events.items (Some left.places.items) left.parts c.in_ok-left.ensures.taken))
 
 pub told_again-requires-clause-few : goal.told_again-requires-clause-few
 told_again-requires-clause-few g c =
     let left = c.in_ok-left.left in
-    taken-few c.args.aligned.log c.requires.sound c.args.how.drop_lost c.args.how.merge c.args.how.clock left.events.items (Some left.places.items) (parts_seen left.parts) c.in_ok-left.ensures.taken
+    taken-few c.args.aligned.log c.requires.sound c.args.how.drop_lost c.args.how.merge c.args.how.clock left.events.items (Some left.places.items) left.parts c.in_ok-left.ensures.taken
 
 pub told_again-requires-clause-processors : goal.told_again-requires-clause-processors
 told_again-requires-clause-processors g c =
     let left = c.in_ok-left.left in
-    taken-processors c.args.aligned.log c.requires.sound c.args.how.drop_lost c.args.how.merge c.args.how.clock left.events.items (Some left.places.items) (parts_seen left.parts) c.in_ok-left.ensures.taken
+    taken-processors c.args.aligned.log c.requires.sound c.args.how.drop_lost c.args.how.merge c.args.how.clock left.events.items (Some left.places.items) left.parts c.in_ok-left.ensures.taken
 
 pub told_again-requires-clause-behind : goal.told_again-requires-clause-behind
 told_again-requires-clause-behind g c =

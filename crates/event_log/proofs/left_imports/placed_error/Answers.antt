@@ -4,7 +4,7 @@ use Rattle.timed_events.specs.declared.events.EventError.{EventError}
 use Rattle.timed_events.specs.Checks.{AreOfProcessors}
 use Rattle.event_log.specs.declared.reading.TheConstants.{MAX_EVENTS}
 use Rattle.event_log.specs.Imports.{IsErrorUnlessMemory, event_place, reason_in}
-use Rattle.event_log.specs.MergedLogs.{ArePartsWithin, parts_seen}
+use Rattle.event_log.specs.MergedLogs.{ArePartsWithin}
 use Rattle.event_log.proofs.PlacedErrors.{no-cycle, reason-within}
 use Rattle.event_log.proofs.TakenEvents.{within-parts}
 use Rattle.event_log.proofs.UnmadeLogs.{few-events, processors-events}
@@ -17,11 +17,11 @@ pub error_of-requires-clause-place : goal.error_of-requires-clause-place
 error_of-requires-clause-place c =
     let left = c.args.left.now in
     let events = c.args.log.now.events.items in
-    let why : c.reason_in-why.result ≡ reason_in events left.places.items (parts_seen left.parts) c.args.why =
-    c.reason_in-why.ensures ∙ ap (λ (es : List Event). reason_in es c.deref.result.now (parts_seen left.parts) c.args.why) c.as_slice.ensures.value
-    ∙ ap (λ (ps : List ℕ). reason_in events ps (parts_seen left.parts) c.args.why) c.deref.ensures.value in
+    let why : c.reason_in-why.result ≡ reason_in events left.places.items left.parts c.args.why =
+    c.reason_in-why.ensures ∙ ap (λ (es : List Event). reason_in es c.deref.result.now left.parts c.args.why) c.as_slice.ensures.value
+    ∙ ap (λ (ps : List ℕ). reason_in events ps left.parts c.args.why) c.deref.ensures.value in
     subst (λ (why : EventError). event_place why < MAX_EVENTS) (sym why)
-    (reason-within left.places.items c.requires.within events (few-events c.args.log.now c.requires.sound) (parts_seen left.parts) (within-parts left.parts (length events) c.requires.parts) c.args.why)
+    (reason-within left.places.items c.requires.within events (few-events c.args.log.now c.requires.sound) left.parts (within-parts left.parts (length events) c.requires.parts) c.args.why)
 
 pub error_of-requires-clause-few : goal.error_of-requires-clause-few
 error_of-requires-clause-few c = subst (λ (events : List Event). length events ≤ MAX_EVENTS) (sym c.as_slice-2.ensures.value) (few-events c.args.log.now c.requires.sound)
@@ -30,15 +30,15 @@ pub error_of-requires-clause-processors : goal.error_of-requires-clause-processo
 error_of-requires-clause-processors c = subst AreOfProcessors (sym c.as_slice-2.ensures.value) (processors-events c.args.log.now c.requires.sound)
 
 pub error_of-requires-clause-behind : goal.error_of-requires-clause-behind
-error_of-requires-clause-behind c = λ i e. absurd (no-cycle c.as_slice.result.now c.deref.result.now (parts_seen c.args.left.now.parts) c.args.why c.requires.other i (sym c.reason_in-why.ensures ∙ e))
+error_of-requires-clause-behind c = λ i e. absurd (no-cycle c.as_slice.result.now c.deref.result.now c.args.left.now.parts c.args.why c.requires.other i (sym c.reason_in-why.ensures ∙ e))
 
 pub returns : goal.returns
 returns c =
     let left = c.args.left.now in
     let log = c.args.log.now in
     let events = log.events.items in
-    let why : c.reason_in-why.result ≡ reason_in events left.places.items (parts_seen left.parts) c.args.why =
-    c.reason_in-why.ensures ∙ ap (λ (es : List Event). reason_in es c.deref.result.now (parts_seen left.parts) c.args.why) c.as_slice.ensures.value
-    ∙ ap (λ (ps : List ℕ). reason_in events ps (parts_seen left.parts) c.args.why) c.deref.ensures.value in
-    subst (λ (es : List Event). IsErrorUnlessMemory c.args.text.now log.nodes es (reason_in events left.places.items (parts_seen left.parts) c.args.why) c.error_of.result) c.as_slice-2.ensures.value
+    let why : c.reason_in-why.result ≡ reason_in events left.places.items left.parts c.args.why =
+    c.reason_in-why.ensures ∙ ap (λ (es : List Event). reason_in es c.deref.result.now left.parts c.args.why) c.as_slice.ensures.value
+    ∙ ap (λ (ps : List ℕ). reason_in events ps left.parts c.args.why) c.deref.ensures.value in
+    subst (λ (es : List Event). IsErrorUnlessMemory c.args.text.now log.nodes es (reason_in events left.places.items left.parts c.args.why) c.error_of.result) c.as_slice-2.ensures.value
     (subst (λ (w : EventError). IsErrorUnlessMemory c.args.text.now log.nodes c.as_slice-2.result.now w c.error_of.result) why c.error_of.ensures)

@@ -4,7 +4,6 @@ use Rattle.std.proofs.lemmas.List.{flat_map_more}
 use Rattle.csv.specs.Writing.{row_text}
 use Rattle.timed_events.proofs.CausalWalks.{range-more}
 use Rattle.trace_text.specs.RecordWriting.{our_writer}
-use Rattle.event_log.specs.MergedLogs.{parts_seen}
 use Rattle.event_log.specs.StepTables.{record_of_step, table_header}
 use Rattle.event_log.proofs.step_tables.table_of.Goals as goal
 
@@ -17,7 +16,7 @@ loop-k-preserved c =
     let p = c.args.placed.now in
     let f : ℕ → List ℕ = λ k. row_text our_writer
     (record_of_step c.in_ok-messages.messages.items p.import.nodes p.events.items p.logged p.left_at
-    (parts_seen p.parts) p.first p.clock.width p.import.trace.ticks p.places.items k) in
+    p.parts p.first p.clock.width p.import.trace.ticks p.places.items k) in
     let header = row_text our_writer table_header in
     let rows = flat_map f (range_with_len 0 c.loop-k.k) in
     record {

@@ -2,7 +2,6 @@ use Rattle.std.proofs.Common.{ℕ, ◌≡◌, ◌∙◌, ◌<◌, ◌⊎◌, Boo
 use Rattle.std.specs.Prelude.{IfErr, MatchBool, ⊤}
 use Rattle.std.proofs.lemmas.Result.{err_from_is_err_and}
 use Rattle.event_log.specs.Imports.{AreLeftBy, AreTaken, IsEmptied, IsUnmergedOf, kept_count}
-use Rattle.event_log.specs.MergedLogs.{parts_seen}
 use Rattle.event_log.specs.Naming.{is_memory}
 use Rattle.event_log.proofs.LeftEvents.{few-left, left-long, processors-left}
 use Rattle.event_log.proofs.Outcomes.{err-weaker, ok-both}
@@ -18,11 +17,11 @@ returns-then-not-drop-clause-taken c =
     let at = c.all.result in
     let r = c.merged_in-then-not-drop.result in
     let are : AreLeftBy false events slice at = (refl, c.all.ensures) in
-    let taken : IfOk r (λ t. AreTaken false true events c.args.clock.now t.events.items (Some t.places.items) (parts_seen t.parts)) =
+    let taken : IfOk r (λ t. AreTaken false true events c.args.clock.now t.events.items (Some t.places.items) t.parts) =
     ok-both r _ _ _ (λ t m n. merged-taken false events slice t.events.items c.args.clock.now at t.places.items
-    (parts_seen t.parts) are m) c.merged_in-then-not-drop.ensures.merged c.merged_in-then-not-drop.ensures.merged in
-    subst (λ (d : Bool). IfOk r (λ t. AreTaken d c.args.merge events c.args.clock.now t.events.items (Some t.places.items) (parts_seen t.parts))) (sym c.if-not-drop.true)
-    (subst (λ (j : Bool). IfOk r (λ t. AreTaken false j events c.args.clock.now t.events.items (Some t.places.items) (parts_seen t.parts))) (sym (c.requires.asked c.if-not-drop.true)) taken)
+    t.parts are m) c.merged_in-then-not-drop.ensures.merged c.merged_in-then-not-drop.ensures.merged in
+    subst (λ (d : Bool). IfOk r (λ t. AreTaken d c.args.merge events c.args.clock.now t.events.items (Some t.places.items) t.parts)) (sym c.if-not-drop.true)
+    (subst (λ (j : Bool). IfOk r (λ t. AreTaken false j events c.args.clock.now t.events.items (Some t.places.items) t.parts)) (sym (c.requires.asked c.if-not-drop.true)) taken)
 
 pub returns-then-not-drop-clause-kept : goal.returns-then-not-drop-clause-kept
 returns-then-not-drop-clause-kept c =
@@ -42,7 +41,7 @@ returns-then-not-drop-clause-within c =
     let r = c.merged_in-then-not-drop.result in
     let are : AreLeftBy false events slice at = (refl, c.all.ensures) in
     ok-both r _ _ _ (λ t m n k l.
-    let b = merged-within slice t.events.items c.args.clock.now at t.places.items (parts_seen t.parts) m (length events) (kept-places false events slice at are) k l in
+    let b = merged-within slice t.events.items c.args.clock.now at t.places.items t.parts m (length events) (kept-places false events slice at are) k l in
     let few = few-events log c.requires.sound in
     omega (arith, b, few)) c.merged_in-then-not-drop.ensures.merged c.merged_in-then-not-drop.ensures.merged
 
@@ -55,7 +54,7 @@ returns-then-not-drop-clause-parts c =
     let r = c.merged_in-then-not-drop.result in
     let are : AreLeftBy false events slice at = (refl, c.all.ensures) in
     ok-both r _ _ _ (λ t m n. parts-within t.parts (length events)
-    (merged-parts slice t.events.items c.args.clock.now at t.places.items (parts_seen t.parts) m (length events)
+    (merged-parts slice t.events.items c.args.clock.now at t.places.items t.parts m (length events)
     (kept-places false events slice at are))) c.merged_in-then-not-drop.ensures.merged
     c.merged_in-then-not-drop.ensures.merged
 
@@ -67,7 +66,7 @@ returns-then-not-drop-clause-some c =
     let at = c.all.result in
     let r = c.merged_in-then-not-drop.result in
     let are : AreLeftBy false events slice at = (refl, c.all.ensures) in
-    ok-both r _ _ _ (λ t m n. merged-some slice t.events.items c.args.clock.now at t.places.items (parts_seen t.parts) m
+    ok-both r _ _ _ (λ t m n. merged-some slice t.events.items c.args.clock.now at t.places.items t.parts m
     (length events) (kept-places false events slice at are)) c.merged_in-then-not-drop.ensures.merged
     c.merged_in-then-not-drop.ensures.merged
 
@@ -129,10 +128,10 @@ returns-clause-taken c =
     let r = c.merged_in-3.result in
     let are : AreLeftBy true events slice at =
     subst (λ (o : Option (List ℕ)). AreLeftBy true events slice o) (sym c.of.ensures) c.in_ok-kept.ensures.left in
-    let taken : IfOk r (λ t. AreTaken true true events c.args.clock.now t.events.items (Some t.places.items) (parts_seen t.parts)) =
-    ok-both r _ _ _ (λ t m n. merged-taken true events slice t.events.items c.args.clock.now at t.places.items (parts_seen t.parts) are m) c.merged_in-3.ensures.merged c.merged_in-3.ensures.merged in
-    subst (λ (d : Bool). IfOk r (λ t. AreTaken d c.args.merge events c.args.clock.now t.events.items (Some t.places.items) (parts_seen t.parts))) (sym c.if-not-drop.false)
-    (subst (λ (j : Bool). IfOk r (λ t. AreTaken true j events c.args.clock.now t.events.items (Some t.places.items) (parts_seen t.parts))) (sym c.if-not-merge.false) taken)
+    let taken : IfOk r (λ t. AreTaken true true events c.args.clock.now t.events.items (Some t.places.items) t.parts) =
+    ok-both r _ _ _ (λ t m n. merged-taken true events slice t.events.items c.args.clock.now at t.places.items t.parts are m) c.merged_in-3.ensures.merged c.merged_in-3.ensures.merged in
+    subst (λ (d : Bool). IfOk r (λ t. AreTaken d c.args.merge events c.args.clock.now t.events.items (Some t.places.items) t.parts)) (sym c.if-not-drop.false)
+    (subst (λ (j : Bool). IfOk r (λ t. AreTaken true j events c.args.clock.now t.events.items (Some t.places.items) t.parts)) (sym c.if-not-merge.false) taken)
 
 pub returns-clause-kept : goal.returns-clause-kept
 returns-clause-kept c =
@@ -156,7 +155,7 @@ returns-clause-within c =
     let are : AreLeftBy true events slice at =
     subst (λ (o : Option (List ℕ)). AreLeftBy true events slice o) (sym c.of.ensures) c.in_ok-kept.ensures.left in
     ok-both r _ _ _ (λ t m n k l.
-    let b = merged-within slice t.events.items c.args.clock.now at t.places.items (parts_seen t.parts) m (length events) (kept-places true events slice at are) k l in
+    let b = merged-within slice t.events.items c.args.clock.now at t.places.items t.parts m (length events) (kept-places true events slice at are) k l in
     let few = few-events log c.requires.sound in
     omega (arith, b, few)) c.merged_in-3.ensures.merged c.merged_in-3.ensures.merged
 
@@ -170,7 +169,7 @@ returns-clause-parts c =
     let are : AreLeftBy true events slice at =
     subst (λ (o : Option (List ℕ)). AreLeftBy true events slice o) (sym c.of.ensures) c.in_ok-kept.ensures.left in
     ok-both r _ _ _ (λ t m n. parts-within t.parts (length events)
-    (merged-parts slice t.events.items c.args.clock.now at t.places.items (parts_seen t.parts) m (length events)
+    (merged-parts slice t.events.items c.args.clock.now at t.places.items t.parts m (length events)
     (kept-places true events slice at are))) c.merged_in-3.ensures.merged c.merged_in-3.ensures.merged
 
 pub returns-clause-some : goal.returns-clause-some
@@ -182,7 +181,7 @@ returns-clause-some c =
     let r = c.merged_in-3.result in
     let are : AreLeftBy true events slice at =
     subst (λ (o : Option (List ℕ)). AreLeftBy true events slice o) (sym c.of.ensures) c.in_ok-kept.ensures.left in
-    ok-both r _ _ _ (λ t m n. merged-some slice t.events.items c.args.clock.now at t.places.items (parts_seen t.parts) m
+    ok-both r _ _ _ (λ t m n. merged-some slice t.events.items c.args.clock.now at t.places.items t.parts m
     (length events) (kept-places true events slice at are)) c.merged_in-3.ensures.merged
     c.merged_in-3.ensures.merged
 

@@ -5,7 +5,7 @@ use Rattle.timed_events.specs.declared.idle_traces.IdleError.TheVariants as fill
 use Rattle.timed_events.specs.Checks.{AreMeant}
 use Rattle.event_log.specs.declared.reading.TheConstants.{MAX_EVENTS}
 use Rattle.event_log.specs.Imports.{IsUnmadeUnlessMemory}
-use Rattle.event_log.specs.MergedLogs.{ArePartsWithin, parts_seen}
+use Rattle.event_log.specs.MergedLogs.{ArePartsWithin}
 use Rattle.event_log.proofs.OneLog.{aligned-log-once}
 use Rattle.timed_events.specs.declared.events.Event.{Event}
 use Rattle.event_log.specs.TickRows.{IsRowRefusal, clock_of}
@@ -27,31 +27,31 @@ tick_rows-requires-clause-most c = let few = c.requires.sound.few_nodes in let n
 pub tick_rows-requires-clause-some : goal.tick_rows-requires-clause-some
 tick_rows-requires-clause-some c =
     let left = c.in_ok-left.left in
-    let long = taken-long true false c.args.log.events.items left.events.items c.clock_of-clock.result left.places.items (parts_seen left.parts) c.in_ok-left.ensures.taken in
+    let long = taken-long true false c.args.log.events.items left.events.items c.clock_of-clock.result left.places.items left.parts c.in_ok-left.ensures.taken in
     subst (λ events. 0 < length events) (sym c.as_slice.ensures.value) (subst (λ n. 0 < n) (sym long) c.in_ok-left.ensures.some)
 
 pub tick_rows-requires-clause-few : goal.tick_rows-requires-clause-few
 tick_rows-requires-clause-few c =
     let left = c.in_ok-left.left in
     subst (λ events. length events ≤ MAX_EVENTS) (sym c.as_slice.ensures.value)
-    (taken-few c.args.log c.requires.sound true false c.clock_of-clock.result left.events.items (Some left.places.items) (parts_seen left.parts) c.in_ok-left.ensures.taken)
+    (taken-few c.args.log c.requires.sound true false c.clock_of-clock.result left.events.items (Some left.places.items) left.parts c.in_ok-left.ensures.taken)
 
 pub tick_rows-requires-clause-meant : goal.tick_rows-requires-clause-meant
 tick_rows-requires-clause-meant c =
     let left = c.in_ok-left.left in
     subst (λ n. AreMeant c.as_slice.result.now n) (sym (c.len-n.ensures ∙ ap (λ (ns : List (List ℕ)). length ns) c.in_ok-left.ensures.nodes))
     (subst (λ events. AreMeant events (length c.args.log.nodes)) (sym c.as_slice.ensures.value)
-    (taken-meant c.args.log c.requires.sound true false c.clock_of-clock.result left.events.items (Some left.places.items) (parts_seen left.parts) c.in_ok-left.ensures.taken))
+    (taken-meant c.args.log c.requires.sound true false c.clock_of-clock.result left.events.items (Some left.places.items) left.parts c.in_ok-left.ensures.taken))
 
 pub told_again-requires-clause-few : goal.told_again-requires-clause-few
 told_again-requires-clause-few c =
     let left = c.in_ok-left.left in
-    taken-few c.args.log c.requires.sound true false c.clock_of-clock.result left.events.items (Some left.places.items) (parts_seen left.parts) c.in_ok-left.ensures.taken
+    taken-few c.args.log c.requires.sound true false c.clock_of-clock.result left.events.items (Some left.places.items) left.parts c.in_ok-left.ensures.taken
 
 pub told_again-requires-clause-processors : goal.told_again-requires-clause-processors
 told_again-requires-clause-processors c =
     let left = c.in_ok-left.left in
-    taken-processors c.args.log c.requires.sound true false c.clock_of-clock.result left.events.items (Some left.places.items) (parts_seen left.parts) c.in_ok-left.ensures.taken
+    taken-processors c.args.log c.requires.sound true false c.clock_of-clock.result left.events.items (Some left.places.items) left.parts c.in_ok-left.ensures.taken
 
 pub told_again-requires-clause-behind : goal.told_again-requires-clause-behind
 told_again-requires-clause-behind c = λ i e.
@@ -74,7 +74,7 @@ pub returns-in-Ok-clause-rows : goal.returns-in-Ok-clause-rows
 returns-in-Ok-clause-rows c =
     let log = c.args.log in
     let left = c.in_ok-left.left in
-    let kept = taken-kept log.events.items left.events.items c.clock_of-clock.result left.places.items (parts_seen left.parts) c.in_ok-left.ensures.taken in
+    let kept = taken-kept log.events.items left.events.items c.clock_of-clock.result left.places.items left.parts c.in_ok-left.ensures.taken in
     log-rows true log.kind (length log.nodes) c.len-n.result log.events.items left.events.items c.as_slice.result.now kept.0 c.args.until c.in-Ok.rows.items
     (c.len-n.ensures ∙ ap (λ (ns : List (List ℕ)). length ns) c.in_ok-left.ensures.nodes) c.as_slice.ensures.value kept.1 c.in-Ok.ensures.widths c.in-Ok.ensures.each
 
@@ -82,7 +82,7 @@ pub returns-clause-refused : goal.returns-clause-refused
 returns-clause-refused c =
     let log = c.args.log in
     let left = c.in_ok-left.left in
-    left-refused c.args.text.now log.nodes log.events.items left.events.items c.as_slice.result.now left.places.items (parts_seen left.parts) log.kind c.args.until c.clock_of-clock.result c.in-Err.why c.told_again.result
+    left-refused c.args.text.now log.nodes log.events.items left.events.items c.as_slice.result.now left.places.items left.parts log.kind c.args.until c.clock_of-clock.result c.in-Err.why c.told_again.result
     c.as_slice.ensures.value c.in_ok-left.ensures.taken c.in-Err.ensures.refused (c.told_again.ensures log.nodes log.events.items c.requires.given)
 
 pub told_again-requires-clause-parts : goal.told_again-requires-clause-parts

@@ -1,6 +1,7 @@
 use Rattle.std.proofs.Common.{ℕ, ◌≡◌, ◌∙◌, ◌<◌, List, length, sym, ap, ap₂, subst, arith}
 use Rattle.timed_events.specs.Causes.{IsTimeOrder}
 use Rattle.timed_events.specs.Times.{time_ticks}
+use Rattle.timed_events.proofs.SortedEvents.{places-inside}
 use Rattle.timed_events.proofs.TimeOrders.{inside-order}
 use Rattle.merged_receives.specs.Merges.{parts_of}
 use Rattle.merged_receives.specs.MergeWalks.{AreHeadsOf, AreParts, AreRising, own_parts, places_before}
@@ -13,6 +14,14 @@ heads_of-requires-clause-rising c =
     let order = c.deref-2.result.now in
     let o = subst (λ (xs : List ℕ). IsTimeOrder events xs) (sym c.deref-2.ensures.value) c.in_ok-order.ensures in
     subst (λ (ticks : List ℕ). AreRising ticks order) (sym (c.deref.ensures.value ∙ c.in_ok-ticks.ensures)) (rising-ticks events c.args.clock.now order c.requires.width o)
+
+pub parts_of-requires-clause-few : goal.parts_of-requires-clause-few
+parts_of-requires-clause-few c =
+    let events = c.args.events.now in
+    let all = (places-inside (length events) c.in_ok-order.order.items c.in_ok-order.ensures.places).0 in
+    let same = ap (λ (xs : List ℕ). length xs) c.deref-4.ensures.value in
+    let few = c.requires.few in
+    omega (arith, all, same, few)
 
 pub parts_of-requires-clause-order : goal.parts_of-requires-clause-order
 parts_of-requires-clause-order c = λ k l.
@@ -54,6 +63,6 @@ returns-clause-some c =
     let heads = c.in_ok-heads.heads.items in
     let order = c.in_ok-order.order.items in
     let w : AreHeadsOf events ticks heads = subst (λ (ts : List ℕ). AreHeadsOf events ts heads) (c.deref.ensures.value ∙ c.in_ok-ticks.ensures) c.in_ok-heads.ensures in
-    let are : c.in_ok-parts.parts.items ≡ parts_of events ticks order =
+    let are : c.in_ok-parts.parts ≡ parts_of events ticks order =
     c.in_ok-parts.ensures ∙ ap₂ (λ (hs os : List ℕ). own_parts hs os) c.deref-3.ensures.value c.deref-4.ensures.value ∙ parts-are events ticks heads w order c.in_ok-order.ensures in
     subst (λ (ps : List (List ℕ)). 0 < length ps) (sym are) (some-stays events ticks heads order w c.requires.some)

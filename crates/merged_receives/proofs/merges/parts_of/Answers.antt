@@ -1,26 +1,33 @@
-use Rattle.std.proofs.Common.{◌≡◌, ◌∙◌, length, refl, ap, arith, rules}
+use Rattle.std.proofs.Common.{ℕ, ◌≡◌, ◌∙◌, List, length, take, ap, arith}
 use Rattle.std.specs.Prelude.{slice_index}
-use Rattle.std.proofs.lemmas.Fn.{filter_same}
+use Rattle.std.specs.List.{sum}
 use Rattle.std.proofs.lemmas.List.{with_items_is}
-use Rattle.merged_receives.proofs.OwnParts.{parts-all, parts-start, parts-step}
+use Rattle.merged_receives.specs.HeadSizes.{ends_from, head_sizes}
+use Rattle.merged_receives.specs.Pieces.{pieces}
+use Rattle.merged_receives.proofs.HeadSizes.{laid-parts, sizes-long}
 use Rattle.merged_receives.proofs.merges.parts_of.Goals as goal
 
-pub loop-place-init : goal.loop-place-init
-loop-place-init c = parts-start c.args.heads.now c.args.order.now c.in_ok-parts.parts.items c.in_ok-parts.ensures.long c.in_ok-parts.ensures.empty
+pub places_by_head-requires-clause-long : goal.places_by_head-requires-clause-long
+places_by_head-requires-clause-long c =
+    c.deref_mut-2.ensures.len
+    ∙ c.in_ok-sizes.sizes.ok.0
+    ∙ ap (λ (ns : List ℕ). length ns) c.in_ok-sizes.ensures.sizes
+    ∙ sizes-long c.args.heads.now c.args.order.now
 
-pub loop-place-preserved : goal.loop-place-preserved
-loop-place-preserved c =
-    let heads = c.args.heads.now in
-    let order = c.args.order.now in
-    let k = c.loop-place.place-index in
-    let l = c.loop-place-test.true in
-    let kept : length c.put.new.parts ≡ c.loop-place.parts.len = omega arith in
-    rw (with_items_is c.loop-place.parts c.put.new.parts kept, c.in_ok-put.ensures, c.deref_mut.ensures.value)
-    (parts-step heads order k c.loop-place.parts.items (slice_index order k)
-    (slice_index heads (slice_index order k)) l refl refl
-    (c.requires.heads (slice_index order k) (c.requires.order k l)) c.loop-place.invariant)
+pub places_by_head-requires-clause-begins : goal.places_by_head-requires-clause-begins
+places_by_head-requires-clause-begins c = λ h l.
+    let sizes = c.in_ok-sizes.sizes in
+    let begins = c.put_begins.new.sizes in
+    let are : c.deref_mut.result.now ≡ head_sizes c.args.heads.now c.args.order.now = c.deref_mut.ensures.value ∙ c.in_ok-sizes.ensures.sizes in
+    let kept : length begins ≡ sizes.len = c.put_begins.auto.sizes ∙ c.deref_mut.ensures.len in
+    let count = ap (λ (ns : List ℕ). length ns) are ∙ sizes-long c.args.heads.now c.args.order.now in
+    ap (λ (ns : List ℕ). slice_index ns h) (c.deref_mut-2.ensures.value ∙ with_items_is sizes begins kept)
+    ∙ c.put_begins.ensures h (omega (arith, l, count))
+    ∙ ap (λ (ns : List ℕ). sum (take h ns)) are
 
 pub returns : goal.returns
 returns c =
-    filter_same _ _ _ (λ x b f' k. search rules) _ _ c.retain.ensures.filtered
-    ∙ parts-all c.args.heads.now c.args.order.now c.loop-place.place-index c.loop-place.parts.items c.loop-place-test.false c.loop-place.invariant
+    let places = c.in_ok-places.places.items in
+    c.new.ensures
+    ∙ ap (λ (ends : List ℕ). pieces 0 ends places) (c.in_ok-ends.ensures ∙ ap (λ (ns : List ℕ). ends_from 0 ns) (c.deref.ensures.value ∙ c.in_ok-sizes.ensures.sizes))
+    ∙ laid-parts c.args.heads.now c.args.order.now places c.in_ok-places.ensures
