@@ -287,8 +287,9 @@ the trace would have more than 1000000 ticks have none:
   most   by how many ticks at most
 
 Example, at the top of the repository:
-  ./synchrony import examples/heartbeats.log --tick 5 >heartbeats.trace
-tells on standard error
+  ./synchrony import examples/heartbeats.log --nodes a,b,c,d --tick 5 >run.trace
+makes the trace examples/heartbeats.trace. Without --nodes the trace numbers the
+nodes as the log names them, and standard error tells
   synchrony: processor 1 is a
   synchrony: processor 2 is b
   synchrony: processor 3 is d
