@@ -14,7 +14,7 @@ use Rattle.command_faults.specs.declared.faults.ListedField.{ListedField}
 use Rattle.command_faults.specs.declared.faults.ListedField.TheVariants as field
 use Rattle.command_faults.specs.Hints.{certificate_hint, decisions_hint, due_hint, file_hint, formula_hint}
 use Rattle.command_faults.specs.Hints.{listed_hint, picture_hint, run_list_hint, table_hint, trace_hint}
-use Rattle.command_faults.specs.LogFaultLines.{help_line, import_option_words, length_hint, log_lead}
+use Rattle.command_faults.specs.LogFaultLines.{help_line, import_hint, import_option_words, length_hint, log_lead}
 use Rattle.command_faults.specs.OutsideLines.{member_line, report_option_words, set_option_words, tick_line}
 
 -- an option of a picture, as the command line has it
@@ -56,7 +56,7 @@ fault_line fault.Threads = codes "synchrony: worker not started or held"
 fault_line (fault.Picture option) = codes "synchrony: bad " ++ (option_words option ++ picture_hint option)
 fault_line (fault.Report option o) = codes "synchrony: bad " ++ (report_option_words option ++ tick_line option o)
 fault_line (fault.Log reason) = codes "synchrony: " ++ (log_lead reason ++ (log_error_text reason ++ help_line reason))
-fault_line (fault.Import option) = codes "synchrony: bad " ++ import_option_words option
+fault_line (fault.Import option) = codes "synchrony: bad " ++ (import_option_words option ++ import_hint option)
 fault_line (fault.Length option given) = codes "synchrony: bad "
     ++ (import_option_words option ++ length_hint option (string_bytes given))
 

@@ -51,14 +51,30 @@ certificate_hint uncertified.BadHeader =
     hint (codes "a certificate begins with gst,delta,phi,sent,missed,proc,from,to; the trace comes before it")
 certificate_hint e = []
 
--- likewise of decisions
+-- what a record of decisions has
+abbrev pub decision_hint : List ℕ
+decision_hint = hint
+    (codes "a record is a processor, a tick and a value, all of them whole numbers; record 1 is the one after the header")
+
+-- of what its processor and its tick are
+abbrev pub of_trace_hint : List ℕ
+of_trace_hint =
+    hint (codes "the processor and the tick are some of the trace; record 1 is the one after the header")
+
+-- what decisions begin with, for a text that doesn't begin as one, and what is wrong in a record
 abbrev pub decisions_hint : DecisionsError → List ℕ
 decisions_hint undecided.BadHeader = hint (codes "decisions begin with proc,tick,value; the trace comes before them")
+decisions_hint (undecided.BadFields number) = decision_hint
+decisions_hint (undecided.BadNumber number) = decision_hint
+decisions_hint (undecided.BadProcessor number) = of_trace_hint
+decisions_hint (undecided.BadTick number) = of_trace_hint
 decisions_hint e = []
 
--- likewise of a list of runs
+-- likewise of a list of runs, and what a record has
 abbrev pub run_list_hint : RunListError → List ℕ
 run_list_hint unlisted.BadHeader = hint (codes "a list of runs begins with trace,decisions,correct,start")
+run_list_hint (unlisted.BadFields number) =
+    hint (codes "a record has four fields, and quotes around one with commas, as \"1,2\"; record 1 is the one after the header")
 run_list_hint e = []
 
 -- where the table of a trace comes from
@@ -78,7 +94,9 @@ listed_hint field.Start = hint (codes "start takes a tick, or nothing")
 -- why a text is no formula: what is at which operand, counted from 1
 abbrev pub formula_hint : BadFormula → List ℕ
 formula_hint (unread.Operand operand) =
-    hint (codes "operand " ++ (decimal operand ++ codes " of the formula is no number and none of delta, phi, n, t"))
+    hint (codes "operand "
+    ++ (decimal operand
+    ++ codes " of the formula is no number and none of delta, phi, n, t; the signs are +, *, / and parentheses, and max(A, B) is the greatest"))
 formula_hint (unread.Divisor operand) =
     hint
     (codes "operand "
@@ -97,7 +115,12 @@ due_words (SendFirst to) = codes "send to processor " ++ (decimal to ++ codes " 
 due_words Receive = codes "receive: it had nothing left to send in its round"
 
 abbrev pub due_hint : Option Due → List ℕ
-due_hint (Some due) = hint (codes "processor " ++ (decimal due.proc ++ (codes " had to " ++ due_words due.what)))
+due_hint (Some due) = hint
+    (codes "processor "
+    ++ (decimal due.proc
+    ++ (codes " had to "
+    ++ (due_words due.what
+    ++ hint (codes "a run is a trace that run or simulate printed; judge takes what another system decided as DECISIONS")))))
 due_hint None = []
 
 -- how many names there are
@@ -118,7 +141,7 @@ picture_hint (option.BadName place) = hint
 picture_hint (option.SameName place) =
     hint (codes "name " ++ (decimal place ++ codes " of --names is the same as an earlier one"))
 picture_hint (option.NoLane place) =
-    hint (codes "lane " ++ (decimal place ++ codes " of --lanes is neither one of --names nor a number from 1 to 64"))
+    hint (codes "lane " ++ (decimal place ++ codes " of --lanes is neither a name, of --names or --table, nor a number from 1 to 64"))
 picture_hint (option.From from last) =
     hint (codes "--from is " ++ (decimal from ++ (codes ", and the trace has " ++ ticks_words last)))
 picture_hint (option.To to from) = hint

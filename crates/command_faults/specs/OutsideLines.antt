@@ -35,7 +35,14 @@ report_option_words report_option.Until = codes "--until"
 report_option_words report_option.At = codes "--at"
 report_option_words report_option.Start = codes "--start"
 
+-- whose ticks they are
+abbrev pub ticked_words : ReportOption → List ℕ
+ticked_words report_option.Until = codes "the trace"
+ticked_words report_option.At = codes "the report"
+ticked_words report_option.Start = codes "the trace"
+
 -- which tick is asked for, and which there are
 abbrev pub tick_line : ReportOption → TickOutside → List ℕ
 tick_line option o = hint (report_option_words option
-    ++ (codes " is " ++ (decimal o.tick ++ (codes ", and the trace has " ++ ticks_words o.last))))
+    ++ (codes " is "
+    ++ (decimal o.tick ++ (codes ", and " ++ (ticked_words option ++ (codes " has " ++ ticks_words o.last))))))

@@ -8,7 +8,7 @@ use crate::hints::{
     CertificateHint, DecisionsHint, DueHint, FileHint, FormulaHint, ListedHint, PictureHint,
     RunListHint, TableHint, TraceHint,
 };
-use crate::log_fault_lines::{HelpLine, LengthHint, LogLead};
+use crate::log_fault_lines::{HelpLine, ImportHint, LengthHint, LogLead};
 use crate::outside_lines::{MemberLine, TickLine};
 use std::alloc::{AllocError, Global};
 use std::fmt;
@@ -77,7 +77,7 @@ impl fmt::Display for Fault {
                 write!(f, "synchrony: bad {option}{}", TickLine(*option, outside))
             }
             Fault::Log(why) => write!(f, "synchrony: {}{why}{}", LogLead(why), HelpLine(why)),
-            Fault::Import(option) => write!(f, "synchrony: bad {option}"),
+            Fault::Import(option) => { write!(f, "synchrony: bad {option}{}", ImportHint(*option)) }
             Fault::Length(option, given) => {
                 let hint = LengthHint(*option, given.as_str());
                 write!(f, "synchrony: bad {option}{hint}")

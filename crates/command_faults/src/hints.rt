@@ -100,6 +100,12 @@ impl fmt::Display for DecisionsHint<'_> {
             DecisionsError::BadHeader => f.write_str(
                 "\nsynchrony: decisions begin with proc,tick,value; the trace comes before them",
             ),
+            DecisionsError::BadFields(_) | DecisionsError::BadNumber(_) => f.write_str(
+                "\nsynchrony: a record is a processor, a tick and a value, all of them whole numbers; record 1 is the one after the header",
+            ),
+            DecisionsError::BadProcessor(_) | DecisionsError::BadTick(_) => f.write_str(
+                "\nsynchrony: the processor and the tick are some of the trace; record 1 is the one after the header",
+            ),
             _ => f.write_str(""),
         }
     }
@@ -119,6 +125,9 @@ impl fmt::Display for RunListHint<'_> {
         match self.0 {
             RunListError::BadHeader => f.write_str(
                 "\nsynchrony: a list of runs begins with trace,decisions,correct,start",
+            ),
+            RunListError::BadFields(_) => f.write_str(
+                "\nsynchrony: a record has four fields, and quotes around one with commas, as \"1,2\"; record 1 is the one after the header",
             ),
             _ => f.write_str(""),
         }
@@ -183,7 +192,7 @@ impl fmt::Display for FormulaHint {
         match self.0 {
             BadFormula::Operand(operand) => write!(
                 f,
-                "\nsynchrony: operand {operand} of the formula is no number and none of delta, phi, n, t"
+                "\nsynchrony: operand {operand} of the formula is no number and none of delta, phi, n, t; the signs are +, *, / and parentheses, and max(A, B) is the greatest"
             ),
             BadFormula::Divisor(operand) => write!(
                 f,
@@ -215,7 +224,7 @@ impl fmt::Display for DueHint {
         match self.0 {
             Some(due) => write!(
                 f,
-                "\nsynchrony: processor {} had to {}",
+                "\nsynchrony: processor {} had to {}\nsynchrony: a run is a trace that run or simulate printed; judge takes what another system decided as DECISIONS",
                 due.proc,
                 DueWords(due.what)
             ),
@@ -274,7 +283,7 @@ impl fmt::Display for PictureHint {
             }
             PictureOption::NoLane(place) => write!(
                 f,
-                "\nsynchrony: lane {place} of --lanes is neither one of --names nor a number from 1 to 64"
+                "\nsynchrony: lane {place} of --lanes is neither a name, of --names or --table, nor a number from 1 to 64"
             ),
             PictureOption::From(from, last) => write!(
                 f,

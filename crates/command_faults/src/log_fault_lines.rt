@@ -40,6 +40,30 @@ impl fmt::Display for HelpLine<'_> {
 
     fn fmt<W: fmt::Write>(&self, f: &mut fmt::Formatter<W>) -> fmt::Result {
         match self.0 {
+            LogError::TooLarge | LogError::TooManyEvents => f.write_str(
+                "\nsynchrony: --from and --until read a window of a log of any length; a window has at most 67108864 bytes and 1000000 events",
+            ),
+            LogError::NoEvents => f.write_str(
+                "\nsynchrony: the log has a header alone, or no record in the window of --from and --until, or --drop-lost leaves all out",
+            ),
+            LogError::TooManyNodes(_) => {
+                f.write_str("\nsynchrony: a trace has at most 64 processors, one for each node")
+            }
+            LogError::TooFewNodes => f.write_str(
+                "\nsynchrony: a trace has at least 2 processors; --nodes also names nodes without events",
+            ),
+            LogError::SentBefore(..) => f.write_str(
+                "\nsynchrony: messages to one node have different names: number them",
+            ),
+            LogError::NeverSent(..) => f.write_str(
+                "\nsynchrony: no record sends it to any node; if the log begins in the middle of a run, --from with its first time leaves such messages out",
+            ),
+            LogError::TickUnfit | LogError::IdleUnfit => f.write_str(
+                "\nsynchrony: a duration fits only times of a known unit; --unit s, ms, us or ns says what whole numbers are",
+            ),
+            LogError::UntilUnfit => f.write_str(
+                "\nsynchrony: --until is a time like those of the log, and not before any of its events; a duration fits decimal seconds, and whole numbers with --unit",
+            ),
             LogError::TooManyTicks => f.write_str(
                 "\nsynchrony: a greater --tick makes fewer; --ticks lists those that fit",
             ),
@@ -57,7 +81,7 @@ impl fmt::Display for HelpLine<'_> {
             ),
             LogError::NoOffsets(lines) => write!(f, "{lines}"),
             LogError::NoColumn(_) => f.write_str(
-                "\nsynchrony: the first record names the columns, in any order, with commas between them: time,node,event,to,message",
+                "\nsynchrony: the first record names the columns, in any order, with commas and no spaces between them: time,node,event,to,message",
             ),
             LogError::BadFields(_) => {
                 f.write_str("\nsynchrony: each record has as many fields as the first")
@@ -70,10 +94,13 @@ impl fmt::Display for HelpLine<'_> {
                 "\nsynchrony: a time is a whole number, decimal seconds like 1700000000.123456, or a time stamp like 2026-11-22T10:00:00.250Z; all are of the kind of record 2's, and with --unit whole numbers",
             ),
             LogError::BadNode(_, None) => f.write_str(
-                "\nsynchrony: the name of a node is text with no control character or semicolon, and not empty",
+                "\nsynchrony: a send names a node in node and in to, a receive in node; a name is text with no control character or semicolon, and not empty",
             ),
             LogError::BadNode(_, Some(name)) => {
-                write!(f, "\nsynchrony: \"{name}\" is not among --nodes")
+                write!(
+                    f,
+                    "\nsynchrony: \"{name}\" is not among --nodes, where spaces count"
+                )
             }
             _ => f.write_str(""),
         }
@@ -107,6 +134,36 @@ impl fmt::Display for ImportOption {
             ImportOption::Until => f.write_str("--until"),
             ImportOption::From => f.write_str("--from"),
             ImportOption::Idle => f.write_str("--idle"),
+        }
+    }
+}
+
+/// What an option takes by which a log is read, after a line feed.
+#[derive(Clone, Copy)]
+pub(crate) struct ImportHint(pub(crate) ImportOption);
+
+impl fmt::Display for ImportHint {
+    ghost use Rattle.std.specs.Prelude.{Some};
+    ghost use Rattle.command_faults.specs.LogFaultLines.{import_hint};
+
+    ghost output = { λ hint. Some (import_hint hint.0) };
+
+    fn fmt<W: fmt::Write>(&self, f: &mut fmt::Formatter<W>) -> fmt::Result {
+        match self.0 {
+            ImportOption::Nodes => f.write_str(
+                "\nsynchrony: --nodes takes 2 to 64 different names with one comma between them; a name is text with no control character or semicolon, and not empty",
+            ),
+            ImportOption::Unit => f.write_str("\nsynchrony: --unit takes s, ms, us or ns"),
+            ImportOption::Tick | ImportOption::Idle => write!(
+                f,
+                "\nsynchrony: {} takes a number or a duration above 0",
+                self.0
+            ),
+            ImportOption::Until | ImportOption::From => write!(
+                f,
+                "\nsynchrony: {} takes a time as the log has it, such as 1250, 1700000000.25 or 2026-11-22T10:00:00.250Z, or a duration such as 1m 30s",
+                self.0
+            ),
         }
     }
 }

@@ -1,7 +1,7 @@
 //! The second line of a fault about a processor or a tick that a trace or a run hasn't.
 
 ghost use Rattle.std.specs.Prelude.{◌≡◌};
-ghost use Rattle.command_faults.specs.OutsideLines.{whose_words};
+ghost use Rattle.command_faults.specs.OutsideLines.{ticked_words, whose_words};
 
 use crate::faults::{MemberOutside, ReportOption, SetOption, TickOutside};
 use crate::hints::Ticks;
@@ -70,11 +70,22 @@ impl fmt::Display for TickLine<'_> {
     fn fmt<W: fmt::Write>(&self, f: &mut fmt::Formatter<W>) -> fmt::Result {
         write!(
             f,
-            "\nsynchrony: {} is {}, and the trace has {}",
+            "\nsynchrony: {} is {}, and {} has {}",
             self.0,
             self.1.tick,
+            ticked_words(self.0),
             Ticks(self.1.last)
         )
+    }
+}
+
+/// Whose ticks they are. A report may be of the first ticks of a trace alone.
+fn ticked_words(option: ReportOption) -> &'static str
+    ensures { result.now ≡ ticked_words option }
+{
+    match option {
+        ReportOption::At => "the report",
+        ReportOption::Until | ReportOption::Start => "the trace",
     }
 }
 
