@@ -32,10 +32,12 @@ from dataclasses import dataclass, field
 from types import SimpleNamespace
 
 sys.dont_write_bytecode = True
+BENCH = os.path.dirname(os.path.dirname(os.path.realpath(__file__)))
+EXAMPLES = os.path.join(os.path.dirname(BENCH), "examples")
+sys.path.insert(1, BENCH)
 import story_oracle
+from building import built
 
-HERE = os.path.dirname(os.path.realpath(__file__))
-EXAMPLES = os.path.join(os.path.dirname(os.path.dirname(HERE)), "examples")
 COLUMNS = 1000
 TICKS_SHOWN, MOST_TICKS = 100, 1000
 MOST_MESSAGES, MOST_WITNESSES = 10_000, 1_000
@@ -288,12 +290,6 @@ NAMES = [
 ]
 
 
-def built(source, folder):
-    program = f"{folder}/{os.path.splitext(os.path.basename(source))[0]}"
-    subprocess.run(["rustc", "--edition", "2021", "-O", "-o", program, f"{HERE}/{source}"], check=True)
-    return program
-
-
 def differences(case, written_wanted, programs, folder):
     """What is wrong with the marks of a chosen trace."""
     text, members, (first, to), *wanted = case
@@ -328,7 +324,7 @@ def outcome(read, *words):
 def self_test():
     found = []
     with tempfile.TemporaryDirectory(prefix="marks-") as folder:
-        programs = [built("oracle.rs", folder), built("../plain/plain.rs", folder)]
+        programs = [built("oracles/oracle.rs", folder), built("plain/plain.rs", folder)]
         for at, case in enumerate(CHOSEN):
             wrong = [*differences(case, WRITTEN.get(at), programs, folder)]
             found.append(f"{case[0][:60]!r}, {case[1]}, {case[2]}: {'; '.join(wrong)}" if wrong else None)
