@@ -8,12 +8,21 @@ import sys
 import unittest
 from pathlib import Path
 
+import synchrony as sy
+
 TOP = Path(__file__).resolve().parents[2]
 EXAMPLES = TOP / "examples"
 SOURCES = TOP / "python/src"
 
 ONE_MISS = b"dls-trace,1,2,0\ninit,5,7\n1,1,S,2\n2,2,R,\n3,2,R,1\nend,3\n"
 ONE_MISS_REPORT = b"gst,delta,phi,sent,missed,proc,from,to\n1,2,3,1,2,1,2,3\n2,1,3,,,1,2,3\n3,1,2,,,1,3,3\n"
+
+
+def ring(me, n, value):
+    """A protocol: each processor sends to the next one, and receives, without end."""
+    while True:
+        yield sy.Send(me % n + 1, value)
+        yield sy.Receive()
 
 
 @contextlib.contextmanager
@@ -36,8 +45,18 @@ def needs(*modules):
             raise unittest.SkipTest(f"there is no {it}")
 
 
-def python(*words, **environment):
+def python(*words, folder=None, **environment):
     """How a new Python with these words ends, and what it prints and says."""
-    known = {**os.environ, "PYTHONPATH": str(SOURCES), "PYTHONDONTWRITEBYTECODE": "1", **environment}
-    done = subprocess.run([sys.executable, *words], capture_output=True, text=True, timeout=120, env=known)
+    done = _run(words, subprocess.PIPE, environment, folder)
     return done.returncode, done.stdout, done.stderr
+
+
+def piped(output, *words):
+    """How a new Python with these words ends whose standard output is this file, and what it says."""
+    done = _run(words, output)
+    return done.returncode, done.stderr
+
+
+def _run(words, output, environment=None, folder=None):
+    known = {**os.environ, "PYTHONPATH": str(SOURCES), "PYTHONDONTWRITEBYTECODE": "1", **(environment or {})}
+    return subprocess.run([sys.executable, *words], stdout=output, stderr=subprocess.PIPE, text=True, timeout=120, env=known, cwd=folder)

@@ -7,7 +7,7 @@ from concurrent.futures import Executor, Future, ThreadPoolExecutor
 from pathlib import Path
 
 import synchrony as sy
-from support import python, raises
+from support import EXAMPLES, ONE_MISS, TOP, piped, python, raises
 
 # Two processors that step in each of the ticks 1 to 4, so that Δ = Φ = 1 from tick 1 on.
 BUSY = b"dls-trace,2,2,0\ninit,5,7\n" + b"".join(b"%d,%d,%d,R,\n" % (2 * t + p - 2, t, p) for t in range(1, 5) for p in (1, 2)) + b"end,4\n"
@@ -41,7 +41,7 @@ def test_each_run_has_its_verdict():
     assert [it.name for it in found.rows] == ["kept", "late", "split", "none"]
     assert str(found.rows[0].verdict).startswith("yes ") and str(found.rows[1].verdict) == "no deadline 1 1 1 3 2"
     assert str(found.rows[2].verdict) == "no agreement 1 2 5 2 2 7" and found.rows[3].verdict is None
-    assert found.rows[3].error == "trace: bad header" and not found
+    assert found.rows[3].error.startswith("trace: bad header") and "\n" not in found.rows[3].error and not found
     for row, case in zip(found.rows[:3], cases()):
         assert row.verdict == sy.judge(case.trace, case.decisions, "all", "2*phi")
 
@@ -53,7 +53,15 @@ def test_the_summary_adds_up():
     assert found.text().splitlines()[-1] == found.summary() and len(found.text().splitlines()) == 5
     untested = sy.judge_runs([sy.Case("short", BUSY, LATE)], "100", workers=1)
     assert untested and untested.summary() == "1 run: 0 yes, 0 no, 1 untested, 0 not judged"
-    assert sy.judge_runs([], "phi", workers=1).summary() == "0 runs: 0 yes, 0 no, 0 untested, 0 not judged"
+    assert repr(untested) == "Verdicts()"
+
+
+def test_no_runs_are_refused():
+    with raises(ValueError, "no runs"):
+        sy.judge_runs([], "phi", workers=1)
+    # (the formula comes first)
+    with raises(sy.SynchronyError, "--within"):
+        sy.judge_runs([], "phi +", workers=1)
 
 
 def test_the_least_margin_is_the_first_of_several():
@@ -140,19 +148,39 @@ def test_a_list_of_files():
         assert lines[3] == f"3 runs: 2 yes, 0 no, 0 untested, 1 not judged; least margin 1 ({folder}/t)"
         path = listed(folder, "trace,decisions", files)
         assert python("-m", "synchrony", "judge", str(path), "--within", "2*phi")[0] == 0
+        assert python("-m", "synchrony", "judge", str(path), "--within", "2*phi", "--due", "0")[0] == 0
+        with open("/dev/full", "w") as full:
+            assert piped(full, "-m", "synchrony", "judge", str(path), "--within", "2*phi") == (6, "synchrony: cannot write: No space left on device\n")
         # (nobody has decided by tick 1)
         assert python("-m", "synchrony", "judge", str(path), "--within", "0")[0] == 1
+
+
+def test_runs_without_decisions_are_judged_by_their_replay():
+    seven = (EXAMPLES / "decides-seven.trace").read_bytes()
+    found = sy.judge_runs([sy.Case("seven", seven, correct=[1]), sy.Case("late", seven, None, [1], start=3), sy.Case("none", ONE_MISS)], "15", workers=1)
+    assert [it.verdict for it in found.rows[:2]] == [sy.judge(seven, correct=[1], within="15", start=it, replay=True) for it in (None, 3)]
+    assert found.rows[2].error == "not a run: step 1; processor 1 had to send to processor 1"
+
+
+def test_the_list_of_the_examples():
+    status, output, said = python("-m", "synchrony", "judge", "examples/runs.csv", "--within", "15", folder=TOP)
+    lines = ["decides-seven.trace: yes 1 due 1 later margin 0", "one-miss.trace: yes 0 due 3 later", "lost.trace: cannot read: examples/lost.trace: No such file or directory"]
+    assert output.splitlines()[:-1] == [f"examples/{it}" for it in lines] and (status, said) == (3, "")
+    assert output.splitlines()[-1] == "3 runs: 1 yes, 0 no, 1 untested, 1 not judged; least margin 0 (examples/decides-seven.trace)"
 
 
 def test_a_list_that_is_none():
     with tempfile.TemporaryDirectory() as folder:
         for lines, words in [
             (["trace,correct"], "no column decisions"),
-            (["trace,decisions,start", "t,d,soon"], "line 2 isn't"),
-            (["trace,decisions,correct", "t,d,1 2"], "line 2 isn't"),
-            (["trace,decisions", "t"], "line 2 isn't"),
+            (["trace,decisions,start", "t,d,soon"], "line 2: start is 'soon', and has to be a tick"),
+            (["trace,decisions,correct", "t,d,1 2"], "line 2: correct is '1 2', and has to be all, none, or numbers, as 1,2"),
+            (["trace,decisions", "", ",d"], "line 3: trace is empty, and has to be a path"),
+            (["trace,decisions", "t"], "line 2 has 1 field, the header 2"),
+            (["trace,decisions,correct,start", "t,d,,", "t,d,1,2,"], 'line 3 has 5 fields, the header 4: quote a list, as "1,2"'),
+            (["trace,decisions,correct,start"], "no runs"),
         ]:
             path = listed(folder, *lines)
             status, output, said = python("-m", "synchrony", "judge", str(path), "--within", "phi")
-            assert status == 2 and output == "" and words in said and said.startswith("synchrony: "), said
+            assert status == 2 and output == "" and said.startswith("synchrony: ") and said.endswith(f"{words}\n"), said
         assert python("-m", "synchrony", "judge", f"{folder}/none", "--within", "phi")[0] == 2

@@ -66,6 +66,7 @@ def test_errors_have_the_words_of_the_program():
         (lambda: sy.check(twice, b"", "all"), sy.TraceRefused, "trace: step 3: message 1 was received before", 3),
         (lambda: sy.check(ONE_MISS, b"x", "all"), sy.CertificateRefused, "certificate: bad header", 4),
         (lambda: sy.report(ONE_MISS, [3]), sy.SetRefused, "no such processor in --correct", 2),
+        (lambda: sy.check(ONE_MISS, ONE_MISS_REPORT, [3]), sy.SetRefused, "no such processor in --correct", 2),
         (lambda: sy.report_part(ONE_MISS, "all", until=9), sy.SynchronyError, "bad --until", 2),
         (lambda: sy.draw(ONE_MISS, "all", names=["a"]), sy.SynchronyError, "bad --names", 2),
         (lambda: sy.import_log(b"x"), sy.TraceRefused, "log: no column time", 3),
@@ -77,6 +78,34 @@ def test_errors_have_the_words_of_the_program():
         assert isinstance(caught[0], ValueError)
     with raises(ValueError, "line feed"):
         sy.draw(ONE_MISS, "all", names=["a\n", "b"])
+
+
+def test_a_set_is_refused_with_the_processors_of_the_trace():
+    for call in (sy.report, sy.brief, sy.each, sy.draw, lambda trace, them: sy.check(trace, ONE_MISS_REPORT, them)):
+        with raises(sy.SetRefused) as caught:
+            call(ONE_MISS, [1, 3])
+        assert str(caught[0]) == "no such processor in --correct\n--correct names processor 3, and the trace has processors 1 to 2"
+
+
+def test_a_path_that_is_a_str_is_refused():
+    trace, path = ONE_MISS.decode(), "examples/one-miss.trace"
+    for what, call in [
+        ("a trace", lambda: sy.report(path, "all")),
+        ("a trace", lambda: sy.each(path, "all")),
+        ("a trace", lambda: sy.judge(path, "proc,tick,value\n", "all", "1")),
+        ("a certificate", lambda: sy.check(trace, path, "all")),
+        ("decisions", lambda: sy.judge(trace, path, "all", "1")),
+        ("a log", lambda: sy.import_log(path)),
+        ("a table", lambda: sy.draw(trace, "all", table=path)),
+        ("a table", lambda: sy.page(trace, "all", table=path)),
+    ]:
+        with raises(ValueError) as caught:
+            call()
+        assert str(caught[0]) == f"a str is the text of {what}, not a path: pass Path('examples/one-miss.trace')"
+    # (lines may end in a carriage return, and of nothing the program says what is wrong)
+    assert sy.report(trace.replace("\n", "\r"), "all") == sy.report(trace, "all")
+    with raises(sy.TraceRefused, "bad header"):
+        sy.report("", "all")
 
 
 def test_a_log_gives_its_trace_or_the_table_of_its_steps():

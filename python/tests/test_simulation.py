@@ -1,19 +1,15 @@
 """Simulated runs: that a run is the schedule's, that its bounds are kept, and that the same arguments give it again."""
 
 import random
+import sys
 import time
+from enum import IntEnum
 
 import synchrony as sy
-from support import needs, raises
+from support import needs, raises, ring
 from synchrony import AfterSends, Decide, Receive, Schedule, Send, broadcast, simulate, smallest
 
 RUNS = 10_000
-
-
-def ring(me, n, value):
-    while True:
-        yield Send(me % n + 1, value)
-        yield Receive()
 
 
 def steps_of(run):
@@ -118,6 +114,41 @@ def test_a_claim_about_a_run():
     assert str(split.judge("100")).startswith("no agreement ")
 
 
+class Seven:
+    """A whole number that is no int, as those of numpy."""
+
+    def __index__(self):
+        return 7
+
+
+class Named(IntEnum):
+    """A whole number that is shown by its name."""
+
+    SEVEN = 7
+
+
+def decided(value, tick=3):
+    """A run in which processor 1 decides this."""
+    return sy.Run(b"", [sy.Decision(1, tick, value)], [1], Schedule(), 3, 3)
+
+
+def test_decisions_are_passed_as_numbers_of_64_bits():
+    for value, number in [(7, 7), (True, 1), (Seven(), 7), (Named.SEVEN, 7), ((1 << 64) - 1, (1 << 64) - 1)]:
+        assert decided(value).decisions_text() == b"proc,tick,value\n1,3,%d\n" % number
+    for value in (2.1, 2.9, "7", "commit", None, -1, 1 << 64):
+        words = f"processor 1 decided {value!r} in tick 3, which is no number of 64 bits: pass value=, which makes one of each decision"
+        for call in (lambda: decided(value).decisions_text(), lambda: decided(value).judge("phi")):
+            with raises(ValueError) as caught:
+                call()
+            assert str(caught[0]) == words
+    with raises(ValueError, "decided 2.5 before its first step, which"):
+        decided(2.5, tick=0).decisions_text()
+    # (what makes a number may be wrong, too)
+    assert decided("commit").decisions_text({"commit": 4}.get) == b"proc,tick,value\n1,3,4\n"
+    with raises(ValueError, "decided 'abort'"):
+        decided("abort").decisions_text({"commit": 4}.get)
+
+
 def test_a_decision_before_the_first_step():
     def node(me, n, value):
         yield Decide(4)
@@ -130,7 +161,9 @@ def test_a_decision_before_the_first_step():
 
 def test_a_run_that_ends_before_gst():
     run = simulate(ring, [1, 2], Schedule(gst=100), ticks=20)
-    assert run.check() and run.check().delta is None and str(run.check()) == "the run ends before tick 100"
+    assert not run.check() and run.check().delta is None and str(run.check()) == "the run ends before tick 100"
+    # (it has to reach gst, and no more)
+    assert simulate(ring, [1, 2], Schedule(gst=20), ticks=20).check() and not simulate(ring, [1, 2], Schedule(gst=21), ticks=20).check()
     assert simulate(ring, [1, 2], ticks=0).trace == b"dls-trace,2,2,0\ninit,1,2\nend,0\n"
 
 
@@ -214,16 +247,177 @@ def test_what_is_no_run_is_refused():
         (ValueError, "none of 1 to 2", lambda: simulate(late, [1, 2])),
         (TypeError, "no Send, Receive or Decide", lambda: simulate(not_a_step, [1, 2])),
         (TypeError, "a protocol is a generator function", lambda: simulate(lambda *_: iter([]), [1, 2])),
-        (ValueError, "one of 1 to 2", lambda: simulate(ring, [1, 2], Schedule(crashed={3: 1}))),
+        (ValueError, "crashed names processor 3, which is none of 1 to 2", lambda: simulate(ring, [1, 2], Schedule(crashed={3: 1}))),
         (ValueError, "at most 0 of 2", lambda: simulate(ring, [1, 2], faults=1)),
         (ValueError, "gst is", lambda: Schedule(gst=0)),
         (ValueError, "delta is", lambda: Schedule(delta=0)),
         (ValueError, "phi is", lambda: Schedule(phi=0)),
         (ValueError, "speed is", lambda: Schedule(speed=1.5)),
-        (ValueError, "loss is", lambda: Schedule(loss={1: -0.5})),
+        (ValueError, "loss[1] is", lambda: Schedule(loss={1: -0.5})),
     ]:
         with raises(error, words):
             call()
+
+
+def test_numbers_that_are_none_are_refused_by_name():
+    for error, words, call in [
+        (TypeError, "gst is 1.5, and has to be a whole number", lambda: Schedule(gst=1.5)),
+        (TypeError, "delta is '3', and has to be a whole number", lambda: Schedule(delta="3")),
+        (TypeError, "phi is None, and has to be a whole number", lambda: Schedule(phi=None)),
+        (TypeError, "seed is None, and has to be a whole number", lambda: Schedule(seed=None)),
+        (TypeError, "seed is 0.5, and has to be a whole number", lambda: Schedule(seed=0.5)),
+        # (a random source of Python takes -1 as 1)
+        (ValueError, "seed is a number from 0 on, not -1", lambda: Schedule(seed=-1)),
+        (TypeError, "crashed[2] is 2.5, and has to be a whole number", lambda: Schedule(crashed={2: 2.5})),
+        (TypeError, "crashed[2].sends is 0.5, and has to be a whole number", lambda: Schedule(crashed={2: AfterSends(0.5)})),
+        (TypeError, "a processor of crashed is '2', and has to be a whole number", lambda: Schedule(crashed={"2": 5})),
+        (TypeError, "crashed is [2], and has to be a mapping", lambda: Schedule(crashed=[2])),
+        (ValueError, "prompt is a chance, from 0 to 1, not {1: 0.5}", lambda: Schedule(prompt={1: 0.5})),
+        (ValueError, "speed is a chance, from 0 to 1, not '0.5'", lambda: Schedule(speed="0.5")),
+        (ValueError, "speed_before[2] is a chance, from 0 to 1, not None", lambda: Schedule(speed_before={1: 1, 2: None})),
+        (ValueError, "loss is a chance, from 0 to 1, not nan", lambda: Schedule(loss=float("nan"))),
+        (TypeError, "values[0] is 1.5, and has to be a whole number", lambda: simulate(ring, [1.5, 2])),
+        (TypeError, "values[1] is 'a', and has to be a whole number", lambda: simulate(ring, [1, "a"])),
+        (TypeError, "ticks is 10.0, and has to be a whole number", lambda: simulate(ring, [1, 2], ticks=10.0)),
+        (TypeError, "faults is 0.5, and has to be a whole number", lambda: simulate(ring, [1, 2], faults=0.5)),
+    ]:
+        with raises(error) as caught:
+            call()
+        assert str(caught[0]).startswith(words), caught[0]
+
+
+def test_a_mapping_of_a_schedule_names_processors_of_the_run():
+    for name, given in [("speed", {0: 0.5}), ("speed_before", {1: 0.5, 4: 0.5}), ("loss", {"1": 0.5}), ("crashed", {-1: 5})]:
+        with raises(ValueError) as caught:
+            simulate(ring, [1] * 3, Schedule(**{name: given}))
+        assert str(caught[0]) == f"{name} names processor {[*given][-1]!r}, which is none of 1 to 3"
+
+
+def test_whole_numbers_of_any_type_are_those_of_ints():
+    def node(me, n, value):
+        yield Send(Named.SEVEN if me % 2 else Seven(), value)
+        yield Decide(value)
+
+    given = Schedule(gst=Seven(), delta=Seven(), phi=Seven(), seed=Seven(), crashed={Seven(): Seven(), 1: AfterSends(Seven())})
+    assert given == Schedule(gst=7, delta=7, phi=7, seed=7, crashed={7: 7, 1: AfterSends(7)})
+    run = simulate(node, [Seven(), True, *[0] * 5], given, ticks=Seven(), faults=True)
+    lines = run.trace.decode().split("\n")
+    assert lines[:2] == ["dls-trace,2,7,1", "init,7,1,0,0,0,0,0"] and lines[-2] == "end,7"
+    assert {arg for _, _, _, op, arg in steps_of(run) if op == "S"} == {"7"}
+
+
+def test_a_processor_that_decides_without_end():
+    def node(me, n, value):
+        yield Receive()
+        for _ in range(value):
+            yield Decide(value)
+        yield Receive()
+        for _ in range(value):
+            yield Decide(value)
+
+    # (as often as this between two steps, and not once more)
+    assert len(simulate(node, [1000, 0], Schedule(speed=1), ticks=5).decisions) == 2000
+    with raises(ValueError) as caught:
+        simulate(node, [0, 1001], Schedule(speed=1), ticks=5)
+    assert str(caught[0]) == "processor 2 decides 1000 times without a step, in tick 1: yield Send or Receive between decisions"
+
+    def at_once(me, n, value):
+        while True:
+            yield Decide(value)
+
+    with raises(ValueError, "processor 1 decides 1000 times without a step, before its first step: yield"):
+        simulate(at_once, [1, 2])
+
+
+def test_a_body_is_not_copied():
+    def node(me, n, value):
+        body = [value]
+        yield Send(me % n + 1, body)
+        body.append("changed")
+        while True:
+            for _, body in (yield Receive()):
+                yield Decide(body)
+
+    run = simulate(node, [5, 7], Schedule(speed=1, prompt=1), ticks=3)
+    assert run.decided() == {1: [7, "changed"], 2: [5, "changed"]}
+
+
+def failing(before, yielded):
+    """A protocol that makes so many Receives, and then yields this in place of a step. It raises it if it is an error."""
+
+    def node(me, n, value):
+        for _ in range(before):
+            yield Receive()
+        if isinstance(yielded, Exception):
+            raise yielded
+        yield yielded
+
+    return node
+
+
+def test_what_is_no_step_is_refused_with_its_tick():
+    for yielded, words in [
+        (Send(4, 1), "processor 1 sends to 4, which is none of 1 to 3, "),
+        (Send(True, 1), "processor 1 sends to True, which is none of 1 to 3, "),
+        (Send(1.0, 1), "processor 1 sends to 1.0, which is none of 1 to 3, "),
+        (Send("2", 1), "processor 1 sends to '2', which is none of 1 to 3, "),
+        (Send(int, 1), "processor 1 sends to <class 'int'>, which is none of 1 to 3, "),
+        ((2, 1), "processor 1 yields (2, 1), which is no Send, Receive or Decide, "),
+        (None, "processor 1 yields None, which is no Send, Receive or Decide, "),
+    ]:
+        for before, when in [(0, "before its first step"), (9, "in tick 9")]:
+            with raises((TypeError, ValueError)) as caught:
+                simulate(failing(before, yielded), [1] * 3, Schedule(speed=1))
+            assert str(caught[0]) == words + when
+
+
+def test_what_to_yield_is_said():
+    def from_a_send(me, n, value):
+        yield Receive()
+        yield from Send(2, value)
+
+    def from_a_decision(me, n, value):
+        yield Receive()
+        yield from from_a_send(me, n, value)
+
+    for node, words in [
+        (failing(1, broadcast(3, 1)), ", in tick 1: write yield from"),
+        (failing(1, Receive), ", in tick 1: write Receive(..)"),
+        (from_a_send, "yields 2, which is no Send, Receive or Decide, in tick 1: write yield, not yield from"),
+        (from_a_decision, "in tick 2: write yield, not yield from"),
+    ]:
+        with raises(TypeError) as caught:
+            simulate(node, [1] * 3, Schedule(speed=1))
+        assert str(caught[0]).endswith(words), caught[0]
+
+    def without_end(me, n, value):
+        while True:
+            yield from Receive()
+
+    with raises(TypeError, "not iterable"):
+        simulate(without_end, [1, 2])
+
+
+def test_an_error_of_a_protocol_has_a_note():
+    for before, note in [(0, "in processor 1, before its first step"), (17, "in processor 1, after its step in tick 17")]:
+        why = KeyError("body")
+        with raises(KeyError) as caught:
+            simulate(failing(before, why), [1] * 3, Schedule(speed=1))
+        assert caught[0] is why and getattr(why, "__notes__", []) == [note] * (sys.version_info >= (3, 11))
+
+    def after_a_decision(me, n, value):
+        yield Receive()
+        yield Decide(value)
+        raise KeyError
+
+    with raises(KeyError) as caught:
+        simulate(after_a_decision, [1] * 3, Schedule(speed=1))
+    assert getattr(caught[0], "__notes__", []) == ["in processor 1, after its step in tick 1"] * (sys.version_info >= (3, 11))
+
+
+def test_a_run_is_shown_without_its_trace():
+    run = simulate(ring, [1, 2], Schedule(seed=4), ticks=300)
+    assert repr(run) == f"Run(correct=[1, 2], schedule={run.schedule!r}, ticks=300, steps={run.steps})"
 
 
 def test_the_smallest_schedule_that_fails():

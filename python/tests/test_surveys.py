@@ -13,7 +13,7 @@ from concurrent.futures import Executor, Future, ProcessPoolExecutor, ThreadPool
 from pathlib import Path
 
 import synchrony as sy
-from support import EXAMPLES, ONE_MISS, ONE_MISS_REPORT, needs, python, raises
+from support import EXAMPLES, ONE_MISS, ONE_MISS_REPORT, needs, piped, python, raises, ring
 from synchrony import Schedule, surveys
 
 TWICE = b"dls-trace,1,2,0\ninit,5,7\n1,1,S,2\n2,2,R,1\n3,2,R,1\nend,3\n"
@@ -49,12 +49,6 @@ def many(count):
     """So many small traces, which differ."""
     for seed in range(count):
         yield sy.simulate(ring, [1, 2], Schedule(seed=seed, delta=3, phi=3, speed=0.4), ticks=20 + seed % 7).trace
-
-
-def ring(me, n, value):
-    while True:
-        yield sy.Send(me % n + 1, value)
-        yield sy.Receive()
 
 
 def due(traces, at=1):
@@ -120,6 +114,16 @@ def test_paths_and_texts_and_names():
         sy.survey(given, "1,2")
 
 
+def test_a_single_trace_and_a_path_as_a_str_are_refused():
+    for single in ("a.trace", ONE_MISS.decode(), ONE_MISS, bytearray(ONE_MISS), memoryview(ONE_MISS), Path("a.trace")):
+        with raises(TypeError) as caught:
+            sy.survey(single)
+        assert str(caught[0]) == f"survey takes traces in an iterable, as a list of paths, not a single {type(single).__name__}"
+    for traces in (["a.trace"], [ONE_MISS, ("named", "a.trace")]):
+        with raises(ValueError, "not a path: pass Path('a.trace')"):
+            sy.survey(traces, executor=ThreadPoolExecutor(1))
+
+
 def test_traces_are_read_as_they_are_needed():
     executor, read = Recording(), 0
 
@@ -138,7 +142,9 @@ def test_traces_are_read_as_they_are_needed():
 def test_a_set_that_some_traces_do_not_have():
     three = b"dls-trace,1,3,0\ninit,1,2,3\nend,0\n"
     table = sy.survey([ONE_MISS, three, TWICE], [3], executor=ThreadPoolExecutor(1))
-    assert [it.error for it in table.rows] == ["no such processor in --correct", None, "trace: step 3: message 1 was received before"]
+    no_three = "no such processor in --correct; --correct names processor 3, and the trace has processors 1 to 2"
+    assert [it.error for it in table.rows] == [no_three, None, "trace: step 3: message 1 was received before"]
+    assert '"no such processor' in table.csv() and repr(table) == "Table(ticks=(1,))"
 
 
 def test_a_dead_worker_costs_its_traces_one_try():
@@ -254,15 +260,32 @@ def test_the_command_line():
     assert output == "group,bound,count,least,median,90%,99%,greatest\n" + "".join(f"examples,{it}\n" for it in ("delta@1,2,2,3,4,4,4", "phi@1,2,3,3.5,4,4,4", "delta@2,2,1,1,1,1,1", "phi@2,2,3,3.5,4,4,4"))
     for words, why in [
         (["survey"], "TRACE"),
-        (["survey", files[0], "--at", "0"], "--at takes numbers"),
-        (["survey", files[0], "--correct", "1,x"], "--correct takes numbers"),
+        (["survey", files[0], "--at", "0"], "survey: error: --at takes a text that ends in N, as gst=N, or numbers from 1 on with one comma between them, not '0'"),
+        (["survey", files[0], "--correct", "1,x"], "survey: error: --correct takes all, or numbers from 1 on with one comma between them, not '1,x'"),
         (["survey", files[0], "--correct", "99"], "no processor 99"),
-        (["survey", files[0], "--workers", "0"], "--workers"),
+        (["survey", files[0], "--workers", "0"], "survey: error: argument --workers: a whole number from 1 on"),
+        (["survey", files[0], "--batch", "1_0"], "argument --batch: a whole number from 1 on"),
+        (["judge", files[0], "--within", "1", "--due", "-1"], "judge: error: argument --due"),
+        (["judge", files[0], "--within", "1", "--due=x"], "judge: error: argument --due: a whole number from 0 on"),
         (["other"], "invalid choice"),
     ]:
         status, output, said = python("-m", "synchrony", *words)
         assert status == 2 and why in said and not output, (words, status, said)
     assert python("-m", "synchrony", "--version")[1] == "synchrony 0.1.0\n"
+
+
+def test_output_that_cannot_be_written():
+    words = ["-m", "synchrony", "survey", *[str(EXAMPLES / "one-miss.trace")] * 200, "--workers", "1"]
+    with open("/dev/full", "w") as full:
+        assert piped(full, *words) == (6, "synchrony: cannot write: No space left on device\n")
+        assert piped(full, *words, "--groups") == (6, "synchrony: cannot write: No space left on device\n")
+    reader, writer = os.pipe()
+    os.close(reader)
+    try:
+        assert piped(writer, *words) == (141, "")
+    finally:
+        os.close(writer)
+    assert python("-c", "import os, sys; os.close(1); os.execv(sys.executable, [sys.executable, *sys.argv[1:]])", *words) == (6, "", "synchrony: cannot write: Bad file descriptor\n")
 
 
 def test_an_unguarded_script():

@@ -15,12 +15,12 @@ import multiprocessing
 import os
 from concurrent.futures import BrokenExecutor, Executor, Future, ProcessPoolExecutor
 from contextlib import ExitStack
-from dataclasses import dataclass
+from dataclasses import dataclass, field
 from pathlib import Path
-from typing import TYPE_CHECKING, Iterable, Iterator, List, NamedTuple, Optional, Tuple, Union
+from typing import TYPE_CHECKING, Dict, Iterable, Iterator, List, NamedTuple, Optional, Tuple, Union
 
 from . import library
-from .surveys import _processors, _start_method
+from .surveys import _line_of, _processors, _start_method
 
 if TYPE_CHECKING:
     # A text, or the path of its file.
@@ -33,11 +33,12 @@ NO_TRACE, NO_DECISIONS = b"dls-trace,1,2,0\ninit,0,0\nend,0\n", b"proc,tick,valu
 
 
 class Case(NamedTuple):
-    """A run to judge: its name, its trace and its decisions, the correct processors, and the tick in which it started."""
+    """A run to judge: its name, its trace and its decisions, the correct processors, and the tick in which it started. If
+    `decisions` is None, they are those that `library.replay` finds in the trace."""
 
     name: str
     trace: Input
-    decisions: Input
+    decisions: Optional[Input] = None
     correct: library.Correct = "all"
     start: Optional[int] = None
 
@@ -54,7 +55,7 @@ class Judged(NamedTuple):
 class Verdicts:
     """The verdicts on runs, in the order of the runs."""
 
-    rows: List[Judged]
+    rows: List[Judged] = field(repr=False)
 
     def __bool__(self) -> bool:
         """Whether all runs were judged, and keep the claim."""
@@ -110,8 +111,21 @@ class _Claim(NamedTuple):
     factor: bool
     rows: bool
 
-    def of(self, trace: bytes, decisions: bytes, correct: library.Correct, start: Optional[int]) -> library.Judgement:
-        return library.judge(trace, decisions, correct, self.within, start, self.valid, self.whole, self.due, self.factor, self.rows)
+    def of(self, trace: bytes, decisions: Optional[bytes], correct: library.Correct, start: Optional[int]) -> library.Judgement:
+        """The verdict on a run by its decisions, or by those of its replay if it has none."""
+        return library.judge(
+            trace,
+            decisions,
+            correct=correct,
+            within=self.within,
+            start=start,
+            valid=self.valid,
+            whole=self.whole,
+            due=self.due,
+            factor=self.factor,
+            rows=self.rows,
+            replay=decisions is None,
+        )
 
 
 def judge_runs(
@@ -131,11 +145,13 @@ def judge_runs(
     many processes as `workers` says, or as there are processors, work on it. A run that is refused or can't be read has
     its words in place of a verdict. If a worker dies, each run of its batch is tried once more, alone.
 
-    SynchronyError is raised if the formula is none; nothing is judged then.
+    SynchronyError is raised if the formula is none, ValueError if there are no runs; nothing is judged then.
     """
     claim = _Claim(within, valid, whole, due, factor, rows)
     claim.of(NO_TRACE, NO_DECISIONS, "all", None)
     cases = list(runs)
+    if not cases:
+        raise ValueError("no runs")
     found: List[Judged] = []
     with ExitStack() as stack:
         pool = executor or stack.enter_context(_processes(_processors() if workers is None else max(1, workers)))
@@ -146,30 +162,56 @@ def judge_runs(
 
 
 def runs_in(path: Union[str, os.PathLike[str]]) -> Iterator[Case]:
-    """The runs that a CSV lists: the columns are `trace` and `decisions`, with paths, and perhaps `correct` and `start`.
+    """The runs that a CSV lists: the columns are `trace` and `decisions`, with paths, and perhaps `correct` and `start`. If
+    the field `decisions` is empty, they are those of the replay.
 
-    ValueError is raised for a column that lacks, or for a field that is none, with its line.
+    ValueError is raised for a column that lacks, for a line with more or fewer fields than the header, for a field that is
+    none, and last for a list without runs.
     """
     with open(path, newline="") as file:
-        rows = csv.DictReader(file)
+        records = csv.reader(file)
+        header = next(records, [])
         for name in ("trace", "decisions"):
-            if name not in (rows.fieldnames or []):
+            if name not in header:
                 raise ValueError(f"{path}: no column {name}")
-        for row in rows:
-            try:
-                yield Case(row["trace"], Path(row["trace"]), Path(row["decisions"]), _correct(row.get("correct")), _start(row.get("start")))
-            except (TypeError, ValueError):
-                raise ValueError(f"{path}: line {rows.line_num} isn't a trace, decisions, a list of processors and a tick") from None
+        is_empty = True
+        # (a blank line is no record)
+        for record in filter(None, records):
+            yield _case(header, record, f"{path}: line {records.line_num}")
+            is_empty = False
+    if is_empty:
+        raise ValueError(f"{path}: no runs")
 
 
-def _correct(word: Optional[str]) -> library.Correct:
-    if not word or word == "all":
-        return "all"
-    return [] if word == "none" else [int(it) for it in word.split(",")]
+def _case(header: List[str], record: List[str], line: str) -> Case:
+    """The run of a record. ValueError, which begins with its line, is raised if it is none."""
+    if len(record) != len(header):
+        count = "1 field" if len(record) == 1 else f"{len(record)} fields"
+        hint = ': quote a list, as "1,2"' if len(record) > len(header) else ""
+        raise ValueError(f"{line} has {count}, the header {len(header)}{hint}")
+    fields = dict(zip(header, record))
+    trace, decisions = fields["trace"], fields["decisions"]
+    if not trace:
+        raise ValueError(f"{line}: trace is empty, and has to be a path")
+    return Case(trace, Path(trace), Path(decisions) if decisions else None, _correct(fields, line), _start(fields, line))
 
 
-def _start(word: Optional[str]) -> Optional[int]:
-    return int(word) if word else None
+def _correct(fields: Dict[str, str], line: str) -> library.Correct:
+    word = fields.get("correct") or "all"
+    if word in ("all", "none"):
+        return "all" if word == "all" else []
+    try:
+        return [int(it) for it in word.split(",")]
+    except ValueError:
+        raise ValueError(f"{line}: correct is {word!r}, and has to be all, none, or numbers, as 1,2") from None
+
+
+def _start(fields: Dict[str, str], line: str) -> Optional[int]:
+    word = fields.get("start")
+    try:
+        return int(word) if word else None
+    except ValueError:
+        raise ValueError(f"{line}: start is {word!r}, and has to be a tick") from None
 
 
 def _processes(count: int) -> ProcessPoolExecutor:
@@ -207,9 +249,10 @@ def _judged(claim: _Claim, cases: List[Case]) -> List[Judged]:
 
 def _verdict(claim: _Claim, case: Case) -> Judged:
     try:
-        verdict = claim.of(_bytes(case.trace), _bytes(case.decisions), case.correct, case.start)
+        decisions = None if case.decisions is None else _bytes(case.decisions)
+        verdict = claim.of(_bytes(case.trace), decisions, case.correct, case.start)
     except library.SynchronyError as why:
-        return Judged(case.name, None, str(why).partition("\n")[0])
+        return Judged(case.name, None, _line_of(why))
     except MemoryError:
         return Judged(case.name, None, "out of memory")
     except OSError as why:

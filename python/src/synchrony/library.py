@@ -7,8 +7,9 @@
     >>> bool(sy.check(trace, sy.report_text(trace, [1, 2]), correct=[1, 2]))
     True
 
-A text is bytes, a bytearray, a memoryview or a str; a path object names the file that has it. The correct processors are
-numbers, in any iterable, or the word "all": all processors of the trace. Both are read once, before the library is called.
+A text is bytes, a bytearray, a memoryview or a str; a path object names the file that has it. ValueError is raised for a str
+without an end of line, which is most likely a path. The correct processors are numbers, in any iterable, or the word "all":
+all processors of the trace. Both are read once, before the library is called.
 
 Nothing here is proved but what is called. Calls of several threads run side by side.
 """
@@ -180,6 +181,9 @@ def _reports(correct: Correct) -> Callable[[bytes], bytes]:
 
     def report_of(text: bytes) -> bytes:
         answer, out = _with_room(_room_for(text), call, mask, text, len(text))
+        if answer == BAD_SET:
+            # (a command line is answered in words, which name the processors)
+            return _asked("report", text, correct=listed)
         if answer:
             _refuse(answer, out)
         return out
@@ -245,7 +249,7 @@ def draw(
     asked = {"correct": _set_of(correct)[1], "from_tick": from_tick, "to_tick": to_tick, "names": names, "lanes": lanes, "unit": unit}
     if table is None:
         return _asked("draw", trace, **asked)
-    return _asked("draw", trace, _bytes_of(table), "--table=table", **asked)
+    return _asked("draw", trace, _bytes_of(table, "a table"), "--table=table", **asked)
 
 
 def page(
@@ -262,7 +266,7 @@ def page(
     listed = _set_of(correct)[1]
     if table is None:
         return _asked("page", trace, correct=listed, at=at, names=names, unit=unit)
-    return _asked("page", trace, _bytes_of(table), "--table=table", correct=listed, at=at, names=names, unit=unit)
+    return _asked("page", trace, _bytes_of(table, "a table"), "--table=table", correct=listed, at=at, names=names, unit=unit)
 
 
 def import_log(
@@ -286,7 +290,7 @@ def import_log(
     tick are one, if it sends nothing between them."""
     return _asked(
         "import",
-        log,
+        _bytes_of(log, "a log"),
         nodes=nodes,
         unit=unit,
         tick=tick,
@@ -310,10 +314,12 @@ def frame(trace: Text, correct: Correct) -> pandas.DataFrame:
 
 def check(trace: Text, certificate: Text, correct: Correct) -> Verdict:
     """Whether the certificate's rows are the report of the trace; if they aren't, the first reason against them."""
-    text, rows, (mask, listed) = _bytes_of(trace), _bytes_of(certificate), _set_of(correct)
+    text, rows, (mask, listed) = _bytes_of(trace), _bytes_of(certificate, "a certificate"), _set_of(correct)
     if mask == ALL and listed != "all":
         return _verdict(_asked("check", text, rows, correct=listed))
     answer, out = _with_room(LINE_ROOM, _library().synchrony_check, mask, text, len(text), rows, len(rows))
+    if answer == BAD_SET:
+        return _verdict(_asked("check", text, rows, correct=listed))
     if answer not in (0, NO):
         _refuse(answer, out)
     return _verdict(out)
@@ -338,7 +344,7 @@ def judge(
     if correct is None or within is None:
         raise TypeError("judge() takes correct and within")
     given = {"correct": _set_of(correct)[1], "within": within, "start": start, "valid": valid, "whole": whole, "due": due, "replay": replay}
-    second = None if decisions is None else _bytes_of(decisions)
+    second = None if decisions is None else _bytes_of(decisions, "decisions")
     line, *more = _asked("judge", trace, second, **given, factor=factor, rows=rows).decode().splitlines()
     least = _least_factor(more.pop(0)) if factor else None
     return Judgement(line, least, [_deadline_row(it) for it in more[1:]] if rows else None)
@@ -442,9 +448,7 @@ def _verdict(line: bytes) -> Verdict:
 
 
 def _refuse(answer: int, out: bytes) -> NoReturn:
-    """Raises what an answer is that isn't 0, with the words that the program has for it."""
-    if answer == BAD_SET:
-        raise SetRefused("no such processor in --correct", answer)
+    """Raises what an answer is that is a refusal, but not of the set, with the words that the program has for it."""
     if answer == BAD_TRACE:
         raise TraceRefused(f"trace: {out.decode()}", answer)
     if answer == BAD_CERTIFICATE:
@@ -495,11 +499,13 @@ def _with_room(least: int, call: Callable[..., int], *given: Any) -> Tuple[int, 
         least = written
 
 
-def _bytes_of(text: Text) -> bytes:
-    """The bytes of a text, or of the file that a path names."""
+def _bytes_of(text: Text, what: str = "a trace") -> bytes:
+    """The bytes of a text, or of the file that a path names. `what` names what the text is, for a refusal."""
     if isinstance(text, bytes):
         return text
     if isinstance(text, str):
+        if text and "\n" not in text and "\r" not in text:
+            raise ValueError(f"a str is the text of {what}, not a path: pass Path({text!r})")
         return text.encode()
     if isinstance(text, (bytearray, memoryview)):
         return bytes(text)

@@ -13,29 +13,37 @@ A protocol is a generator function `node(me, n, value)` that yields its steps. I
     run.decisions    what was decided: each with processor, tick and value
     run.check()      whether the bounds were kept, by the report of the proved library
 
-A processor whose generator ends goes on with Receives, whose messages nobody reads.
+A body is passed as it is, not copied: send tuples, or copies of what you change later. A processor whose generator ends
+goes on with Receives, whose messages nobody reads.
 """
 
 from __future__ import annotations
 
+import operator
 import random
+import sys
 from dataclasses import dataclass, field, replace
+from numbers import Real
 from typing import Any, Callable, Dict, Generator, Iterator, List, Mapping, NamedTuple, Optional, Sequence, Tuple, Union
 
 from . import library
 
 # The limits of a trace text.
 MOST_STEPS = MOST_TICKS = 1_000_000
+# How often a processor may decide between two of its steps.
+MOST_DECISIONS = 1_000
 
 
 class Send(NamedTuple):
-    """A step that sends one message to one processor."""
+    """A step that sends one message to one processor. The receiver gets the body itself, not a copy."""
 
     to: int
     body: Any
 
 
-class Receive(NamedTuple):
+# (no tuple: `yield from` of an empty one makes no step, and a loop of it has no end)
+@dataclass(frozen=True)
+class Receive:
     """A step that receives messages: it is answered by a list of (sender, body)."""
 
 
@@ -82,6 +90,9 @@ class Schedule:
 
     `crashed` names the processors that crash, each with the first tick in which it takes no step more, or with
     AfterSends(k): behind its k-th Send. The others are the correct ones.
+
+    TypeError is raised for a number of ticks, of Sends or of the seed that is no whole number, ValueError for one that is
+    too small, and for a chance that isn't from 0 to 1.
     """
 
     gst: int = 1
@@ -95,18 +106,61 @@ class Schedule:
     crashed: Mapping[int, Union[int, AfterSends]] = field(default_factory=dict)
 
     def __post_init__(self) -> None:
+        for name in ("gst", "delta", "phi", "seed"):
+            # (the fields of a frozen class are set so)
+            object.__setattr__(self, name, _whole(name, getattr(self, name)))
         for name in ("gst", "delta", "phi"):
             if getattr(self, name) < 1:
                 raise ValueError(f"{name} is a number of ticks, at least 1, not {getattr(self, name)}")
-        for name in ("speed", "speed_before", "loss", "prompt"):
-            given = getattr(self, name)
-            if not all(0 <= it <= 1 for it in (given.values() if isinstance(given, Mapping) else [given])):
-                raise ValueError(f"{name} is a chance, from 0 to 1, not {given}")
+        if self.seed < 0:
+            raise ValueError(f"seed is a number from 0 on, not {self.seed}")
+        _check_chance("prompt", self.prompt)
+        for name in ("speed", "speed_before", "loss"):
+            _check_chances(name, getattr(self, name))
+        object.__setattr__(self, "crashed", _whole_crashes(self.crashed))
+
+
+def _whole(name: str, given: Any) -> int:
+    """What is given for an argument, as an int. TypeError is raised if it is no whole number."""
+    try:
+        # (before Python 3.10 the index of True is True)
+        return int(operator.index(given))
+    except TypeError:
+        raise TypeError(f"{name} is {given!r}, and has to be a whole number") from None
+
+
+def _check_chance(name: str, given: Any) -> None:
+    """ValueError is raised if what is given is no chance."""
+    if not (isinstance(given, Real) and 0 <= float(given) <= 1):
+        raise ValueError(f"{name} is a chance, from 0 to 1, not {given!r}")
+
+
+def _check_chances(name: str, given: Any) -> None:
+    """The same of a mapping from processors to chances, or of one chance."""
+    if isinstance(given, Mapping):
+        for p, it in given.items():
+            _check_chance(f"{name}[{p!r}]", it)
+    else:
+        _check_chance(name, given)
+
+
+def _whole_crashes(given: Any) -> Dict[int, Union[int, AfterSends]]:
+    """The crashes of a schedule, with ints for their numbers. TypeError is raised if they are no mapping to such."""
+    if not isinstance(given, Mapping):
+        raise TypeError(f"crashed is {given!r}, and has to be a mapping from processors to ticks or AfterSends")
+    crashed: Dict[int, Union[int, AfterSends]] = {}
+    for key, when in given.items():
+        p = _whole("a processor of crashed", key)
+        if isinstance(when, AfterSends):
+            crashed[p] = AfterSends(_whole(f"crashed[{p}].sends", when.sends))
+        else:
+            crashed[p] = _whole(f"crashed[{p}]", when)
+    return crashed
 
 
 class Kept(NamedTuple):
     """Whether the bounds of a schedule were kept, which its truth says. delta and phi are the least bounds from gst on, by
-    the report of the library; they are None if the run ends before gst."""
+    the report of the library. They are None if the run ends before gst: then nothing was tested, and it is false."""
 
     gst: int
     delta: Optional[int]
@@ -115,7 +169,9 @@ class Kept(NamedTuple):
     asked_phi: int
 
     def __bool__(self) -> bool:
-        return (self.delta or 0) <= self.asked_delta and (self.phi or 0) <= self.asked_phi
+        if self.delta is None or self.phi is None:
+            return False
+        return self.delta <= self.asked_delta and self.phi <= self.asked_phi
 
     def __str__(self) -> str:
         if self.delta is None:
@@ -127,8 +183,8 @@ class Kept(NamedTuple):
 class Run:
     """A run: its trace as a text, what was decided in the order in which it was, and the processors that don't crash."""
 
-    trace: bytes
-    decisions: List[Decision]
+    trace: bytes = field(repr=False)
+    decisions: List[Decision] = field(repr=False)
     correct: List[int]
     schedule: Schedule
     ticks: int
@@ -139,7 +195,8 @@ class Run:
         return library.report(self.trace, self.correct)
 
     def check(self) -> Kept:
-        """Whether the bounds of the schedule were kept from gst on, by the report of the trace."""
+        """Whether the bounds of the schedule were kept from gst on, by the report of the trace. A run that ends before gst
+        doesn't keep them."""
         asked = self.schedule.gst, self.schedule.delta, self.schedule.phi
         if asked[0] > self.ticks:
             return Kept(asked[0], None, None, *asked[1:])
@@ -153,21 +210,23 @@ class Run:
         valid: bool = False,
         whole: bool = False,
         due: Optional[int] = None,
-        value: Callable[[Any], int] = int,
+        value: Callable[[Any], int] = operator.index,
         factor: bool = False,
         rows: bool = False,
     ) -> library.Judgement:
         """Whether the correct processors decided within a formula of the bounds, and agreed.
 
         `within` and the options are those of `library.judge`. Decisions are passed to it as numbers: `value` makes one
-        of each decision. One that was made before a step counts as made in tick 1.
+        of each decision, which may be left out if they are whole numbers. A decision before the first step counts as made in
+        tick 1. ValueError is raised for a decision without a number of 64 bits.
         """
         decisions = self.decisions_text(value)
         return library.judge(self.trace, decisions, self.correct, within, start=start, valid=valid, whole=whole, due=due, factor=factor, rows=rows)
 
-    def decisions_text(self, value: Callable[[Any], int] = int) -> bytes:
-        """The decisions as a CSV for `library.judge`; `value` makes a number of each."""
-        rows = "".join(f"{it.proc},{max(1, it.tick)},{value(it.value)}\n" for it in self.decisions)
+    def decisions_text(self, value: Callable[[Any], int] = operator.index) -> bytes:
+        """The decisions as a CSV for `library.judge`; `value` makes a number of each. ValueError is raised for a decision
+        without a number of 64 bits."""
+        rows = "".join(f"{it.proc},{max(1, it.tick)},{_number_of(it, value)}\n" for it in self.decisions)
         return f"proc,tick,value\n{rows}".encode()
 
     def decided(self) -> Dict[int, Any]:
@@ -186,13 +245,30 @@ class Run:
         return found
 
 
+def _number_of(decision: Decision, value: Callable[[Any], int]) -> int:
+    """The number that `value` makes of a decision. ValueError is raised if it is none of 64 bits, without a sign."""
+    why: Optional[TypeError] = None
+    try:
+        number = int(operator.index(value(decision.value)))
+        if 0 <= number < 1 << 64:
+            return number
+    except TypeError as error:
+        why = error
+    words = f"processor {decision.proc} decided {decision.value!r} {_when(decision.tick)}, which is no number of 64 bits"
+    raise ValueError(f"{words}: pass value=, which makes one of each decision") from why
+
+
 def simulate(node: Protocol, values: Sequence[int], schedule: Schedule = Schedule(), ticks: int = 1000, faults: Optional[int] = None) -> Run:
-    """The run of so many ticks of one node for each initial value. The same arguments give the same run.
+    """The run of so many ticks of one node for each initial value. The same arguments give the same run. Whole numbers may
+    be of any type that has `__index__`; so an initial value True is 1. A Send to True is refused.
 
     `faults` is the t of the trace's header; if it is left out, it is the number of processors that crash, if so many can
-    be faulty. ValueError is raised for arguments outside of a trace's limits, for a run of more than 1,000,000 steps, and
-    for a Send to no processor; TypeError for a protocol that yields something else than a step.
+    be faulty. ValueError is raised for arguments outside of a trace's limits, for a schedule or a Send that names no
+    processor of the run, for a run of more than 1,000,000 steps, and for a processor that decides more than 1,000 times
+    between two steps. TypeError is raised for an argument that is no whole number, and for a protocol that yields something
+    else than a step. An error of the protocol itself names the processor and the tick in a note, from Python 3.11 on.
     """
+    values, ticks = [_whole(f"values[{at}]", it) for at, it in enumerate(values)], _whole("ticks", ticks)
     n = len(values)
     if not 2 <= n <= library.MOST_PROCESSORS:
         raise ValueError(f"a run has 2 to {library.MOST_PROCESSORS} processors, not {n}")
@@ -200,10 +276,9 @@ def simulate(node: Protocol, values: Sequence[int], schedule: Schedule = Schedul
         raise ValueError(f"a run has at most {MOST_TICKS} ticks, not {ticks}")
     if not all(0 <= it < 1 << 64 for it in values):
         raise ValueError("an initial value is a number of 64 bits, without a sign")
-    if not all(1 <= it <= n for it in schedule.crashed):
-        raise ValueError(f"the schedule crashes a processor that isn't one of 1 to {n}")
+    _check_processors(schedule, n)
     most = (n - 1) // 2
-    faults = min(len(schedule.crashed), most) if faults is None else faults
+    faults = min(len(schedule.crashed), most) if faults is None else _whole("faults", faults)
     if not 0 <= faults <= most:
         raise ValueError(f"at most {most} of {n} processors can be faulty, not {faults}")
     nodes = _Nodes(node, values)
@@ -213,6 +288,15 @@ def simulate(node: Protocol, values: Sequence[int], schedule: Schedule = Schedul
     lines += [f"end,{ticks}", ""]
     correct = [it for it in range(1, n + 1) if it not in schedule.crashed]
     return Run("\n".join(lines).encode(), nodes.decisions, correct, schedule, ticks, steps)
+
+
+def _check_processors(schedule: Schedule, n: int) -> None:
+    """ValueError is raised if a mapping of the schedule names a processor that isn't one of these n."""
+    for name in ("speed", "speed_before", "loss", "crashed"):
+        given = getattr(schedule, name)
+        for p in given if isinstance(given, Mapping) else ():
+            if p not in range(1, n + 1):
+                raise ValueError(f"{name} names processor {p!r}, which is none of 1 to {n}")
 
 
 def smallest(schedule: Schedule, fails: Callable[[Schedule], bool]) -> Schedule:
@@ -257,32 +341,69 @@ class _Nodes:
         self.sends = [it.send for it in self.generators]
         self.next_steps: List[Step] = [Receive()] * (self.n + 1)
         for p in range(1, self.n + 1):
-            self.go_on(p, 0, None)
+            self.accept(p, 0, self.go_on(p, 0))
 
-    def go_on(self, p: int, tick: int, answer: Any) -> None:
-        """Finds the next step of p, after the answer to its last one; what it decides on the way counts from this tick on."""
+    def go_on(self, p: int, tick: int) -> Step:
+        """What p yields next, without an answer; a Receive if its generator has ended."""
         try:
-            self.accept(p, tick, self.sends[p](answer))
+            return self.sends[p](None)
         except StopIteration:
-            self.end(p)
+            return self.end(p)
+        except Exception as why:
+            _add_note(why, p, tick)
+            raise
 
     def accept(self, p: int, tick: int, step: Step) -> None:
-        """Takes what p yielded: what isn't a step is refused, and a decision isn't one either."""
+        """Takes what p yielded after its step in this tick: what isn't a step is refused, and a decision isn't one either."""
+        decided = 0
         while type(step) is Decide:
+            if decided == MOST_DECISIONS:
+                raise ValueError(f"processor {p} decides {decided} times without a step, {_when(tick)}: yield Send or Receive between decisions")
+            decided += 1
             self.decisions.append(Decision(p, tick, step.value))
-            step = self.sends[p](None)
+            step = self.go_on(p, tick)
         if type(step) is Send:
-            if not 1 <= step.to <= self.n:
-                raise ValueError(f"processor {p} sends to {step.to}, which is none of 1 to {self.n}")
+            step = Send(self.receiver(p, tick, step.to), step.body)
         elif type(step) is not Receive:
-            raise TypeError(f"processor {p} yields {step!r}, which is no Send, Receive or Decide")
+            raise TypeError(f"processor {p} yields {step!r}, which is no Send, Receive or Decide, {_when(tick)}{self.hint(p, step)}")
         self.next_steps[p] = step
 
-    def end(self, p: int) -> None:
+    def receiver(self, p: int, tick: int, to: Any) -> int:
+        """The processor to which p sends, as an int. ValueError is raised if there is none. (True is most likely a slip.)"""
+        is_number = hasattr(to, "__index__") and not isinstance(to, (bool, type))
+        if not is_number or not 1 <= operator.index(to) <= self.n:
+            raise ValueError(f"processor {p} sends to {to!r}, which is none of 1 to {self.n}, {_when(tick)}")
+        return int(operator.index(to))
+
+    def hint(self, p: int, step: Any) -> str:
+        """What p has to write in place of what it yields, if that is known."""
+        if isinstance(step, type):
+            return f": write {step.__name__}(..)" if step in (Send, Receive, Decide) else ""
+        if hasattr(step, "send"):
+            return ": write yield from"
+        at: Any = self.generators[p]
+        while getattr(at, "gi_yieldfrom", None) is not None:
+            at = at.gi_yieldfrom
+        # (a Send or a Decide is a tuple, so `yield from` yields its fields)
+        return ": write yield, not yield from" if isinstance(at, type(iter(()))) else ""
+
+    def end(self, p: int) -> Step:
         """The generator of p has ended: it receives from now on."""
         self.generators[p] = _idle()
         self.sends[p] = self.generators[p].send
-        self.next_steps[p] = self.sends[p](None)
+        return self.sends[p](None)
+
+
+def _when(tick: int) -> str:
+    """When a processor did something after its last step, which was in this tick, or in 0 if it has made none."""
+    return f"in tick {tick}" if tick else "before its first step"
+
+
+def _add_note(why: Exception, p: int, tick: int) -> None:
+    """Adds to an error of a protocol the processor that raised it, and when. (Older Pythons have no notes.)"""
+    if sys.version_info >= (3, 11):
+        when = f"after its step in tick {tick}" if tick else "before its first step"
+        why.add_note(f"in processor {p}, {when}")
 
 
 def _idle() -> Generator[Step, Any, None]:
@@ -332,13 +453,16 @@ def _go(nodes: _Nodes, schedule: Schedule, ticks: int, lines: List[str]) -> None
                 append(f"{number},{tick},{p},R,{numbers}")
             try:
                 step = sends[p](answer)
-                # (most steps are a Receive, or a Send to a processor that is there)
-                if type(step) is Receive or (type(step) is Send and 1 <= step.to <= n):
-                    next_steps[p] = step
-                else:
-                    accept(p, tick, step)
             except StopIteration:
-                nodes.end(p)
+                step = nodes.end(p)
+            except Exception as why:
+                _add_note(why, p, tick)
+                raise
+            # (most steps are a Receive, or a Send to a processor that is there)
+            if type(step) is Receive or (type(step) is Send and type(to := step.to) is int and 1 <= to <= n):
+                next_steps[p] = step
+            else:
+                accept(p, tick, step)
         if number > MOST_STEPS:
             raise ValueError(f"the run has more than {MOST_STEPS} steps by tick {tick}")
 

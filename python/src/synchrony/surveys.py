@@ -84,7 +84,7 @@ class Table:
     """A row for each trace, in the order in which the traces were given."""
 
     ticks: Tuple[Union[int, str], ...]
-    rows: List[Surveyed] = field(default_factory=list)
+    rows: List[Surveyed] = field(default_factory=list, repr=False)
 
     def columns(self) -> List[str]:
         """The names of the bounds: delta and phi, with their tick if there are several."""
@@ -159,7 +159,11 @@ def survey(
     A trace that is refused or can't be read, or whose name has no such number, has a row with its error. If a worker
     dies, each trace of its batch is tried once more, alone; a trace whose worker dies again has an error. If a given
     executor doesn't work any more, all that it hasn't answered has an error.
+
+    TypeError is raised for a single trace that isn't in an iterable, ValueError for a str that is most likely a path.
     """
+    if isinstance(traces, (str, bytes, bytearray, memoryview, os.PathLike)):
+        raise TypeError(f"survey takes traces in an iterable, as a list of paths, not a single {type(traces).__name__}")
     ticks = _ticks_of(at)
     _, listed = library._set_of(correct)
     job = _Job("all" if listed == "all" else [int(it) for it in listed.split(",") if it != "none"], ticks, at if isinstance(at, str) else None)
@@ -248,12 +252,17 @@ def _reported(job: _Job, reports: Callable[[bytes], bytes], text: Union[bytes, s
             text = _file(text)
         return reports(text), _length(text), ticks, None
     except library.SynchronyError as why:
-        error = str(why).partition("\n")[0]
+        error = _line_of(why)
     except MemoryError:
         error = "out of memory"
     except OSError as why:
         error = f"cannot read: {why.strerror or why}"
     return b"", None, (), error
+
+
+def _line_of(why: library.SynchronyError) -> str:
+    """The words of a refusal in one line."""
+    return str(why).replace("\n", "; ")
 
 
 def _answer(report: bytes, length: Optional[Tuple[int, int]], ticks: Tuple[int, ...], error: Optional[str]) -> Answer:
