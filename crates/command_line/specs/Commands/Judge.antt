@@ -1,6 +1,6 @@
 -- The command `judge`: what it takes, and the job that its words give.
 use Rattle.std.specs.Prelude.{ℕ, ◌≡◌, ◌⊎◌, Bool, true, false, ◌||◌, is_some, List, [], ◌∷◌}
-use Rattle.std.specs.Prelude.{Option, Some, None, codes, option_map, string_bytes}
+use Rattle.std.specs.Prelude.{◌++◌, Option, Some, None, codes, option_map, string_bytes}
 use Rattle.clap.specs.Words.{App, Row, first_of}
 use Rattle.step_trace.specs.declared.correct_sets.Correct.{Correct}
 use Rattle.step_trace.specs.declared.correct_sets.Correct.TheVariants as correct
@@ -83,6 +83,7 @@ IsJudgeFault name decided list replay e = IsListFault list e
 abbrev pub IsNoListRefusal : LineError → Type 0
 IsNoListRefusal (unread.Refused text) =
     string_bytes text ≡ codes "synchrony: judge takes either --correct LIST or --runs"
+    ++ (10 ∷ codes "synchrony: FILE is a trace, for which LIST says who was correct, or with --runs a list of runs")
 IsNoListRefusal _ = ⊥
 
 abbrev pub IsNoListFault : LineError → Type 0

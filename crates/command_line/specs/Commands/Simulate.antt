@@ -66,7 +66,7 @@ AreNamed (Some text) crashes = IsCrashList text crashes
 -- the words in which a list of crashes is refused that is none, or that doesn't fit the processors
 abbrev pub bad_crash_words : List ℕ
 bad_crash_words = codes "synchrony: bad --crash"
-    ++ (10 ∷ codes "synchrony: --crash takes P@TICK with one comma between each two, each P once")
+    ++ (10 ∷ codes "synchrony: --crash takes P@TICK with one comma between each two, each P once and from 1 to N")
 
 -- the text lists no crashes; or out of memory
 abbrev pub IsCrashListFault : Option Text → LineError → Type 0
@@ -102,7 +102,7 @@ bad_bounds_words = codes "synchrony: bad --gst"
 
 abbrev pub bad_phi_words : List ℕ
 bad_phi_words = codes "synchrony: bad --phi"
-    ++ (10 ∷ codes "synchrony: no schedule keeps it: it is below the number of live processors")
+    ++ (10 ∷ codes "synchrony: one processor steps in each tick, so --phi is at least the number of those that don't crash")
 
 -- the words in which these bounds are refused if so many processors are live; none if they aren't refused
 abbrev pub bounds_refusal : ℕ → Option ℕ → Option ℕ → Option ℕ → Option (List ℕ)

@@ -34,7 +34,7 @@ const TABLE_HELP: &str =
     "The table of the trace's steps, from which it takes names, messages and records; - is standard input";
 
 const UNIT_HELP: &str =
-    "The unit of the table's times: s, ms, us or ns; time stamps since 2001 need none";
+    "The unit of the times of --table: s, ms, us or ns; time stamps since 2001 need none";
 
 /// The picture of the trace in a file, as SVG. One of the two files at most is standard input.
 #[derive(Debug, Drop)]
@@ -156,8 +156,9 @@ LIST.
 
 Without --from and --to these are the ticks of the first evidence: the silence or
 the late message, or both, that rules out smaller bounds from tick 1 on, with a
-seventh more at both ends. At most the first 1,000 of them are drawn. Without
-evidence they are the ticks 1 to 100.
+seventh more at both ends. If these are more than 1,000, they are at most 142
+before the evidence, and its first ones. Without evidence they are the ticks 1 to
+100.
 
 STEPS is the table that `import LOG --table` prints, by the same options as the
 trace. With it nodes and messages have their names of the log, and each step has

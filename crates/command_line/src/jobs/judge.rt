@@ -28,7 +28,8 @@ const DECISIONS_HELP: &str = "Who decided what, and when; - is standard input";
 
 const REPLAY_HELP: &str = "Judges the decisions that replay finds in the trace";
 
-const RUNS_HELP: &str = "Judges each run of a list, and counts them";
+const RUNS_HELP: &str =
+    "Judges each run of a list; without DECISIONS, --factor, --rows and --replay";
 
 const WITHIN_HELP: &str = "How many ticks they have, such as 3*phi*n + delta";
 
@@ -156,7 +157,7 @@ fn no_list(alloc: Global) -> Result<LineError, AllocError>
 {
     let text = String::from_str(
         alloc,
-        "synchrony: judge takes either --correct LIST or --runs",
+        "synchrony: judge takes either --correct LIST or --runs\nsynchrony: FILE is a trace, for which LIST says who was correct, or with --runs a list of runs",
     )?;
     Ok(LineError::Refused(text))
 }

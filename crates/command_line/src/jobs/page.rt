@@ -23,13 +23,13 @@ const AT_HELP: &str =
     "Takes the run to be calm from this tick on; the page chooses one if it is left out";
 
 const NAMES_HELP: &str =
-    "The names of all processors, in their order; their numbers if it is left out";
+    "The names of all processors, in their order; else those of --table, or their numbers";
 
 const TABLE_HELP: &str =
     "The table of the trace's steps, from which it takes names, messages and records; - is standard input";
 
 const UNIT_HELP: &str =
-    "The unit of the table's times: s, ms, us or ns; time stamps since 2001 need none";
+    "The unit of the times of --table: s, ms, us or ns; time stamps since 2001 need none";
 
 const BAD_UNIT: &str = "synchrony: bad --unit\nsynchrony: --unit takes s, ms, us or ns";
 
@@ -192,7 +192,8 @@ trace. With it nodes and messages have their names of the log, and each step
 that the page tells of has the number of its record there. With the unit U of
 its times, ticks are told as time, too, counted from the first tick on. That is
 ns, unless the log has plain numbers and was imported without --unit; times from
-September 2001 on, in nanoseconds since 1970, need no U.
+September 2001 on, in nanoseconds since 1970, need no U. --names and --table go
+one without the other.
 
 At most 40 pieces of evidence have a card, and the page says how many have none.
 The same input gives the same bytes.

@@ -43,6 +43,16 @@ const UNTIL_HELP: &str = "decided: the run ends once all have decided";
 const FOLLOW_HELP: &str =
     "Tells of the bounds of these processors meanwhile: 1,2,5, or all, or none";
 
+const BAD_NODES: &str = "synchrony: bad --nodes\nsynchrony: --nodes takes a number from 2 to 64";
+
+const BAD_FAULTS: &str =
+    "synchrony: bad --faults\nsynchrony: --faults takes a number T such that 2 * T + 1 is at most N";
+
+const BAD_VALUES: &str =
+    "synchrony: bad --values\nsynchrony: --values takes N numbers from 0 to 18446744073709551615 with one comma between each two";
+
+const TOO_MANY_STEPS: &str = "synchrony: too many steps\nsynchrony: N * S is at most 1000000";
+
 const BAD_PACE: &str = "synchrony: bad --pace\nsynchrony: --pace takes heard-out or patience";
 
 const NO_PATIENCE: &str =
@@ -271,7 +281,7 @@ fn limited(alloc: Global, n: u64, t: u64, list: &str, steps: u64) -> Result<Conf
 {
     let config = configuration(alloc, n, t, list)?;
     if is_too_long(n, steps) {
-        let text = String::from_str(alloc, "synchrony: too many steps")?;
+        let text = String::from_str(alloc, TOO_MANY_STEPS)?;
         return Err(LineError::Refused(text));
     }
     Ok(config)
@@ -304,9 +314,9 @@ fn config_fault(alloc: Global, why: ConfigError) -> Result<LineError, AllocError
     ensures { IfOk result (TellsConfig why) }
 {
     let words = match why {
-        ConfigError::BadSize => "synchrony: bad --nodes",
-        ConfigError::BadFaults => "synchrony: bad --faults",
-        ConfigError::BadInit => "synchrony: bad --values",
+        ConfigError::BadSize => BAD_NODES,
+        ConfigError::BadFaults => BAD_FAULTS,
+        ConfigError::BadInit => BAD_VALUES,
     };
     Ok(LineError::Refused(String::from_str(alloc, words)?))
 }

@@ -42,7 +42,7 @@ const SEED_HELP: &str = "The seed: the same words print the same trace";
 
 const SCHEDULE_HELP: &str = "Who is named for each step: turns, random or bursts";
 
-const GST_HELP: &str = "The tick after which the bounds hold";
+const GST_HELP: &str = "The last tick before the bounds hold, which they do from G + 1 on";
 
 const DELTA_HELP: &str = "The communication bound, in ticks";
 
@@ -59,13 +59,13 @@ const BAD_BOUNDS: &str =
     "synchrony: bad --gst\nsynchrony: --gst, --delta and --phi are given together or not at all";
 
 const BAD_PHI: &str =
-    "synchrony: bad --phi\nsynchrony: no schedule keeps it: it is below the number of live processors";
+    "synchrony: bad --phi\nsynchrony: one processor steps in each tick, so --phi is at least the number of those that don't crash";
 
 const TOO_MANY_CRASHES: &str =
     "synchrony: bad --crash\nsynchrony: more processors crash than may be faulty";
 
 const BAD_CRASH: &str =
-    "synchrony: bad --crash\nsynchrony: --crash takes P@TICK with one comma between each two, each P once";
+    "synchrony: bad --crash\nsynchrony: --crash takes P@TICK with one comma between each two, each P once and from 1 to N";
 
 /// The greatest patience.
 const MAX_PATIENCE: u64 = 1_000_000;
@@ -316,7 +316,8 @@ sent, or after G. Without these options it is due in the next tick.
 A patience of 8 * D + (4 * N + 18) * F let all live processors decide in every
 run that was tried.
 
-Standard error tells after the trace what each processor decided, and when.
+Standard error tells after the trace what each processor decided, and when, and
+whether the run ends before the bounds hold.
 
 Example, at the top of the repository:
   ./synchrony simulate --nodes 3 --faults 1 --values 5,7,7 --patience 244 \\
