@@ -1,9 +1,9 @@
 -- How long the least rounds take, whoever owes an acknowledgement.
 use Rattle.std.proofs.Common.{ℕ, zero, suc, ◌≡◌, ◌≢◌, ◌+◌, ◌-◌, ◌*◌, ◌%◌, ◌≤◌, inl, inr, Option, Some, None, is_some, Bool, true, false, ◌==◌, ◌&&◌, refl, sym, ap, subst, ◌∙◌, arith}
 use Rattle.std.proofs.lemmas.Bool.{true≢false, cases_eq, eqb-true, and_parts}
-use Rattle.patience_laws.proofs.Common.{Setup, IsProc, has_proc, Recorded, Ack, Locks, with_proper, part_of, owner}
+use Rattle.patience_laws.proofs.Common.{Setup, has_proc, Recorded, Ack, Locks, with_proper, part_of, owner}
 use Rattle.patience_laws.proofs.Common.{phase_of, Acknowledging, part_at-acknowledging, acknowledgement-sent}
-use Rattle.patience_laws.proofs.Common.{locks-sent, member-positive, passed, passed-before, IsInRoundFrom, may_hear_of}
+use Rattle.patience_laws.proofs.Common.{locks-sent, passed, passed-before, IsInRoundFrom, may_hear_of}
 use Rattle.patience_laws.proofs.Common.{KeepsBounds, AreInTouch, AreInRoundFrom, node_in, TakeInOrder, HearThemselves}
 use Rattle.lock_phases.specs.NodeFunctions.{out}
 use Rattle.patience_laws.proofs.RoundSends.{times-more}
@@ -11,6 +11,7 @@ use Rattle.patience_laws.proofs.RoundsHeard.{hears-ends}
 use Rattle.patience_laws.proofs.RoundMessages.{few-all, few-one, IsSentBy, sent-by}
 use Rattle.patience_laws.proofs.LeastRounds.{may-in, part-next, proposal-kept, AreTold, told-ends, says, listing-ends, locking-ends, releasing-ends, touch-later}
 use Rattle.patience_laws.proofs.OwedAcknowledgements.{same-phase, owes-itself}
+use Rattle.patience_laws.proofs.MemberRounds.{member-proc}
 
 -- who is no owner hears nobody in an acknowledging round
 deaf-other : (b a : Bool) → b ≡ false → (b && a) ≡ false
@@ -52,9 +53,6 @@ module _ (patience set : ℕ) (trace : Recorded) (g d f : ℕ) (keeps : KeepsBou
         let one = times-more 0 f in
         told-ends patience set trace g d f keeps (round + 1) x touch there (omega arith) p 1 (x + f + f + c.n * f) m (few-one c trace.steps p (round + 1) (inr third)) (omega arith) told
       where
-        proc : (q : ℕ) → has_proc set q ≡ true → IsProc c q
-        proc q mq = (member-positive set q mq, keeps.within q mq)
-
         came : x + f ≤ trace.last → round + 1 ≤ passed trace.steps p + 1
         came last =
             let s = keeps.phi.each x touch.since (omega arith) p m in
@@ -82,7 +80,7 @@ module _ (patience set : ℕ) (trace : Recorded) (g d f : ℕ) (keeps : KeepsBou
             mine same = subst (λ j. IsSentBy trace j p (round + 1) (x + f + f + c.n * f)) (sym same) (sent_by
                 (let one = times-more 0 f in
                 says patience set trace g d f keeps (round + 1) x touch there (omega arith) 0 p p
-                (with_proper (node_in c trace.steps p (round + 1)) Ack) m (proc p m)
+                (with_proper (node_in c trace.steps p (round + 1)) Ack) m (member-proc c set keeps.within p m)
                 (few-one c trace.steps p (round + 1) (inr third))
                 (subst (λ to. out c (node_in c trace.steps p (round + 1)) p (round + 1) to ≡ Some
                 (with_proper (node_in c trace.steps p (round + 1)) Ack)) (sym own)
@@ -96,12 +94,12 @@ module _ (patience set : ℕ) (trace : Recorded) (g d f : ℕ) (keeps : KeepsBou
                 owes =
                     let v = proposes (node_in c trace.steps p (round + 1)).proposal refl parts.1 in
                     let come = came (omega arith) in
-                    owes-itself trace patience set keeps.run order round low part itself p v.0 (own ∙ ap (owner c.n) (same-phase round low part)) m (proc p m)
+                    owes-itself trace patience set keeps.run order round low part itself p v.0 (own ∙ ap (owner c.n) (same-phase round low part)) m (member-proc c set keeps.within p m)
                     (sym (proposal-kept c trace.steps p round low part) ∙ v.1) (omega arith)
 
             theirs : q ≢ owner c.n (phase_of (round + 1)) → IsSentBy trace q p (round + 1) (x + f + f + c.n * f)
             theirs other =
-                let is = proc q mq in
+                let is = member-proc c set keeps.within q mq in
                 let first = is.0 in
                 let high = is.1 in
                 let e : suc (c.n - 1) ≡ c.n = omega arith in
@@ -111,7 +109,7 @@ module _ (patience set : ℕ) (trace : Recorded) (g d f : ℕ) (keeps : KeepsBou
                 let few = few-all c trace.steps q (round + 1 + 1) in
                 let fourth : part_of (round + 1 + 1) ≡ 4 = part-next (round + 1) 3 (omega arith) (omega arith) third in
                 let s = sent-by trace patience set g f q keeps.run keeps.trace_is.time (keeps.paced q mq) mq keeps.phi (round + 1 + 1) (x + 1 * f + f) (omega arith) (other-goes q mq other) (omega arith)
-                (c.n - 1) p (with_proper (node_in c trace.steps q (round + 1 + 1)) (Locks (node_in c trace.steps q (round + 1 + 1)).locks)) (omega arith) (proc p m)
+                (c.n - 1) p (with_proper (node_in c trace.steps q (round + 1 + 1)) (Locks (node_in c trace.steps q (round + 1 + 1)).locks)) (omega arith) (member-proc c set keeps.within p m)
                 (locks-sent c (node_in c trace.steps q (round + 1 + 1)) q (round + 1 + 1) p fourth) (omega arith) in
                 let later = s.later in
                 record { message = s.message; sent = s.sent; later = omega (arith, s.by); by = omega (arith, s.by) }

@@ -2,13 +2,14 @@
 use Rattle.std.proofs.Common.{ℕ, zero, suc, ◌≡◌, ◌+◌, ◌-◌, ◌*◌, true, subst, arith}
 use Rattle.std.proofs.lemmas.Option.{none-some}
 use Rattle.patience_laws.proofs.Common.{Send, Receive, has_proc, Recorded, number_below, ticks_rise, part_of}
-use Rattle.patience_laws.proofs.Common.{member-positive, HasHeardOf, Suspects, IsInRoundFrom, KeepsBounds}
+use Rattle.patience_laws.proofs.Common.{HasHeardOf, Suspects, IsInRoundFrom, KeepsBounds}
 use Rattle.patience_laws.proofs.Common.{AreInRoundFrom, ComesTo, ComeTogether, MeetOnce}
 use Rattle.patience_laws.proofs.PacedSteps.{round-here}
 use Rattle.patience_laws.proofs.RoundSends.{round_at-up}
 use Rattle.patience_laws.proofs.UnheardSuspects.{suspect-unheard}
 use Rattle.patience_laws.proofs.LeastRounds.{releasing-ends, touch-later}
 use Rattle.patience_laws.proofs.PatienceTicks.{rounds-ended}
+use Rattle.patience_laws.proofs.MemberRounds.{member-proc}
 use Rattle.patience_laws.proofs.HeardRounds.{may-all}
 
 module _ (patience set : ℕ) (trace : Recorded) (g d f : ℕ) (keeps : KeepsBounds patience set trace g d f) (round y : ℕ) (meet : MeetOnce patience set trace g round y) where
@@ -48,7 +49,7 @@ module _ (patience set : ℕ) (trace : Recorded) (g d f : ℕ) (keeps : KeepsBou
       let ended = rounds-ended trace.config patience trace.steps p k come.ids come.step in
       let here = round-here trace.steps p k in
       let is = come.round_is in
-      suspect-unheard trace.config patience trace.steps p q (suc k) (round - 1) keeps.run.well_formed (member-positive set q mq, keeps.within q mq) (omega arith) suspects (heard-of p q (suc k) mp mq come)
+      suspect-unheard trace.config patience trace.steps p q (suc k) (round - 1) keeps.run.well_formed (member-proc trace.config set keeps.within q mq) (omega arith) suspects (heard-of p q (suc k) mp mq come)
 
   pub come-together : ComeTogether patience set trace g d f round y
   come-together = record {

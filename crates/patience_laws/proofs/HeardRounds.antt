@@ -4,7 +4,7 @@ use Rattle.std.proofs.lemmas.Bool.{cases_lt, cases_eq}
 use Rattle.std.proofs.lemmas.Option.{none-some}
 use Rattle.patience_laws.proofs.Common.{Act, Send, Receive, Step, Setup, IsProc, has_proc, Recorded, step_at, tick_of}
 use Rattle.patience_laws.proofs.Common.{step_at_within, number_below, ticks_rise, part_of, Releasing, part_at-releasing}
-use Rattle.patience_laws.proofs.Common.{member-positive, passed, before, round_at, node_before, may_hear, HasHeardOf}
+use Rattle.patience_laws.proofs.Common.{passed, before, round_at, node_before, may_hear, HasHeardOf}
 use Rattle.patience_laws.proofs.Common.{HearOut, IsHeardOut, deciding_round, HasPassedBy, round_at-passed, Suspects}
 use Rattle.patience_laws.proofs.Common.{WasSilent, IsInRoundFrom, may_hear_of, KeepsBounds, AreInRoundFrom}
 use Rattle.patience_laws.proofs.Common.{OweAcknowledgements, IsHeardOutByAll, ComesTo, ComeTogether}
@@ -18,6 +18,7 @@ use Rattle.patience_laws.proofs.RoundSends.{round_at-up}
 use Rattle.patience_laws.proofs.EndedReceives.{Why, Complete, Behind, Impatient, why-ends, complete-heard}
 use Rattle.patience_laws.proofs.LeastRounds.{may-in, part-next, listing-ends, locking-ends, acknowledging-ends, releasing-ends, touch-later}
 use Rattle.patience_laws.proofs.PatienceTicks.{IsEndOf, rounds-ended, end-of, patience-lasts}
+use Rattle.patience_laws.proofs.MemberRounds.{member-proc, end-later}
 use Rattle.patience_laws.proofs.OwedAcknowledgements.{owe-all}
 
 -- in a lock-release round all may be heard
@@ -36,9 +37,6 @@ module _ (patience set : ℕ) (trace : Recorded) (g d f : ℕ) (keeps : KeepsBou
   abbrev t : ℕ
   t = 4 * d + 2 * (trace.config.n * f) + 9 * f
 
-  proc : (q : ℕ) → has_proc set q ≡ true → IsProc c q
-  proc q m = (member-positive set q m, keeps.within q m)
-
   -- the rounds up to this one are heard out
   abbrev pub HeardBefore : ℕ → Type 0
   HeardBefore r = (s : ℕ) → round ≤ s → s < r → IsHeardOutByAll set trace s
@@ -49,13 +47,6 @@ module _ (patience set : ℕ) (trace : Recorded) (g d f : ℕ) (keeps : KeepsBou
   -- an end of a round is at the round
   end-round : (p r : ℕ) (e : IsEndOf trace.steps p r) → round_at trace.steps p (suc e.place) ≡ r
   end-round p r e = round-here trace.steps p e.place ∙ e.round_is
-
-  -- who ends a later round ends it later
-  end-later : (p r s : ℕ) (e : IsEndOf trace.steps p r) (h : IsEndOf trace.steps p s) → r ≤ s → tick_of trace (suc e.place) ≤ tick_of trace (suc h.place)
-  end-later p r s e h l = elim (cases_lt h.place e.place) [
-    | inl before ↦ absurd (let up = rounds-up c patience trace.steps p (suc h.place) e.place (omega arith) in let a = h.after in let b = e.round_is in omega arith)
-    | inr after ↦ ticks_rise trace keeps.trace_is.time (suc e.place) (suc h.place) (record { proc = p; act = Receive true e.ids }) (record { proc = p; act = Receive true h.ids }) e.step h.step (omega arith)
-  ]
 
   -- how p comes to the round
   comes : (p : ℕ) (e : IsEndOf trace.steps p (round - 1)) → ComesTo trace.steps p round (suc e.place)
@@ -94,7 +85,7 @@ module _ (patience set : ℕ) (trace : Recorded) (g d f : ℕ) (keeps : KeepsBou
               let is = e.round_is in
               let e0 = end-of c patience trace.steps p (round - 1) e.place (omega arith) (omega arith) in
               let first = come.first p (suc e0.0.place) m (comes p e0.0) in
-              let rise = end-later p (round - 1) (fr - 1) e0.0 e (omega arith) in
+              let rise = end-later trace patience keeps.trace_is.time p (round - 1) (fr - 1) e0.0 e (omega arith) in
               omega arith
 
           -- each has sent its locks
@@ -142,7 +133,7 @@ module _ (patience set : ℕ) (trace : Recorded) (g d f : ℕ) (keeps : KeepsBou
 
     module _ (heard : IsHeardOutByAll set trace (fr + 1)) where
       owe : OweAcknowledgements set trace (fr + 1 + 1)
-      owe = owe-all trace patience set keeps.run come.order (fr + 1) (omega arith) part2 heard proc
+      owe = owe-all trace patience set keeps.run come.order (fr + 1) (omega arith) part2 heard (member-proc c set keeps.within)
 
       fourth : AreInRoundFrom set trace (fr + 1 + 1 + 1) x4
       fourth = acknowledging-ends patience set trace g d f keeps (fr + 1 + 1) x3 (touch-later patience set trace g round y (fr + 1 + 1) x3 (omega arith) (omega arith) come.touch) third (omega arith) part3 owe
@@ -161,7 +152,7 @@ module _ (patience set : ℕ) (trace : Recorded) (g d f : ℕ) (keeps : KeepsBou
 
   -- then it doesn't suspect it
   loud-on : (p q n : ℕ) → has_proc set p ≡ true → has_proc set q ≡ true → round ≤ rounds_after trace.steps p n + 1 → HeardLast p q n → ¬ Suspects c patience trace.steps p q n
-  loud-on p q n mp mq low heard s = go (suspected-silent c patience trace.steps p q keeps.run.well_formed (proc q mq) n s)
+  loud-on p q n mp mq low heard s = go (suspected-silent c patience trace.steps p q keeps.run.well_formed (member-proc c set keeps.within q mq) n s)
     where
       go : WasSilent trace.steps p q n → ⊥
       go was = elim (cases_lt was.round round) [
@@ -169,7 +160,7 @@ module _ (patience set : ℕ) (trace : Recorded) (g d f : ℕ) (keeps : KeepsBou
         | inl early ↦ (
             let low_round = come.later in
             let e = end-of c patience trace.steps p (round - 1) n (omega arith) (omega arith) in
-            come.loud p q (suc e.0.place) mp mq (comes p e.0) (silent-suspected c patience trace.steps p q keeps.run.well_formed (proc q mq) (suc e.0.place) (record {
+            come.loud p q (suc e.0.place) mp mq (comes p e.0) (silent-suspected c patience trace.steps p q keeps.run.well_formed (member-proc c set keeps.within q mq) (suc e.0.place) (record {
               round = was.round;
               place = was.place;
               ids = was.ids;
@@ -239,7 +230,7 @@ module _ (patience set : ℕ) (trace : Recorded) (g d f : ℕ) (keeps : KeepsBou
           let begins = phase-low in
           let begin = end-of c patience trace.steps q (fr - 1) n (omega arith) (omega arith) in
           let end = end-of c patience trace.steps q (m - 1) n (omega arith) (omega arith) in
-          let rise = end-later q (fr - 1) (m - 1) begin.0 end.0 (omega arith) in
+          let rise = end-later trace patience keeps.trace_is.time q (fr - 1) (m - 1) begin.0 end.0 (omega arith) in
           let ticks = patience-lasts trace patience q keeps.trace_is.time (m - 1) end.0 n (Receive true ids) end.1 (omega arith) at out in
           let most = lasting in
           let later = ticks_rise trace keeps.trace_is.time (suc n) k (record { proc = q; act = Receive true ids }) (record { proc = p; act = act }) at there l in
@@ -328,7 +319,8 @@ module _ (patience set : ℕ) (trace : Recorded) (g d f : ℕ) (keeps : KeepsBou
               → rounds_after trace.steps q k + 1 ≡ m → ⊥)
               → Why c patience trace.steps q keeps.run.well_formed k ids true there (keeps.paced q mq) → ⊥
           go before (Complete done) =
-              heard_p (complete-heard c patience trace.steps q keeps.run.well_formed k ids true there (keeps.paced q mq) p (proc p mp) done (may-at q p k m is (may-all c trace.steps q m p mpart))
+              heard_p (complete-heard c patience trace.steps q keeps.run.well_formed k ids true there (keeps.paced q mq) p (member-proc c set keeps.within p mp) done
+              (may-at q p k m is (may-all c trace.steps q m p mpart))
               (loud-to r n m heard to mpart near (omega arith) q p k mq mp (omega arith) is))
           go before (Behind ahead) = of (has_proc set ahead.proc) refl
             where
@@ -398,7 +390,7 @@ module _ (patience set : ℕ) (trace : Recorded) (g d f : ℕ) (keeps : KeepsBou
         go : Why c patience trace.steps p keeps.run.well_formed n ids true at (keeps.paced p mp) → HasHeardOf trace.steps p q r (suc n)
         go (Complete done) =
             subst (λ s. HasHeardOf trace.steps p q s (suc n)) is
-            (complete-heard c patience trace.steps p keeps.run.well_formed n ids true at (keeps.paced p mp) q (proc q mq) done (may-at p q n r is may)
+            (complete-heard c patience trace.steps p keeps.run.well_formed n ids true at (keeps.paced p mp) q (member-proc c set keeps.within q mq) done (may-at p q n r is may)
             (loud-on p q n mp mq (let e = is in omega arith) last))
         go (Behind ahead) = absurd (ahead-of-none ahead.proc ahead.is (subst (λ s. HasHeardOf trace.steps p ahead.proc (s + 5) (suc n)) is ahead.heard_of))
         go (Impatient out) = absurd (impossible out)

@@ -1,30 +1,22 @@
 -- A lock-release round that all are past before a patience is: all hear it out.
-use Rattle.std.proofs.Common.{ℕ, zero, suc, ◌≡◌, ◌+◌, ◌-◌, ◌<◌, ◌≤◌, inl, inr, List, take, Some, Bool, true, false, refl, sym, subst, ◌∙◌, arith}
-use Rattle.std.proofs.lemmas.Bool.{cases_lt}
+use Rattle.std.proofs.Common.{ℕ, zero, suc, ◌≡◌, ◌+◌, ◌-◌, ◌<◌, ◌≤◌, List, take, Some, Bool, true, false, refl, sym, subst, ◌∙◌, arith}
 use Rattle.std.proofs.lemmas.Option.{none-some}
 use Rattle.patience_laws.proofs.Common.{Act, Receive, Setup, IsProc, has_proc, Recorded, step_at, tick_of, ticks_rise}
 use Rattle.patience_laws.proofs.Common.{part_of, node_before, HasHeardOf, heard_ids, is_complete, KeepsBounds}
 use Rattle.patience_laws.proofs.Common.{AreInTouch, AreInRoundFrom, IsHeardOutByAll, TakeInOrder, MeetOnce, NoneBefore}
 use Rattle.patience_laws.specs.PacedRuns.{pace_after}
 use Rattle.patience_laws.proofs.PacedSteps.{rounds_after, round-here}
-use Rattle.patience_laws.proofs.KnownRounds.{rounds-up}
 use Rattle.patience_laws.proofs.LeastRounds.{touch-later}
 use Rattle.patience_laws.proofs.FirstEnds.{FirstEnd}
 use Rattle.patience_laws.proofs.RoundSends.{round_at-up}
 use Rattle.patience_laws.proofs.UnheardSuspects.{suspect-unheard}
 use Rattle.patience_laws.proofs.EndedReceives.{Why, Complete, Behind, Impatient, why-ends}
 use Rattle.patience_laws.proofs.PatienceTicks.{IsEndOf, rounds-ended, end-of, patience-lasts}
+use Rattle.patience_laws.proofs.MemberRounds.{end-later}
 
 module _ (patience set : ℕ) (trace : Recorded) (g d f : ℕ) (keeps : KeepsBounds patience set trace g d f) (base x0 : ℕ) (touch : AreInTouch patience set trace g base x0) (low : 1 < base) where
   abbrev c : Setup
   c = trace.config
-
-  -- who ends a later round ends it later
-  end-later : (p r s : ℕ) (e : IsEndOf trace.steps p r) (h : IsEndOf trace.steps p s) → r ≤ s → tick_of trace (suc e.place) ≤ tick_of trace (suc h.place)
-  end-later p r s e h l = elim (cases_lt h.place e.place) [
-    | inl before ↦ absurd (let up = rounds-up c patience trace.steps p (suc h.place) e.place (omega arith) in let a = h.after in let b = e.round_is in omega arith)
-    | inr after ↦ ticks_rise trace keeps.trace_is.time (suc e.place) (suc h.place) (record { proc = p; act = Receive true e.ids }) (record { proc = p; act = Receive true h.ids }) e.step h.step (omega arith)
-  ]
 
   -- a message that was taken was sent before
   sent-earlier : (p q s n : ℕ) (h : HasHeardOf trace.steps p q s n) → h.message < n
@@ -57,7 +49,7 @@ module _ (patience set : ℕ) (trace : Recorded) (g d f : ℕ) (keeps : KeepsBou
         let here = round-here trace.steps q e.0.place in
         let come = first q (suc e.0.place) m (record { ids = e.0.ids; step = e.0.step; round_is = omega arith }) in
         let h = end-of c patience trace.steps q (rounds_after trace.steps q n) n (omega arith) (omega arith) in
-        let rise = end-later q (r - 1) (rounds_after trace.steps q n) e.0 h.0 (omega arith) in
+        let rise = end-later trace patience keeps.trace_is.time q (r - 1) (rounds_after trace.steps q n) e.0 h.0 (omega arith) in
         let ticks = patience-lasts trace patience q keeps.trace_is.time (rounds_after trace.steps q n) h.0 n act h.1 refl at out in
         omega arith
 

@@ -5,7 +5,7 @@ use Rattle.std.proofs.lemmas.Bool.{true≢false, eqb-true, and_parts}
 use Rattle.patience_laws.proofs.Common.{Receive, Step, Setup, IsProc, has_proc, Recorded, Body, with_proper, State}
 use Rattle.patience_laws.proofs.Common.{part_of, owner, phase_of, Part, Listing, Locking, Acknowledging, part_at}
 use Rattle.patience_laws.proofs.Common.{locking-keeps, part_at-listing, part_at-locking, part_at-acknowledging}
-use Rattle.patience_laws.proofs.Common.{list-sent, lock-sent, acknowledgement-sent, locks-sent, member-positive}
+use Rattle.patience_laws.proofs.Common.{list-sent, lock-sent, acknowledgement-sent, locks-sent}
 use Rattle.patience_laws.proofs.Common.{passed-before, may_hear_in, IsInRoundFrom, sends_to, may_hear_of, KeepsBounds}
 use Rattle.patience_laws.proofs.Common.{AreInTouch, AreInRoundFrom, node_in, OweAcknowledgements}
 use Rattle.lock_phases.specs.declared.bodies.Kind.TheVariants.{List as Listed, Lock, Ack, Locks}
@@ -16,6 +16,7 @@ use Rattle.step_buffers.specs.HeardTables.{passed, heard_table}
 use Rattle.patience_laws.proofs.RoundSends.{times-more}
 use Rattle.patience_laws.proofs.RoundsHeard.{taken-by, hears-ends}
 use Rattle.patience_laws.proofs.RoundMessages.{few-all, few-one, few-none, IsSentBy, sent-by}
+use Rattle.patience_laws.proofs.MemberRounds.{member-proc}
 
 -- whom p may hear, by the part of the phase
 pub may-in : (part : Part) (c : Setup) (steps : List Step) (p round q : ℕ) → part_at (part_of round) ≡ part
@@ -61,9 +62,6 @@ module _ (patience set : ℕ) (trace : Recorded) (g d f : ℕ) (keeps : KeepsBou
   abbrev pub AreTold : ℕ → ℕ → Type 0
   AreTold p y = (q : ℕ) → has_proc set q ≡ true → may_hear_of c trace.steps p round q ≡ true → y ≤ trace.last → IsSentBy trace q p round y
 
-  proc : (q : ℕ) → has_proc set q ≡ true → IsProc c q
-  proc q m = (member-positive set q m, keeps.within q m)
-
   -- so its round is over
   pub told-ends : (p most y : ℕ) → has_proc set p ≡ true → length (sends_to c trace.steps p round) ≤ most → x + most * f ≤ y + d → AreTold p y → IsInRoundFrom trace p (round + 1) (y + d + f)
   told-ends p most y m few late told =
@@ -92,7 +90,7 @@ module _ (patience set : ℕ) (trace : Recorded) (g d f : ℕ) (keeps : KeepsBou
       told q mq may last =
           let own : p ≡ owner c.n (phase_of round) = eqb-true p (owner c.n (phase_of round)) (sym (may-in Listing c trace.steps p round q (part_at-listing round part)) ∙ may) in
           let e = times-more 0 f in
-          let s = says 0 p q (with_proper (node_in c trace.steps q round) (Listed (values_to_list (node_in c trace.steps q round)))) mq (proc p m) (few-one c trace.steps q round (inl part))
+          let s = says 0 p q (with_proper (node_in c trace.steps q round) (Listed (values_to_list (node_in c trace.steps q round)))) mq (member-proc c set keeps.within p m) (few-one c trace.steps q round (inl part))
           (subst (λ to. out c (node_in c trace.steps q round) q round to ≡ Some
           (with_proper (node_in c trace.steps q round) (Listed (values_to_list (node_in c trace.steps q round)))))
           (sym own) (list-sent c (node_in c trace.steps q round) q round part)) (omega arith) in
@@ -104,13 +102,13 @@ module _ (patience set : ℕ) (trace : Recorded) (g d f : ℕ) (keeps : KeepsBou
     where
       told : AreTold p (x + c.n * f)
       told q mq may last =
-          let is = proc q mq in
+          let is = member-proc c set keeps.within q mq in
           let first = is.0 in
           let high = is.1 in
           let e : suc (c.n - 1) ≡ c.n = omega arith in
           let few = few-all c trace.steps q round in
           let product : suc (c.n - 1) * f ≡ c.n * f = ap (λ n. n * f) e in
-          let s = says (c.n - 1) p q (with_proper (node_in c trace.steps q round) (Locks (node_in c trace.steps q round).locks)) mq (proc p m) (omega arith)
+          let s = says (c.n - 1) p q (with_proper (node_in c trace.steps q round) (Locks (node_in c trace.steps q round).locks)) mq (member-proc c set keeps.within p m) (omega arith)
           (locks-sent c (node_in c trace.steps q round) q round p part) (omega arith) in
           record { message = s.message; sent = s.sent; later = s.later; by = omega (arith, s.by) }
 
@@ -135,7 +133,7 @@ module _ (patience set : ℕ) (trace : Recorded) (g d f : ℕ) (keeps : KeepsBou
           let v = proposes (node_in c trace.steps p round).proposal refl parts.1 in
           let owes = owe v.0 (subst (λ o. has_proc set o ≡ true) own m) (subst (λ o. (node_in c trace.steps o round).proposal ≡ Some v.0) own v.1) q mq (came q mq last) in
           let e = times-more 0 f in
-          let s = says 0 p q (with_proper (node_in c trace.steps q round) Ack) mq (proc p m) (few-one c trace.steps q round (inr part))
+          let s = says 0 p q (with_proper (node_in c trace.steps q round) Ack) mq (member-proc c set keeps.within p m) (few-one c trace.steps q round (inr part))
           (subst (λ to. out c (node_in c trace.steps q round) q round to ≡ Some
           (with_proper (node_in c trace.steps q round) Ack)) (sym own)
           (acknowledgement-sent c (node_in c trace.steps q round) q round part owes)) (omega arith) in
@@ -180,7 +178,7 @@ module _ (patience set : ℕ) (trace : Recorded) (g d f : ℕ) (keeps : KeepsBou
   locking-ends part p m = told-ends p c.n (x + 3 * f + c.n * f) m (few-all c trace.steps p round) (omega arith) told
     where
       low_n : 1 ≤ c.n
-      low_n = let is = proc p m in let a = is.0 in let b = is.1 in omega arith
+      low_n = let is = member-proc c set keeps.within p m in let a = is.0 in let b = is.1 in omega arith
 
       product : suc (c.n - 1) * f ≡ c.n * f
       product = let l = low_n in let e : suc (c.n - 1) ≡ c.n = omega arith in ap (λ n. n * f) e
@@ -191,7 +189,7 @@ module _ (patience set : ℕ) (trace : Recorded) (g d f : ℕ) (keeps : KeepsBou
           let times = product in
           let l = low_n in
           let few = few-all c trace.steps o round in
-          let s = says (c.n - 1) p o (with_proper (node_in c trace.steps o round) (Lock v)) mo (proc p m) (omega arith)
+          let s = says (c.n - 1) p o (with_proper (node_in c trace.steps o round) (Lock v)) mo (member-proc c set keeps.within p m) (omega arith)
           (subst (λ j. out c (node_in c trace.steps o round) j round p ≡ Some
           (with_proper (node_in c trace.steps o round) (Lock v))) (sym own)
           (lock-sent c (node_in c trace.steps o round) round p v part e)) (omega arith) in
@@ -204,7 +202,7 @@ module _ (patience set : ℕ) (trace : Recorded) (g d f : ℕ) (keeps : KeepsBou
           let one = times-more 0 f in
           let since = touch.since in
           let s = sent-by trace patience set g f o keeps.run keeps.trace_is.time (keeps.paced o mo) mo keeps.phi (round + 1 + 1) (x + f + 1 * f + f) (omega arith) (idle-owner o mo own part e) (omega arith)
-          (c.n - 1) p (with_proper (node_in c trace.steps o (round + 1 + 1)) (Locks (node_in c trace.steps o (round + 1 + 1)).locks)) (omega arith) (proc p m)
+          (c.n - 1) p (with_proper (node_in c trace.steps o (round + 1 + 1)) (Locks (node_in c trace.steps o (round + 1 + 1)).locks)) (omega arith) (member-proc c set keeps.within p m)
           (locks-sent c (node_in c trace.steps o (round + 1 + 1)) o (round + 1 + 1) p fourth) (omega arith) in
           let by = s.by in
           record { message = s.message; sent = s.sent; later = omega (arith, s.later); by = omega (arith, s.later) }

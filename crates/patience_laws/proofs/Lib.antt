@@ -10,9 +10,10 @@ mod EndedReceives
 mod SentInRounds
 mod RoundsHeard
 mod RoundMessages
+mod PatienceTicks
+mod MemberRounds
 mod LeastRounds
 mod CaughtPhases
-mod PatienceTicks
 mod OwedAcknowledgements
 mod UnheardSuspects
 mod HeardRounds

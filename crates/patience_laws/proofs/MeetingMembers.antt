@@ -2,7 +2,7 @@
 use Rattle.std.proofs.Common.{ℕ, suc, ◌≡◌, ◌+◌, ◌-◌, ◌*◌, ◌%◌, ◌<◌, ◌≤◌, inl, inr, List, take, Some, true, false, sym, ap, subst, ◌∙◌, arith}
 use Rattle.std.proofs.lemmas.Bool.{cases_lt}
 use Rattle.patience_laws.proofs.Common.{Receive, Setup, IsProc, has_proc, Recorded, step_at, tick_of, ticks_rise}
-use Rattle.patience_laws.proofs.Common.{part_of, owner, phase_of, part_at-releasing, member-positive, node_before}
+use Rattle.patience_laws.proofs.Common.{part_of, owner, phase_of, part_at-releasing, node_before}
 use Rattle.patience_laws.proofs.Common.{may_hear_in, may_hear_all_in, HasHeardOf, heard_ids, is_complete, KeepsBounds}
 use Rattle.patience_laws.proofs.Common.{AreInTouch, AreInRoundFrom, IsHeardOutByAll, TakeInOrder, ComesTo, AreAlone}
 use Rattle.patience_laws.proofs.Common.{HearThemselves, NeedAll, longest_round, met_round, met_tick, HaveMet}
@@ -11,6 +11,7 @@ use Rattle.patience_laws.proofs.PacedSteps.{rounds_after, round-here}
 use Rattle.patience_laws.proofs.UnheardSuspects.{suspect-unheard}
 use Rattle.patience_laws.proofs.EndedReceives.{complete-heard, quorum-heard}
 use Rattle.patience_laws.proofs.PatienceTicks.{IsEndOf, rounds-ended, end-of}
+use Rattle.patience_laws.proofs.MemberRounds.{member-proc}
 use Rattle.patience_laws.proofs.PassedRounds.{passes-rounds}
 use Rattle.patience_laws.proofs.SettledMembers.{in-touch, comes-late}
 use Rattle.patience_laws.proofs.FirstEnds.{FirstEnd, first-end}
@@ -21,9 +22,6 @@ module _ (patience set : ℕ) (trace : Recorded) (g d f : ℕ) (keeps : KeepsBou
   abbrev c : Setup
   c = trace.config
 
-  proc : (q : ℕ) → has_proc set q ≡ true → IsProc c q
-  proc q m = (member-positive set q m, keeps.within q m)
-
   -- who ends a lock-release round as complete has heard of each member, where the members need one another
   needs : (base x0 : ℕ) → AreInTouch patience set trace g base x0 → NeedAll patience set trace x0
       → (p q n : ℕ) (ids : List ℕ) → has_proc set p ≡ true → has_proc set q ≡ true → step_at trace.steps (suc n) ≡ Some (record { proc = p; act = Receive true ids })
@@ -31,7 +29,7 @@ module _ (patience set : ℕ) (trace : Recorded) (g d f : ℕ) (keeps : KeepsBou
       → is_complete c (node_before c trace.steps p (suc n)) (rounds_after trace.steps p n + 1) p (heard_ids (take n trace.steps) p ids (pace_after c patience trace.steps p n)) ≡ true
       → HasHeardOf trace.steps p q (rounds_after trace.steps p n + 1) (suc n)
   needs base x0 touch (inl few) p q n ids mp mq at up part late done =
-      quorum-heard c patience trace.steps p keeps.run.well_formed n ids true at (keeps.paced p mp) set few others q (proc q mq) mq done
+      quorum-heard c patience trace.steps p keeps.run.well_formed n ids true at (keeps.paced p mp) set few others q (member-proc c set keeps.within q mq) mq done
       (ap (λ x. may_hear_all_in x (node_before c trace.steps p (suc n)) (owner c.n (phase_of (rounds_after trace.steps p n + 1))) p) (part_at-releasing (rounds_after trace.steps p n + 1) part))
     where
       others : (z : ℕ) → IsProc c z → has_proc set z ≡ false → HasHeardOf trace.steps p z (rounds_after trace.steps p n + 1) (suc n) → ⊥
@@ -41,7 +39,7 @@ module _ (patience set : ℕ) (trace : Recorded) (g d f : ℕ) (keeps : KeepsBou
           suspect-unheard c patience trace.steps p z (suc n) (rounds_after trace.steps p n + 1) keeps.run.well_formed is (omega arith) silent h
   needs base x0 touch (inr none) p q n ids mp mq at up part late done =
       let e : suc n - 1 ≡ n = omega arith in
-      complete-heard c patience trace.steps p keeps.run.well_formed n ids true at (keeps.paced p mp) q (proc q mq) done
+      complete-heard c patience trace.steps p keeps.run.well_formed n ids true at (keeps.paced p mp) q (member-proc c set keeps.within q mq) done
       (ap (λ x. may_hear_in x (node_before c trace.steps p (suc n)) (owner c.n (phase_of (rounds_after trace.steps p n + 1))) p q) (part_at-releasing (rounds_after trace.steps p n + 1) part))
       (λ s. none p q (suc n) mp mq (record { ids = ids; ends = true; step = at }) late (subst (λ m. (Rattle.patience_laws.specs.PacedRuns.peer_after c patience trace.steps p q m).suspected ≡ true) (sym e) s))
 

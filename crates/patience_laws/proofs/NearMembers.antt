@@ -1,8 +1,8 @@
 -- Members within a phase of one another that suspect none of their own hear out the next lock-release round.
 use Rattle.std.proofs.Common.{ℕ, zero, suc, ◌≡◌, ◌+◌, ◌-◌, ◌*◌, ◌<◌, ◌≤◌, inl, inr, List, Some, true, sym, ap, subst, ◌∙◌, arith}
 use Rattle.std.proofs.lemmas.Bool.{cases_lt}
-use Rattle.patience_laws.proofs.Common.{Receive, Setup, IsProc, has_proc, Recorded, step_at, part_of, owner, phase_of}
-use Rattle.patience_laws.proofs.Common.{part_at-releasing, member-positive, round_at, node_before, may_hear}
+use Rattle.patience_laws.proofs.Common.{Receive, Setup, has_proc, Recorded, step_at, part_of, owner, phase_of}
+use Rattle.patience_laws.proofs.Common.{part_at-releasing, round_at, node_before, may_hear}
 use Rattle.patience_laws.proofs.Common.{may_hear_in, HasHeardOf, peer_after, Suspects, WasSilent, KeepsBounds}
 use Rattle.patience_laws.proofs.Common.{AreInTouch, AreInRoundFrom, IsHeardOutByAll, TakeInOrder, HearThemselves}
 use Rattle.patience_laws.proofs.Common.{HaveMet, NoneBefore, SuspectNoneIn, ticks_rise, tick_of}
@@ -11,6 +11,7 @@ use Rattle.patience_laws.proofs.KnownRounds.{rounds-up, heard-weaker}
 use Rattle.patience_laws.proofs.SilentPhases.{suspected-silent, silent-suspected}
 use Rattle.patience_laws.proofs.EndedReceives.{complete-heard}
 use Rattle.patience_laws.proofs.PatienceTicks.{IsEndOf, rounds-ended, end-of}
+use Rattle.patience_laws.proofs.MemberRounds.{member-proc}
 use Rattle.patience_laws.proofs.AskedAcknowledgements.{five-rounds}
 use Rattle.patience_laws.proofs.HeldRounds.{IsCompleteAt, since, hear-out-round, meet-once}
 use Rattle.patience_laws.proofs.FirstEnds.{FirstEnd, first-end}
@@ -20,9 +21,6 @@ module _ (patience set : ℕ) (trace : Recorded) (g d f : ℕ) (keeps : KeepsBou
     (r : ℕ) (up : s ≤ r) (near : r ≤ s + 4) (part : part_of r ≡ 4) (first : NoneBefore set trace r x) (loud : SuspectNoneIn patience set trace r) where
   abbrev c : Setup
   c = trace.config
-
-  proc : (q : ℕ) → has_proc set q ≡ true → IsProc c q
-  proc q m = (member-positive set q m, keeps.within q m)
 
   over : AreInRoundFrom set trace (r + 1) (x + patience)
   over p m k is by =
@@ -37,14 +35,14 @@ module _ (patience set : ℕ) (trace : Recorded) (g d f : ℕ) (keeps : KeepsBou
       → rounds_after trace.steps p n + 1 ≡ r → IsCompleteAt patience set trace g d f keeps s x touch low p n ids → HasHeardOf trace.steps p q (rounds_after trace.steps p n + 1) (suc n)
   now p q n ids mp mq at is done =
       let e : suc n - 1 ≡ n = omega arith in
-      complete-heard c patience trace.steps p keeps.run.well_formed n ids true at (keeps.paced p mp) q (proc q mq) done (may p q n (ap part_of is ∙ part))
+      complete-heard c patience trace.steps p keeps.run.well_formed n ids true at (keeps.paced p mp) q (member-proc c set keeps.within q mq) done (may p q n (ap part_of is ∙ part))
       (λ y. loud p q (suc n) mp mq (record { ids = ids; ends = true; step = at }) (round-here trace.steps p n ∙ is) (subst (λ m. (peer_after c patience trace.steps p q m).suspected ≡ true) (sym e) y))
 
   -- who heard of another in the round doesn't suspect it in the next phase
   trusts : (p q n : ℕ) → has_proc set p ≡ true → has_proc set q ≡ true → rounds_after trace.steps p n + 1 ≡ r + 4
       → (e : IsEndOf trace.steps p r) → suc e.place ≤ n → HasHeardOf trace.steps p q r (suc e.place)
       → Suspects c patience trace.steps p q n → ⊥
-  trusts p q n mp mq is e early h suspects = go (suspected-silent c patience trace.steps p q keeps.run.well_formed (proc q mq) n suspects)
+  trusts p q n mp mq is e early h suspects = go (suspected-silent c patience trace.steps p q keeps.run.well_formed (member-proc c set keeps.within q mq) n suspects)
     where
       go : WasSilent trace.steps p q n → ⊥
       go was = elim (cases_lt e.place was.place) [
@@ -53,7 +51,7 @@ module _ (patience set : ℕ) (trace : Recorded) (g d f : ℕ) (keeps : KeepsBou
             let f : suc e.place - 1 ≡ e.place = omega arith in
             loud p q (suc e.place) mp mq (record { ids = e.ids; ends = true; step = e.step }) (round-here trace.steps p e.place ∙ e.round_is)
             (subst (λ m. (peer_after c patience trace.steps p q m).suspected ≡ true) (sym f)
-            (silent-suspected c patience trace.steps p q keeps.run.well_formed (proc q mq) e.place (record {
+            (silent-suspected c patience trace.steps p q keeps.run.well_formed (member-proc c set keeps.within q mq) e.place (record {
               round = was.round;
               place = was.place;
               ids = was.ids;
@@ -77,7 +75,7 @@ module _ (patience set : ℕ) (trace : Recorded) (g d f : ℕ) (keeps : KeepsBou
       → rounds_after trace.steps p n + 1 ≡ r + 4 → (e : IsEndOf trace.steps p r) → suc e.place ≤ n → HasHeardOf trace.steps p q r (suc e.place)
       → IsCompleteAt patience set trace g d f keeps s x touch low p n ids → HasHeardOf trace.steps p q (rounds_after trace.steps p n + 1) (suc n)
   next p q n ids mp mq at is e early h done =
-      complete-heard c patience trace.steps p keeps.run.well_formed n ids true at (keeps.paced p mp) q (proc q mq) done (may p q n (omega arith)) (trusts p q n mp mq is e early h)
+      complete-heard c patience trace.steps p keeps.run.well_formed n ids true at (keeps.paced p mp) q (member-proc c set keeps.within q mq) done (may p q n (omega arith)) (trusts p q n mp mq is e early h)
 
   -- So they hear out the round.
   hear-near : IsHeardOutByAll set trace r
