@@ -1,9 +1,10 @@
-//! The longest gaps of worked traces, and the last misses of their messages.
+//! The longest gaps of worked traces, the last misses of their messages, and their least bounds from each tick on.
 
-use bound_witness::{gaps, last_miss};
+use bound_witness::{delta_at, gaps, last_miss, phi_at};
 use std::alloc::{AllocError, Global};
 use std::test::Fail;
 use step_trace::{Gap, Miss, ProcSet, Trace};
+use suffix_staircase::{Level, Stairs};
 use test_support::traces::ticked;
 
 /// A trace of two processors with these steps, each with its tick before it, up to the tick `last`. If the processors
@@ -128,6 +129,44 @@ fn gaps_and_misses(rt: HostRuntime) -> Result<(), Fail> {
     for it in WORKED {
         let set = ProcSet::parse_list(it.correct).expect(&rt, "a list");
         assert!(rt; is_found(rt.alloc(), it, set)?, "{}", it.name);
+    }
+    Ok(())
+}
+
+/// Whether plain searches find the bounds of a level at this tick, if the trace has it and a set within it is correct.
+fn is_level(trace: &Trace, set: ProcSet, g: u64, level: Level) -> bool {
+    if g == 0 || g > trace.last_tick() || !set.within(trace.config().n()) {
+        return false;
+    }
+    delta_at(trace, set, g) == (level.delta, level.miss)
+        && phi_at(trace, set, g) == (level.phi, level.gap)
+}
+
+/// Whether the stairs have a level for each tick of the trace, with the bounds that plain searches find.
+fn are_levels(trace: &Trace, set: ProcSet, stairs: &Stairs) -> bool {
+    let last = stairs.len() as u64;
+    for g in 1..last + 1 {
+        if !is_level(trace, set, g, stairs.at(g)) {
+            return false;
+        }
+    }
+    last == trace.last_tick()
+}
+
+/// Whether one pass over the trace finds the same bounds as plain searches at each tick.
+fn has_levels(alloc: Global, it: &Worked, set: ProcSet) -> Result<bool, Fail> {
+    let trace = ticked(alloc, 2, it.steps, it.last)?;
+    if !set.within(trace.config().n()) {
+        return Ok(false);
+    }
+    Ok(are_levels(&trace, set, &Stairs::of_trace(alloc, &trace, set)?))
+}
+
+#[test]
+fn bounds_of_each_tick(rt: HostRuntime) -> Result<(), Fail> {
+    for it in WORKED {
+        let set = ProcSet::parse_list(it.correct).expect(&rt, "a list");
+        assert!(rt; has_levels(rt.alloc(), it, set)?, "{}", it.name);
     }
     Ok(())
 }

@@ -1,6 +1,6 @@
 //! What no clause says of traces, gaps, gates, pieces and texts: that calls which no command makes succeed at full
-//! size, that workers meet, and that each call reaches a device once. And formulas, gaps and misses by hand. These are
-//! tests of the crates below, by their public items.
+//! size, that workers meet, and that each call reaches a device once. And formulas, gaps and misses by hand, and bounds
+//! that are found in two ways. These are tests of the crates below, by their public items.
 #![tactic(auto)]
 
 #[cfg(test)]
