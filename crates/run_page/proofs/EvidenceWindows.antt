@@ -18,7 +18,7 @@ use Rattle.run_story.specs.Delays.{IsDelay}
 use Rattle.run_story.specs.Evidence.{AreEvidence, all_evidence, alone, explained, explains, other_evidence, stall_evidence, with_delay}
 use Rattle.run_story.specs.Stalls.{IsStall}
 use Rattle.run_page.specs.declared.scales.Span.{Span}
-use Rattle.run_page.specs.EvidenceTicks.{IsWindowOf, around_gap, around_miss, both, core_of, drawn_first, miss_end, padded}
+use Rattle.run_page.specs.EvidenceTicks.{IsWindowOf, around_gap, around_miss, both, core_of, drawn_of, miss_end}
 
 -- some ticks that begin in a trace with this last tick
 record Begins (last : ℕ) (s : Span) : Type 0 where
@@ -41,7 +41,7 @@ found_in p (y ∷ ys) x h = go (p y) h (found_in p ys x) where
   go true g rest = subst (λ z. Contains (y ∷ ys) z) (same_Some y x g) (Contains-head y ys)
   go false g rest = Contains-rest y x ys (rest g)
 
-drawn-inside : (last : ℕ) (s : Span) → Begins last s → IsWindowOf last (drawn_first (padded last s))
+drawn-inside : (last : ℕ) (s : Span) → Begins last s → IsWindowOf last (drawn_of last s)
 drawn-inside last s b =
     let order = b.order in
     let inside = b.inside in
@@ -122,5 +122,5 @@ module _ (set : ℕ) (trace : Recorded) where
 
     -- the window of the first evidence
     pub window-inside : (list : List Evidence) → AreEvidence trace rows list → (e : Evidence) → Contains list e → (taken : Option ℕ)
-        → IsWindowOf trace.last (drawn_first (padded trace.last (core_of trace e.stall e.delay taken)))
+        → IsWindowOf trace.last (drawn_of trace.last (core_of trace e.stall e.delay taken))
     window-inside list are e c taken = drawn-inside trace.last (core_of trace e.stall e.delay taken) (evidence-begins list are e c taken)

@@ -46,22 +46,31 @@ core_of trace None None taken = record { first = 1; to = 1 }
 abbrev pub margin : Span → ℕ
 margin s = max ((s.to - s.first) / MARGINS) LEAST_MARGIN
 
--- these ticks with more at both ends, as far as a trace with this last tick goes
+-- these ticks with so many more at both ends, as far as a trace with this last tick goes
+abbrev pub widened : ℕ → ℕ → Span → Span
+widened more last s = record { first = max (s.first - more) 1; to = min (s.to + more) last }
+
+-- these ticks with a seventh more at both ends
 abbrev pub padded : ℕ → Span → Span
-padded last s = record { first = max (s.first - margin s) 1; to = min (s.to + margin s) last }
+padded last s = widened (margin s) last s
 
 -- the Receive that takes the late message, if there is one and it is taken
 abbrev pub taker_of : (ℕ → Option ℕ) → Option Delay → Option ℕ
 taker_of taken d = option_and_then (λ d. taken d.miss.sent) d
 
--- the ticks that show evidence
-abbrev pub evidence_ticks : Recorded → Evidence → Span
-evidence_ticks trace e = padded trace.last
-    (core_of trace e.stall e.delay (taker_of (taker trace.steps (length trace.steps)) e.delay))
+-- the ticks of evidence, with no more at its ends
+abbrev pub evidence_core : Recorded → Evidence → Span
+evidence_core trace e =
+    core_of trace e.stall e.delay (taker_of (taker trace.steps (length trace.steps)) e.delay)
 
 -- the first of these ticks, as many as may be drawn
 abbrev pub drawn_first : Span → Window
 drawn_first s = record { first = s.first; to = min s.to (s.first + (MAX_WINDOW - 1)) }
+
+-- the ticks that are drawn of these: a seventh more at both ends, but no more than a seventh of what may be drawn, so
+-- that evidence of any length is in the picture
+abbrev pub drawn_of : ℕ → Span → Window
+drawn_of last s = drawn_first (widened (min (margin s) (MAX_WINDOW / MARGINS)) last s)
 
 -- a window of a trace with this last tick: one tick at least, and at most as many as may be drawn
 pub record IsWindowOf (last : ℕ) (w : Window) : Type 0 where
@@ -74,4 +83,4 @@ pub record IsWindowOf (last : ℕ) (w : Window) : Type 0 where
 pub record IsEvidenceWindow (trace : Recorded) (rows : List Row) (w : Option Window) : Type 0 where
   pub evidence : List Evidence
   pub found : AreEvidence trace rows evidence
-  pub window : w ≡ option_map (λ e. drawn_first (evidence_ticks trace e)) (slice_get evidence 0)
+  pub window : w ≡ option_map (λ e. drawn_of trace.last (evidence_core trace e)) (slice_get evidence 0)

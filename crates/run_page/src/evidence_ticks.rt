@@ -4,12 +4,12 @@ ghost use Rattle.std.specs.Prelude.{◌≡◌, ℕ, IfOk, IfSome};
 ghost use Rattle.step_trace.specs.Fronts.{IsReport};
 ghost use Rattle.picture_marks.specs.Messages.{taker_in};
 ghost use Rattle.run_page.specs.EvidenceTicks.{IsEvidenceWindow, IsWindowOf, around_gap, around_miss, both};
-ghost use Rattle.run_page.specs.EvidenceTicks.{core_of, drawn_first, margin, miss_end, padded, taker_of};
+ghost use Rattle.run_page.specs.EvidenceTicks.{core_of, drawn_first, drawn_of, margin, miss_end, padded};
+ghost use Rattle.run_page.specs.EvidenceTicks.{taker_of, widened};
 
 use crate::scales::Span;
-use crate::scans::tick_at;
 use picture_marks::takers::{taker_in, takers};
-use picture_marks::{MAX_WINDOW, Window};
+use picture_marks::{MAX_WINDOW, Window, tick_at};
 use run_story::{Delay, Evidence, Stall, evidence_of};
 use std::alloc::{AllocError, Global};
 use step_trace::{Row, Trace};
@@ -23,8 +23,8 @@ const MARGINS: u64 = 7;
 
 const LEAST_MARGIN: u64 = 4;
 
-/// The ticks in which a picture shows the first evidence of a report of the trace, but at most the first `MAX_WINDOW`
-/// of them; none if there is no evidence. They are ticks of the trace.
+/// The ticks in which a picture shows the first evidence of a report of the trace: at most `MAX_WINDOW`, the first ones
+/// of evidence that has more; none if there is no evidence. They are ticks of the trace.
 ///
 /// Time grows with the trace and the rows, apart from the sorting of the evidence. Fails only if out of memory.
 pub fn evidence_window(
@@ -42,7 +42,15 @@ pub fn evidence_window(
     };
     let takers = takers(alloc, trace)?;
     let core = core_of(trace, first, taker_of(&takers, first));
-    Ok(Some(drawn_first(padded(core, trace.last_tick()))))
+    Ok(Some(drawn_of(core, trace.last_tick())))
+}
+
+/// The ticks that are drawn of these. No more are added than leave room for the beginning of long evidence.
+fn drawn_of(span: Span, last: u64) -> Window
+    ensures { result ≡ drawn_of last span }
+{
+    let more = margin(span).min(MAX_WINDOW / MARGINS);
+    drawn_first(widened(span, more, last))
 }
 
 /// The first of these ticks, as many as may be drawn.
@@ -133,13 +141,19 @@ fn margin(span: Span) -> u64
     (span.to.saturating_sub(span.first) / MARGINS).max(LEAST_MARGIN)
 }
 
-/// These ticks with more at both ends, as far as the trace goes.
+/// These ticks with a seventh more at both ends, as far as the trace goes.
 pub(crate) fn padded(span: Span, last: u64) -> Span
     ensures { result ≡ padded last span }
 {
-    let margin = margin(span);
+    widened(span, margin(span), last)
+}
+
+/// These ticks with so many more at both ends, as far as the trace goes.
+fn widened(span: Span, more: u64, last: u64) -> Span
+    ensures { result ≡ widened more last span }
+{
     Span {
-        first: span.first.saturating_sub(margin).max(1),
-        to: span.to.saturating_add(margin).min(last),
+        first: span.first.saturating_sub(more).max(1),
+        to: span.to.saturating_add(more).min(last),
     }
 }
