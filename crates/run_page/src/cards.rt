@@ -3,7 +3,7 @@
 use crate::delay_words::put_delay_words;
 use crate::panes::put_picture;
 use crate::pens::Pen;
-use crate::pieces::Piece::{Begin, Count, From, Number, Text};
+use crate::pieces::Piece::{Begin, Count, From, In, Number, Text};
 use crate::rooms::{ROOM_FOR_PICTURES, put_within};
 use crate::runs::Run;
 use crate::scenes::{LARGE, Scene};
@@ -124,6 +124,15 @@ fn put_card_head(pen: &mut Pen<'_>, run: &Run<'_>, evidence: &Evidence, place: u
 /// Writes for which ticks evidence counts.
 fn put_counted(pen: &mut Pen<'_>, run: &Run<'_>, evidence: &Evidence) {
     let (first, until) = (run.row(evidence.first).gst, run.until(evidence.last));
+    if first == until {
+        pen.put(&[In(first)]);
+    } else {
+        put_stretch_of(pen, run, first, until);
+    }
+}
+
+/// Writes from which tick to which.
+fn put_stretch_of(pen: &mut Pen<'_>, run: &Run<'_>, first: u64, until: u64) {
     if run.clock.is_some() {
         pen.put(&[
             Text("from "),

@@ -1,10 +1,10 @@
 //! What a page says after its first sentence: what came before the calm, who is to blame, and what is lost.
 
-use crate::headlines::was;
+use crate::headlines::{as_correct, is_long, put_first_node, silent_at_end, was};
 use crate::pens::Pen;
-use crate::pieces::Piece::{Count, Late, Many, Message, Node, Silent, Text, Ticks};
+use crate::pieces::Piece::{Count, From, Late, Many, Message, Node, Silent, Text, Ticks};
 use crate::row_table::put_again;
-use crate::runs::Run;
+use crate::runs::{Run, members_in};
 use crate::stall_words::put_stretch;
 use crate::titles::gap_ticks;
 use run_story::{Delay, Headline, Stall};
@@ -55,7 +55,7 @@ fn put_before(pen: &mut Pen<'_>, run: &Run<'_>, stall: Option<Stall>, delay: Opt
     if stall.is_none() && delay.is_none() {
         return;
     }
-    put_when(pen, run);
+    put_when(pen, run, reaches_calm(run, stall, delay));
     if let Some(stall) = stall {
         put_silent(pen, stall);
     }
@@ -68,16 +68,31 @@ fn put_before(pen: &mut Pen<'_>, run: &Run<'_>, stall: Option<Stall>, delay: Opt
     pen.text(". ");
 }
 
-/// Writes before which moment.
-fn put_when(pen: &mut Pen<'_>, run: &Run<'_>) {
-    if run.is_calm() {
-        pen.text("Before that, ");
-    } else {
-        pen.put(&[
-            Text("Before its last "),
+/// Whether the silence or the miss ends in the tick of the calm row or later.
+fn reaches_calm(run: &Run, stall: Option<Stall>, delay: Option<Delay>) -> bool {
+    let calm = run.found.calm.gst;
+    let is_silent = match stall {
+        Some(stall) => stall.gap.to >= calm,
+        None => false,
+    };
+    let is_missed = match delay {
+        Some(delay) => run.tick(delay.miss.missed) >= calm,
+        None => false,
+    };
+    is_silent || is_missed
+}
+
+/// Writes before which moment; or what the rest of the sentence shows, if that reaches beyond this moment.
+fn put_when(pen: &mut Pen<'_>, run: &Run<'_>, reaches: bool) {
+    match (run.is_calm(), reaches) {
+        (true, false) => pen.text("Before that, "),
+        (true, true) => pen.text("Smaller bounds are ruled out before that: "),
+        (false, true) => pen.text("What rules out smaller bounds: "),
+        (false, false) => pen.put(&[
+            Text("Before the run’s last "),
             Ticks(run.rest_ticks()),
             Text(", "),
-        ]);
+        ]),
     }
 }
 
@@ -227,10 +242,27 @@ fn put_lost(pen: &mut Pen<'_>, run: &Run<'_>) {
         Count(counts.lost),
         Text(" of "),
         Many(counts.all, "message"),
-        Text(" between the nodes "),
+        Text(" between the nodes"),
+        Text(as_correct(run)),
+        Text(" "),
         Text(was(counts.lost)),
-        Text(" never received. "),
+        Text(" never received"),
     ]);
+    put_lost_in_calm(pen, run);
+    pen.text(". ");
+}
+
+/// Writes how many of the lost messages the calm has, if it has any and isn't the whole run.
+fn put_lost_in_calm(pen: &mut Pen<'_>, run: &Run<'_>) {
+    if run.is_calm() && run.found.calm_place > 0 && run.fates.lost > 0 {
+        pen.put(&[
+            Text(", "),
+            Count(run.fates.lost),
+            Text(" of them sent from "),
+            From(run.found.calm.gst),
+            Text(" on"),
+        ]);
+    }
 }
 
 /// Whether the headline says how many messages are lost.
@@ -259,19 +291,35 @@ fn put_lost_for(pen: &mut Pen<'_>, run: &Run<'_>) {
     pen.text(". ");
 }
 
-/// Writes how many messages were sent so late that nobody could miss them.
+/// Writes how many messages nobody could miss: they were sent too late, or their receivers never receive.
 fn put_under_way(pen: &mut Pen<'_>, run: &Run<'_>) {
-    let count = run.counts.under_way;
-    if count == 0 {
-        return;
+    let deaf = run.fates.to_deaf;
+    let late = run.counts.under_way.saturating_sub(deaf);
+    if late > 0 {
+        put_sent(pen, late);
+        pen.put(&[
+            Text("after "),
+            Text(if late == 1 { "its" } else { "their" }),
+            Text(" receiver’s last receive. "),
+        ]);
     }
+    if deaf > 0 {
+        put_sent(pen, deaf);
+        pen.text(if members_in(run.fates.deaf) == 1 {
+            "to a node that never received. "
+        } else {
+            "to nodes that never received. "
+        });
+    }
+}
+
+/// Writes that so many messages were sent.
+fn put_sent(pen: &mut Pen<'_>, count: u64) {
     pen.put(&[
         Many(count, "message"),
         Text(" "),
         Text(was(count)),
-        Text(" sent after "),
-        Text(if count == 1 { "its" } else { "their" }),
-        Text(" receiver’s last receive. "),
+        Text(" sent "),
     ]);
 }
 
@@ -280,8 +328,9 @@ fn put_silent_to_end(pen: &mut Pen<'_>, run: &Run<'_>) {
     let mut count = 0_u64;
     for p in 1..65 {
         if is_silent_to_end(run, p) {
-            let comma = if count == 0 { "" } else { ", " };
-            pen.put(&[Text(comma), Text("<b>"), Node(p), Text("</b>")]);
+            pen.text(if count == 0 { "<b>" } else { ", <b>" });
+            put_silent_node(pen, run, p, count);
+            pen.text("</b>");
             count = count.saturating_add(1);
         }
     }
@@ -295,15 +344,24 @@ fn put_silent_to_end(pen: &mut Pen<'_>, run: &Run<'_>) {
     }
 }
 
+/// Writes a node, by how many there were before.
+fn put_silent_node(pen: &mut Pen<'_>, run: &Run<'_>, proc: u64, before: u64) {
+    if before == 0 {
+        put_first_node(pen, run, proc);
+    } else {
+        pen.put(&[Node(proc)]);
+    }
+}
+
 fn is_silent_to_end(run: &Run, proc: u64) -> bool {
     if !run.set.contains(proc) || is_in_headline(run, proc) {
         return false;
     }
-    let silent = run.last().saturating_sub(run.scan.last_tick_of(proc));
-    silent >= run.found.calm.phi.max(2) && silent > run.last() / 20
+    let silent = silent_at_end(run, proc);
+    silent >= run.found.calm.phi && is_long(run, silent)
 }
 
-/// Whether the headline says that this processor is silent to the end.
+/// Whether the headline says for how long this processor is silent to the end.
 fn is_in_headline(run: &Run, proc: u64) -> bool {
     match run.found.headline {
         Some(Headline::SilentToEnd { proc: silent, .. }) => silent == proc,

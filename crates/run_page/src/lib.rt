@@ -6,6 +6,7 @@ mod axes;
 mod cards;
 mod delay_words;
 mod evidence_ticks;
+mod fates;
 mod glances;
 mod headlines;
 mod leads;

@@ -3,11 +3,11 @@
 ghost use Rattle.run_page.specs.Notes.{made_text, one_text, some_text};
 ghost use Rattle.run_page.specs.Pens.{HasWritten};
 
-use crate::headlines::was;
+use crate::headlines::{put_first_node, was};
 use crate::pens::Pen;
-use crate::pieces::Piece::{Count, Text, Ticks, Time};
+use crate::pieces::Piece::{Count, Many, Node, Text, Ticks, Time};
 use crate::round_times::finer;
-use crate::runs::Run;
+use crate::runs::{Run, members_in};
 use crate::spreads::spread_count;
 use crate::timings::Timing;
 
@@ -25,6 +25,10 @@ pub(crate) fn put_notes(pen: &mut Pen<'_>, run: &Run<'_>, start: &'static str) {
     if run.scan.full > 0 && run.scan.empty == 0 {
         pen.text(start);
         put_no_look(pen);
+    }
+    if run.fates.to_deaf > 0 {
+        pen.text(start);
+        put_deaf(pen, run);
     }
 }
 
@@ -53,9 +57,9 @@ fn put_coarse(pen: &mut Pen<'_>, run: &Run<'_>, timing: Timing) {
     if let Some(clock) = run.clock {
         if let Some(width) = finer(clock, run.last()) {
             pen.put(&[
-                Text(" A shorter <code>--tick</code> moves them less: "),
+                Text(" A shorter <code>--tick</code> moves them less, down to "),
                 Time(width),
-                Text(" is short enough for this log."),
+                Text(" for this log; <code>import --ticks</code> tells how far."),
             ]);
         }
     }
@@ -109,4 +113,45 @@ fn put_no_look(pen: &mut Pen<'_>) {
     pen.text(
         "<b>No receive of nothing is in this trace.</b> A receive that found nothing is what shows a message to be late; without them Δ is too low. <code>import --idle</code> adds them where a node only waited.</p>",
     );
+}
+
+/// How many nodes that never receive are named.
+const NAMED_DEAF: u64 = 3;
+
+/// Writes which nodes never receive, though messages are sent to them.
+fn put_deaf(pen: &mut Pen<'_>, run: &Run<'_>) {
+    let count = members_in(run.fates.deaf);
+    pen.text("<b>");
+    if count > NAMED_DEAF {
+        pen.put(&[Many(count, "node")]);
+    } else {
+        put_deaf_names(pen, run, count);
+    }
+    pen.text(if count == 1 {
+        " never receives in this trace.</b> No message to it can be late, so its Δ says nothing.</p>"
+    } else {
+        " never receive in this trace.</b> No message to them can be late, so their Δ says nothing.</p>"
+    });
+}
+
+/// Writes the names of the nodes that never receive, of which there are so many.
+fn put_deaf_names(pen: &mut Pen<'_>, run: &Run<'_>, count: u64) {
+    let mut named = 0_u64;
+    for p in 1..65 {
+        if run.fates.deaf.contains(p) {
+            put_deaf_name(pen, run, p, named, count);
+            named = named.saturating_add(1);
+        }
+    }
+}
+
+/// Writes the next one of so many names, by how many there were before.
+fn put_deaf_name(pen: &mut Pen<'_>, run: &Run<'_>, proc: u64, before: u64, count: u64) {
+    if before == 0 {
+        put_first_node(pen, run, proc);
+    } else if before.saturating_add(1) == count {
+        pen.put(&[Text(" and "), Node(proc)]);
+    } else {
+        pen.put(&[Text(", "), Node(proc)]);
+    }
 }

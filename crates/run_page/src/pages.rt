@@ -5,8 +5,9 @@ ghost use Rattle.step_trace.specs.Fronts.{IsReport};
 ghost use Rattle.step_trace.specs.Processors.{IsWithin};
 
 use crate::cards::{put_card_words, put_cards};
+use crate::fates::Fates;
 use crate::glances::put_glance;
-use crate::headlines::put_headline;
+use crate::headlines::{as_correct, put_headline};
 use crate::leads::put_lead;
 use crate::node_bounds::NodeBounds;
 use crate::notes::put_notes;
@@ -48,7 +49,7 @@ pub fn page_text(
     let found = found_in(trace, set, rows, at);
     let story = Story::of(alloc, trace, rows)?;
     let bounds = Bounds::of(alloc, trace, set, row_at(rows, 0), found.calm)?;
-    let steps = Steps::of(alloc, trace, set)?;
+    let steps = Steps::of(alloc, trace, set, found.calm.gst)?;
     let timing = Timing::of(trace, words.said, words.unit);
     let run = Run {
         trace,
@@ -67,6 +68,7 @@ pub fn page_text(
         whole: &bounds.whole,
         rest: &bounds.rest,
         counts: steps.counts,
+        fates: steps.fates,
         lost: &steps.lost,
         found,
     };
@@ -157,18 +159,23 @@ struct Steps {
     scan: Scan,
     strokes: Strokes,
     counts: MessageCounts,
+    fates: Fates,
     lost: LostReceivers,
 }
 
 impl Steps {
-    fn of(alloc: Global, trace: &Trace, set: ProcSet) -> Result<Self, AllocError>
+    /// With the tick of the calm row.
+    fn of(alloc: Global, trace: &Trace, set: ProcSet, calm: u64) -> Result<Self, AllocError>
         requires { IsWithin set trace.now.config.n }
     {
+        let takers = takers(alloc, trace)?;
+        let scan = Scan::of(alloc, trace)?;
         Ok(Steps {
             counts: count_messages(alloc, trace, set)?,
+            fates: Fates::of(trace, set, &takers, &scan, calm),
             lost: lost_receivers(alloc, trace, set)?,
-            takers: takers(alloc, trace)?,
-            scan: Scan::of(alloc, trace)?,
+            takers,
+            scan,
             strokes: strokes_of(alloc, trace, COLUMNS)?,
         })
     }
@@ -237,7 +244,9 @@ fn put_facts(pen: &mut Pen<'_>, run: &Run<'_>) {
         Many(run.trace.len() as u64, "step"),
         Text(", "),
         Many(run.counts.all, "message"),
-        Text(" between members · "),
+        Text(" between nodes"),
+        Text(as_correct(run)),
+        Text(" · "),
     ]);
     put_length(pen, run);
 }
@@ -261,7 +270,7 @@ fn put_chosen(pen: &mut Pen<'_>, run: &Run<'_>) {
         pen.text("none taken as correct");
         return;
     }
-    if members == run.count() {
+    if run.has_all() {
         pen.text("all taken as correct");
         return;
     }

@@ -78,9 +78,7 @@ impl<'a> Pen<'a> {
     pub(crate) fn text(&mut self, text: &'static str)
         ensures { HasWritten text.now self.old self.new }
     {
-        if !self.is_refused && self.text.extend_from_slice(text.as_bytes()).is_err() {
-            self.is_refused = true;
-        }
+        self.plain(text);
     }
 
     /// Writes a text that HTML needs no escape for.

@@ -2,13 +2,14 @@
 
 ghost use Rattle.std.specs.Prelude.{◌≤◌};
 
+use crate::fates::Fates;
 use crate::node_bounds::NodeBounds;
 use crate::pieces::Piece;
-use crate::scans::{Scan, tick_at};
+use crate::scans::Scan;
 use crate::tick_steps::steps_before;
 use crate::timings::Timing;
-use picture_marks::Strokes;
 use picture_marks::takers::taker_in;
+use picture_marks::{Strokes, processor_at, tick_at};
 use run_story::{Evidence, Headline, LostReceivers, MessageCounts, Named};
 use run_words::Clock;
 use step_tables::StepRow;
@@ -40,6 +41,7 @@ pub(crate) struct Run<'a> {
     pub whole: &'a NodeBounds,
     pub rest: &'a NodeBounds,
     pub counts: MessageCounts,
+    pub fates: Fates,
     /// Who most lost messages are for, if these are few.
     pub lost: &'a LostReceivers,
     pub found: Found,
@@ -68,13 +70,7 @@ impl Run<'_> {
     }
 
     pub(crate) fn members(&self) -> u64 {
-        let mut count = 0_u64;
-        for p in 1..65 {
-            if self.set.contains(p) {
-                count = count.saturating_add(1);
-            }
-        }
-        count
+        members_in(self.set)
     }
 
     /// Whether there is something to show: a tick, a step and a member.
@@ -97,21 +93,12 @@ impl Run<'_> {
 
     /// The processor of the step of this number; 0 if there is no such step.
     pub(crate) fn proc(&self, no: u64) -> u64 {
-        match self.trace.step(no) {
-            Some(step) => step.proc,
-            None => 0,
-        }
+        processor_at(self.trace, no)
     }
 
     /// The receiver of the message of this number; 0 if there is no such message.
     pub(crate) fn receiver(&self, no: u64) -> u64 {
-        match self.trace.step(no) {
-            Some(step) => match &step.act {
-                Act::Send { to } => *to,
-                Act::Receive { .. } => 0,
-            },
-            None => 0,
-        }
+        receiver_at(self.trace, no)
     }
 
     /// The Receive that takes the message of this number.
@@ -129,10 +116,10 @@ impl Run<'_> {
         row_at(self.rows, place)
     }
 
-    /// The tick of the first row after this place; the last tick if there is none.
+    /// The last tick to which the row at this place applies: the one before the next row's, or the last of the run.
     pub(crate) fn until(&self, place: usize) -> u64 {
         match self.rows.get(place.saturating_add(1)) {
-            Some(row) => row.gst,
+            Some(row) => row.gst.saturating_sub(1),
             None => self.last(),
         }
     }
@@ -150,6 +137,11 @@ impl Run<'_> {
         }
     }
 
+    /// Whether each node is a member.
+    pub(crate) fn has_all(&self) -> bool {
+        self.members() == self.count()
+    }
+
     /// How many ticks there are from the calm row's to the last.
     pub(crate) fn rest_ticks(&self) -> u64 {
         self.last()
@@ -162,6 +154,28 @@ impl Run<'_> {
             Some(Headline::Calm { .. }) => true,
             _ => false,
         }
+    }
+}
+
+/// How many processors a set has.
+pub(crate) fn members_in(set: ProcSet) -> u64 {
+    let mut count = 0_u64;
+    for p in 1..65 {
+        if set.contains(p) {
+            count = count.saturating_add(1);
+        }
+    }
+    count
+}
+
+/// The receiver of the message of this number; 0 if there is no such message.
+pub(crate) fn receiver_at(trace: &Trace, no: u64) -> u64 {
+    match trace.step(no) {
+        Some(step) => match &step.act {
+            Act::Send { to } => *to,
+            Act::Receive { .. } => 0,
+        },
+        None => 0,
     }
 }
 

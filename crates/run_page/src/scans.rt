@@ -1,26 +1,63 @@
-//! What one pass over a trace finds: the last step of each processor, and the kinds of Receives.
+//! What one pass over a trace finds: when each processor acts last, and the kinds of Receives.
 
-ghost use Rattle.std.specs.Prelude.{◌≡◌};
-ghost use Rattle.step_trace.specs.Ticks.{tick_of};
-
+use picture_marks::tick_at;
 use std::alloc::{AllocError, Global};
 use step_trace::{Act, MAX_MEMBER, Step, Trace};
 
 /// What one pass over a trace finds.
 #[derive(Drop)]
 pub(crate) struct Scan {
-    // For each processor the tick of its last step; 0 if there is none.
-    last_ticks: Vec<u64>,
+    // For each processor, by its number.
+    lasts: Vec<LastTicks>,
     /// How many Receives take something, and how many take nothing.
     pub full: u64,
     pub empty: u64,
+}
+
+/// The ticks of a processor's last step, its last Receive, and its last Receive that takes something: 0 if there is
+/// none.
+#[derive(Clone, Copy)]
+struct LastTicks {
+    step: u64,
+    receive: u64,
+    full: u64,
+}
+
+impl LastTicks {
+    fn none() -> Self {
+        LastTicks {
+            step: 0,
+            receive: 0,
+            full: 0,
+        }
+    }
+
+    /// These after one more step, in this tick.
+    fn after(self, step: &Step, tick: u64) -> Self {
+        match &step.act {
+            Act::Send { .. } => LastTicks {
+                step: tick,
+                receive: self.receive,
+                full: self.full,
+            },
+            Act::Receive { ids, .. } => LastTicks {
+                step: tick,
+                receive: tick,
+                full: if ids.as_slice().len() == 0 {
+                    self.full
+                } else {
+                    tick
+                },
+            },
+        }
+    }
 }
 
 impl Scan {
     /// Time grows with the trace.
     pub(crate) fn of(alloc: Global, trace: &Trace) -> Result<Self, AllocError> {
         let mut scan = Scan {
-            last_ticks: vec![in alloc; 0; MAX_MEMBER as usize + 1]?,
+            lasts: vec![in alloc; LastTicks::none(); MAX_MEMBER as usize + 1]?,
             full: 0,
             empty: 0,
         };
@@ -35,8 +72,8 @@ impl Scan {
             return;
         };
         let proc = step.proc as usize;
-        if proc < self.last_ticks.len() {
-            self.last_ticks[proc] = tick_at(trace, no);
+        if proc < self.lasts.len() {
+            self.lasts[proc] = self.lasts[proc].after(step, tick_at(trace, no));
         }
         self.count(step);
     }
@@ -53,21 +90,23 @@ impl Scan {
 
     /// The tick of a processor's last step; 0 if there is none.
     pub(crate) fn last_tick_of(&self, proc: u64) -> u64 {
-        match self.last_ticks.get(proc as usize) {
-            Some(tick) => *tick,
-            None => 0,
+        self.lasts_of(proc).step
+    }
+
+    /// The tick of its last Receive; 0 if there is none.
+    pub(crate) fn last_receive_of(&self, proc: u64) -> u64 {
+        self.lasts_of(proc).receive
+    }
+
+    /// The tick of its last Receive that takes something; 0 if there is none.
+    pub(crate) fn last_full_of(&self, proc: u64) -> u64 {
+        self.lasts_of(proc).full
+    }
+
+    fn lasts_of(&self, proc: u64) -> LastTicks {
+        match self.lasts.get(proc as usize) {
+            Some(lasts) => *lasts,
+            None => LastTicks::none(),
         }
     }
-}
-
-/// The tick of the step of this number; 0 if there is no such step.
-pub(crate) fn tick_at(trace: &Trace, no: u64) -> u64
-    ensures { result ≡ tick_of trace.now no }
-{
-    // Its contract says that each step has a tick, and no other number.
-    let _ = trace.last_tick();
-    if no == 0 || no > trace.len() as u64 {
-        return 0;
-    }
-    trace.tick(no)
 }

@@ -177,7 +177,8 @@ pub(crate) fn nodes_of(run: &Run, evidence: &Evidence) -> ProcSet {
     nodes
 }
 
-fn with_node(nodes: ProcSet, proc: u64) -> ProcSet {
+/// These nodes, and one more.
+pub(crate) fn with_node(nodes: ProcSet, proc: u64) -> ProcSet {
     if 1 <= proc && proc <= 64 {
         nodes.with(proc)
     } else {
