@@ -1,10 +1,10 @@
 -- What is reported about a window of a log besides what is reported about a log.
 use Rattle.std.specs.Prelude.{ℕ, List, [], ◌∷◌, ◌++◌, ◌==◌, if◌then◌else◌, codes, decimal}
 
--- the line that says how many events are outside the window, if any are
+-- the line that says how many events are outside the window
 abbrev pub outside_notes : ℕ → List ℕ
 outside_notes outside =
-    if outside == 0 then []
+    if outside == 0 then codes "synchrony: no event is outside the window" ++ 10 ∷ []
     else if outside == 1 then codes "synchrony: 1 event is outside the window, and left out" ++ 10 ∷ []
     else codes "synchrony: " ++ (decimal outside ++ (codes " events are outside the window, and left out" ++ 10 ∷ []))
 

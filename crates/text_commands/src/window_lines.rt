@@ -8,6 +8,8 @@ use std::alloc::{AllocError, Global};
 use std::fmt;
 
 /// How many events are outside a window, and how many received messages were sent outside it, if there are any.
+///
+/// That none is outside is said too: then the window is hardly the one that was meant.
 pub(crate) fn window_notes(alloc: Global, window: &LogWindow) -> Result<String, AllocError>
     ensures { IfOk result
         (λ text. string_bytes text ≡ window_notes window.now.outside window.now.unsent) }
@@ -18,7 +20,7 @@ pub(crate) fn window_notes(alloc: Global, window: &LogWindow) -> Result<String, 
     Ok(notes)
 }
 
-/// How many events are outside a window, on a line of its own; nothing if there are none.
+/// How many events are outside a window, on a line of its own.
 #[derive(Clone, Copy)]
 struct OutsideLine(u64);
 
@@ -30,7 +32,7 @@ impl fmt::Display for OutsideLine {
 
     fn fmt<W: fmt::Write>(&self, f: &mut fmt::Formatter<W>) -> fmt::Result {
         match self.0 {
-            0 => f.write_str(""),
+            0 => f.write_str("synchrony: no event is outside the window\n"),
             1 => f.write_str("synchrony: 1 event is outside the window, and left out\n"),
             outside => writeln!(
                 f,
