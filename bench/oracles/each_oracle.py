@@ -68,7 +68,7 @@ def members_of(text, processors):
 def has_tick(trace, tick, option):
     if not 1 <= tick <= trace.last:
         ticks = f"ticks 1 to {trace.last}" if trace.last else "no ticks"
-        raise Refused(f"bad --{option}", f"--{option} is {tick}, and the trace has {ticks}")
+        raise Refused(f"bad --{option}", f"--{option} is {tick}, and the {'report' if option == 'at' else 'trace'} has {ticks}")
 
 
 def phi_of(trace, member, at):

@@ -126,7 +126,7 @@ class Reader:
         if word == "(" or self.rest[:2] == ["max", "("]:
             return self.group(word == "max")
         if word not in ("delta", "phi", "n", "t") and not is_number(word):
-            raise BadFormula(f"operand {self.operands + 1} of the formula is no number and none of delta, phi, n, t")
+            raise BadFormula(f"operand {self.operands + 1} of the formula is no number and none of delta, phi, n, t; the signs are +, *, / and parentheses, and max(A, B) is the greatest")
         self.rest.pop(0)
         self.operands += 1
         return lambda words: words[word] if word in words else int(word)
@@ -245,17 +245,21 @@ class Judge:
         return f"yes {len(due)} due {len(deadlines) - len(due)} later{margin}"
 
 
+FIELDS = "a record is a processor, a tick and a value, all of them whole numbers; record 1 is the one after the header"
+OF_TRACE = "the processor and the tick are some of the trace; record 1 is the one after the header"
+
+
 def refusal_of_decisions(records, run):
-    """Why the records after the header are refused, if they are."""
+    """Why the records after the header are refused, if they are, and what a record has."""
     for number, record in enumerate(records, 1):
         if len(record) != 3:
-            return f"record {number}: bad fields"
+            return f"record {number}: bad fields", FIELDS
         if not all(re.fullmatch(r"0|[1-9][0-9]*", it) and int(it) <= GREATEST for it in record):
-            return f"record {number}: bad number"
+            return f"record {number}: bad number", FIELDS
         if not 1 <= int(record[0]) <= run.n:
-            return f"record {number}: no such processor"
+            return f"record {number}: no such processor", OF_TRACE
         if not 1 <= int(record[1]) <= run.last:
-            return f"record {number}: no such tick"
+            return f"record {number}: no such tick", OF_TRACE
 
 
 def answer(run, members, text, records, start=None, valid=False, whole=False, due=None, factor=False, rows=False):
@@ -270,9 +274,9 @@ def answer(run, members, text, records, start=None, valid=False, whole=False, du
     if start is not None and not 1 <= start <= run.last:
         ticks = f"ticks 1 to {run.last}" if run.last else "no ticks"
         return 3, f"bad --start\nsynchrony: --start is {start}, and the trace has {ticks}"
-    why = refusal_of_decisions(records, run)
-    if why:
-        return 4, f"decisions: {why}"
+    refused = refusal_of_decisions(records, run)
+    if refused:
+        return 4, "decisions: {}\nsynchrony: {}".format(*refused)
     decisions = [tuple(map(int, it)) for it in records]
     judge = Judge(run, frozenset(members), decisions, value, 1 if start is None else start, valid, whole, due or 0)
     line = judge.verdict()
