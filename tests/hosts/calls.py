@@ -22,7 +22,8 @@ def main(command, correct, *certificate):
         print(verdict)
         return 0 if verdict else 1
     except synchrony.SynchronyError as why:
-        print(f"synchrony: {why}", file=sys.stderr)
+        # (the second line, a hint, is the package's alone)
+        print(f"synchrony: {str(why).splitlines()[0]}", file=sys.stderr)
         return why.status
 
 
