@@ -10,6 +10,7 @@ The first answers as the program should: standard output, standard error and sta
 passed, M failed'.
 """
 import argparse
+import contextlib
 import dataclasses
 import glob
 import os
@@ -75,7 +76,7 @@ def read_events(log, given):
     places, numbers, kind = places_of(records), range(2, len(records) + 1), given.kind
     all_events = len(numbers)
     if has_window:
-        records, numbers, kind = window_of(records, places[0], given.start, given.until, kind)
+        records, numbers, kind = window_of(records, places, given.start, given.until, kind)
     if is_cut:
         refuse_log(b"text too large", WINDOW)
     outside = all_events - len(numbers)
@@ -146,9 +147,19 @@ def main():
     if not hasattr(words, "log"):
         command.error("no command")
     options = Options(**{it.name: getattr(words, it.name) for it in dataclasses.fields(Options)})
-    status, output, told = answer(read_log(words.log), options)
-    sys.stderr.buffer.write(told)
-    sys.stdout.buffer.write(output)
+    return print_answer(*answer(read_log(words.log), options))
+
+
+def print_answer(status, output, told):
+    """Writes what is told, which may be lost, and then the output, without which the status is 6."""
+    with contextlib.suppress(OSError):
+        os.write(2, told)
+    try:
+        while output:
+            output = output[os.write(1, output) :]
+    except OSError:
+        os.write(2, b"synchrony: cannot write\n")
+        return 6
     return status
 
 

@@ -94,14 +94,20 @@ def places_of(records):
 
 def spread_out_lists(records, numbers, places):
     """The records with one for each node that a send lists, and the numbers of these."""
-    event, to = places[2], places[3]
     kept, new = records[:1], []
     for no, record in zip(numbers, records[1:]):
-        is_send = event < len(record) and record[event] == b"send" and to < len(record)
-        for name in record[to].split(b";") if is_send else [None]:
-            kept.append(record if name is None else [*record[:to], name, *record[to + 1 :]])
+        for it in rows_of(record, places):
+            kept.append(it)
             new.append(no)
     return kept, new
+
+
+def rows_of(record, places):
+    """A record with one node in `to`, or one for each node that a send lists there."""
+    event, to = places[2], places[3]
+    if not (event < len(record) and record[event] == b"send" and to < len(record)):
+        return [record]
+    return [[*record[:to], name, *record[to + 1 :]] for name in record[to].split(b";")]
 
 
 def row_length(record):

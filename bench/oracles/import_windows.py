@@ -1,13 +1,16 @@
 """The window of `import --from`, for its oracle."""
 from import_kinds import TIMES, kind_of
-from import_refusals import UNTIL, Refused, refuse_record
+from import_records import TEXT_LIMIT, row_length, rows_of
+from import_refusals import UNTIL, WINDOW, Refused, refuse_log, refuse_record
 
 FROM = b"--from is a time like those of the log, and not after --until"
 
 
-def window_of(records, place, start, until, kind):
-    """The header and the records whose times are in a window, the numbers of these, and the kind of the times."""
-    kept, numbers, first, last = records[:1], [], None, None
+def window_of(records, places, start, until, kind):
+    """The header and the records whose times are in a window, the numbers of these, and the kind of the times. It refuses the
+    record by which the window is too long, in its turn."""
+    place, kept, numbers, first, last = places[0], records[:1], [], None, None
+    length = 1 + row_length(records[0])
     for no, record in enumerate(records[1:], 2):
         time = record[place] if place < len(record) else b""
         kind = kind or kind_of(time)
@@ -19,6 +22,9 @@ def window_of(records, place, start, until, kind):
         if first <= value and (last is None or value <= last):
             kept.append(record)
             numbers.append(no)
+            length += sum(map(row_length, rows_of(record, places)))
+            if length > TEXT_LIMIT:
+                refuse_log(b"text too large", WINDOW)
     return kept, numbers, kind
 
 
