@@ -11,7 +11,7 @@ ghost use Rattle.command_options.specs.Paces.{patience_of};
 
 mod simulations;
 
-pub use simulations::{Crash, MAX_BOUND, Schedule, SimulationOptions, StatedBounds};
+pub use simulations::{Crash, MAX_BOUND, Schedule, SimulationOptions, StatedBounds, is_live};
 use step_trace::{Config, Correct};
 
 /// The greatest number of workers that may be asked for.

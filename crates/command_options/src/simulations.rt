@@ -1,10 +1,11 @@
 //! What a simulated run is asked for.
 
-ghost use Rattle.std.specs.Prelude.{◌+◌, ◌≤◌, All, length};
+ghost use Rattle.std.specs.Prelude.{◌≡◌, ◌+◌, ◌≤◌, All, length};
+ghost use Rattle.std.specs.List.{list_any};
 ghost use Rattle.std.specs.Option.{ForSome};
 ghost use Rattle.step_trace.specs.Configurations.{IsProc};
 ghost use Rattle.step_trace.specs.declared.traces.TheConstants.{MAX_STEPS};
-ghost use Rattle.command_options.specs.Simulations.{live};
+ghost use Rattle.command_options.specs.Simulations.{is_crash_of, is_live, live};
 ghost use Rattle.command_options.specs.declared.simulations.TheConstants.{MAX_BOUND};
 
 use step_trace::Config;
@@ -43,6 +44,27 @@ pub struct StatedBounds {
 pub struct Crash {
     pub proc: u64,
     pub tick: u64,
+}
+
+/// Whether processor `p` never crashes.
+pub fn is_live(crashes: &[Crash], p: u64) -> bool
+    ensures { result ≡ is_live crashes.now p }
+{
+    !has_crash(crashes, p)
+}
+
+/// Whether one of these is a crash of processor `p`.
+fn has_crash(crashes: &[Crash], p: u64) -> bool
+    ensures { result ≡ list_any (is_crash_of p) crashes.now }
+{
+    crashes.iter().any(|crash| is_crash_of(crash, p))
+}
+
+/// Whether a crash is one of processor `p`.
+fn is_crash_of(crash: &Crash, p: u64) -> bool
+    ensures { result ≡ is_crash_of p crash.now }
+{
+    crash.proc == p
 }
 
 /// What a simulated run is asked for.

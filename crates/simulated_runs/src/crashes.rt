@@ -2,11 +2,10 @@
 
 ghost use Rattle.std.specs.Prelude.{ℕ, ◌≡◌, ◌+◌, ◌-◌, ◌<◌, ◌≤◌, ◌^◌, All, IfOk, IfSome};
 ghost use Rattle.std.specs.Prelude.{IfNone, length, map, slice_index, filter};
-ghost use Rattle.std.specs.List.{list_any};
-ghost use Rattle.command_options.specs.Simulations.{is_crash_of, is_live, live};
+ghost use Rattle.command_options.specs.Simulations.{live};
 ghost use Rattle.simulated_runs.specs.Crashes.{IsSomeUp, IsUpIn, last_tick, lasts_of};
 
-use command_options::Crash;
+use command_options::{Crash, is_live};
 use std::alloc::{AllocError, Global};
 
 /// The processors that never crash, of `n`.
@@ -20,27 +19,6 @@ pub(crate) fn live(alloc: Global, n: u64, crashes: &[Crash]) -> Result<Vec<u64>,
         }
     }
     Ok(live)
-}
-
-/// Whether processor `p` never crashes.
-fn is_live(crashes: &[Crash], p: u64) -> bool
-    ensures { result ≡ is_live crashes.now p }
-{
-    !has_crash(crashes, p)
-}
-
-/// Whether one of these is a crash of processor `p`.
-fn has_crash(crashes: &[Crash], p: u64) -> bool
-    ensures { result ≡ list_any (is_crash_of p) crashes.now }
-{
-    crashes.iter().any(|crash| is_crash_of(crash, p))
-}
-
-/// Whether a crash is one of processor `p`.
-fn is_crash_of(crash: &Crash, p: u64) -> bool
-    ensures { result ≡ is_crash_of p crash.now }
-{
-    crash.proc == p
 }
 
 /// For each of `n` processors the last tick in which it may step.

@@ -1,12 +1,11 @@
 //! Crashes, as a command line lists them.
 
 ghost use Rattle.std.specs.Prelude.{◌≡◌, ◌≢◌, ◌≤◌, IfNone, IfOk, IfSome, List, length};
-ghost use Rattle.command_options.specs.Simulations.{is_crash_of, is_live, live};
-ghost use Rattle.std.specs.List.{list_any};
+ghost use Rattle.command_options.specs.Simulations.{live};
 ghost use Rattle.command_options.specs.declared.simulations.Crash.{Crash};
 ghost use Rattle.command_line.specs.CrashLists.{IsCrash64, IsCrashList, crash_text};
 
-use command_options::Crash;
+use command_options::{Crash, is_live};
 use std::alloc::{AllocError, Global};
 use step_trace::{Config, read_number};
 
@@ -53,25 +52,4 @@ pub fn live_count(config: &Config, crashes: &[Crash]) -> u64
         }
     }
     count
-}
-
-/// Whether processor `p` never crashes.
-fn is_live(crashes: &[Crash], p: u64) -> bool
-    ensures { result ≡ is_live crashes.now p }
-{
-    !has_crash(crashes, p)
-}
-
-/// Whether one of these is a crash of processor `p`.
-fn has_crash(crashes: &[Crash], p: u64) -> bool
-    ensures { result ≡ list_any (is_crash_of p) crashes.now }
-{
-    crashes.iter().any(|crash| is_crash_of(crash, p))
-}
-
-/// Whether a crash is one of processor `p`.
-fn is_crash_of(crash: &Crash, p: u64) -> bool
-    ensures { result ≡ is_crash_of p crash.now }
-{
-    crash.proc == p
 }
