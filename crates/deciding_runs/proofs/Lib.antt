@@ -7,8 +7,8 @@ mod DecidedMembers
 mod RoundTellers
 mod RoundOrders
 mod HeardOutRounds
-mod NotedPeers
-mod OrderedTakes
+pub mod NotedPeers
+pub mod OrderedTakes
 mod PacedSteps
 mod PacedMembers
 pub mod CountedRounds

@@ -4,8 +4,9 @@ use Rattle.std.proofs.Common.{map, Bool, true, false, ◌&&◌, ◌||◌, ◌==�
 use Rattle.std.specs.Prelude.{Contains, count_by, slice_set}
 use Rattle.std.proofs.lemmas.Bool.{cases_lt, cases_eq, eqb-true, leb-true, and_parts}
 use Rattle.std.proofs.lemmas.List.{length-append, length-take-le, take-append-drop, get_or-set_same, get_or-set_other, get_or-map, get_or_past, length-map}
+use Rattle.step_trace.proofs.StepPrefixes.{step_at-prefix_old}
 use Rattle.deciding_runs.proofs.Common.{Step, Setup, IsProc, step_at_within, State, Contains-nil, processors}
-use Rattle.deciding_runs.proofs.Common.{Contains-processors, step_at-prefix_old, round_at-prefix, Peer, has_proc}
+use Rattle.deciding_runs.proofs.Common.{Contains-processors, round_at-prefix, Peer, has_proc}
 use Rattle.deciding_runs.proofs.Common.{IsWithin, member-positive, node_before, may_hear, HasHeardOf, IsHeardOut}
 use Rattle.deciding_runs.proofs.Common.{peer_of, unheard, after_hearing, after_phase, is_heard_of, is_awaited}
 use Rattle.deciding_runs.proofs.Common.{awaited_count, Paced, is_complete, WereHeard, EndsComplete}
@@ -27,7 +28,7 @@ HasHeardOf-longer steps more p q round k is =
     }
 
 -- and by a later step, and of an earlier round
-heard-weaker : (steps : List Step) (p q round r k j : ℕ) → r ≤ round → k ≤ j → HasHeardOf steps p q round k → HasHeardOf steps p q r j
+pub heard-weaker : (steps : List Step) (p q round r k j : ℕ) → r ≤ round → k ≤ j → HasHeardOf steps p q round k → HasHeardOf steps p q r j
 heard-weaker steps p q round r k j low late is =
     let later = is.later in
     let by = is.by in
@@ -87,7 +88,7 @@ WereHeard-phase steps p round peers are q low some = go (cases_lt (q - 1) (lengt
         absurd (omega arith)
 
 -- nobody passes a test that none of a list passes
-none-passes : (test : ℕ → Bool) (xs : List ℕ) (x : ℕ) → count_by test xs ≡ 0 → Contains xs x → test x ≡ false
+pub none-passes : (test : ℕ → Bool) (xs : List ℕ) (x : ℕ) → count_by test xs ≡ 0 → Contains xs x → test x ≡ false
 none-passes test [] x none is = absurd (Contains-nil x is)
 none-passes test (y ∷ ys) x none is = elim (Contains-cons_cases y x ys is) [
   | inl e ↦ ap test e ∙ fails (test y) count

@@ -2,16 +2,17 @@
 use Rattle.std.proofs.Common.{ℕ, ◌≡◌, ◌-◌, ◌<◌, ◌≤◌, List, ◌++◌, length, drop, Some, Bool, true, false, refl, sym, ap, subst, ◌∙◌, arith, eq-eqb}
 use Rattle.std.specs.Prelude.{Contains}
 use Rattle.std.proofs.lemmas.List.{take-append-drop, length-take-le}
+use Rattle.step_trace.proofs.StepPrefixes.{step_at-prefix, IsWellFormed-prefix}
 use Rattle.deciding_runs.proofs.Common.{Act, Step, Setup, step_at, IsWellFormed, act_ids, step_at_within}
-use Rattle.deciding_runs.proofs.Common.{Contains-filter, before, numbers, buffer, waits_for, IsSend, step_at-prefix}
-use Rattle.deciding_runs.proofs.Common.{IsWellFormed-prefix, Contains-numbers, IsTakenAt, IsTakenBefore, TakesInOrder}
+use Rattle.deciding_runs.proofs.Common.{Contains-filter, before, numbers, buffer, waits_for, IsSend}
+use Rattle.deciding_runs.proofs.Common.{Contains-numbers, IsTakenAt, IsTakenBefore, TakesInOrder}
 use Rattle.deciding_runs.proofs.Common.{TakesAll}
 use Rattle.step_trace.specs.declared.steps.Act.TheVariants.{Send, Receive}
 use Rattle.step_trace.specs.PushRefusals.{is_taken}
 use Rattle.step_buffers.proofs.KeptInboxes.{IsTakenBy-receiver}
 
 -- who takes something makes a Receive
-taken-at : (steps : List Step) (p k s : ℕ) (x : Step) → step_at steps k ≡ Some x → x.proc ≡ p → Contains (act_ids x.act) s → IsTakenAt steps p k s
+pub taken-at : (steps : List Step) (p k s : ℕ) (x : Step) → step_at steps k ≡ Some x → x.proc ≡ p → Contains (act_ids x.act) s → IsTakenAt steps p k s
 taken-at steps p k s x stands own taken = go x.act refl taken
   where
     go : (act : Act) → x.act ≡ act → Contains (act_ids act) s → IsTakenAt steps p k s

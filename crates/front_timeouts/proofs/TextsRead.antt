@@ -11,7 +11,7 @@ use Rattle.timeouts.specs.declared.timeouts.Timeout.{Timeout}
 use Rattle.front_timeouts.specs.declared.tables.FollowerTimeouts.{FollowerTimeouts}
 use Rattle.front_timeouts.specs.TimeoutTexts.{timeouts_header, numbers_of, timeout_record, follower_records, timeouts_records, timeouts_text, StandsFor, AreOf64, AreSmall}
 use Rattle.trace_text.specs.Records.{record_line, text_of_records}
-use Rattle.trace_text.specs.RecordWriting.{ArePlain, IsPlain}
+use Rattle.trace_text.specs.RecordWriting.{ArePlain}
 use Rattle.trace_text.proofs.LinesRead.{AreLines, AreLines-append, lines-read}
 use Rattle.trace_text.proofs.PlainFields.{IsPlain-decimal}
 
@@ -36,11 +36,6 @@ no-mark all = refl
 -- the text of timeouts encodes them
 pub StandsFor-timeouts_text : (all : List FollowerTimeouts) → All AreOf64 all → StandsFor (timeouts_text all) all
 StandsFor-timeouts_text all h = lines-read (timeouts_records all) (omega arith, (refl, (refl, (refl, (refl, (refl, (refl, (refl, (refl, (refl, (refl, (refl, tt))))))))))), lines-followers all h) (no-mark all)
-
--- one more field
-pub push_plain : (fields : List (List ℕ)) (field : List ℕ) → ArePlain fields → IsPlain field → ArePlain (fields ++ field ∷ [])
-push_plain [] field plain one = (one, tt)
-push_plain (x ∷ rest) field plain one = (plain.0, push_plain rest field plain.1 one)
 
 pub map_more : (ns : List ℕ) (k : ℕ) → k < length ns → map decimal (take (k + 1) ns) ≡ map decimal (take k ns) ++ decimal (get_or ns k 0) ∷ []
 map_more ns k inside =

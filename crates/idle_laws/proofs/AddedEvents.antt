@@ -1,30 +1,12 @@
 -- Events with receives of nothing behind them.
-use Rattle.std.proofs.Common.{ℕ, ◌≡◌, ◌+◌, ◌-◌, ◌<◌, List, [], ◌∷◌, ◌++◌, length, get_or, Some, zero, suc, refl, ap, ◌∙◌, arith}
-use Rattle.std.specs.Prelude.{slice_get, slice_index}
+use Rattle.std.proofs.Common.{ℕ, ◌≡◌, ◌+◌, ◌-◌, ◌<◌, List, ◌++◌, length, get_or, refl, ap, ◌∙◌, arith}
+use Rattle.std.specs.Prelude.{slice_index}
 use Rattle.std.proofs.lemmas.List.{get_or-map, get_or_append_left, get_or-append_right, length-append}
 use Rattle.std.proofs.lemmas.Slice.Zip.{AllZip-long}
 use Rattle.idle_laws.proofs.Common.{Event, IdleTick, AreReceives, IsIdleReceive, ticks_of}
 
 abbrev pub poll_of : ℕ → ℕ → IdleTick
 poll_of p y = record { processor = p; tick = y }
-
-pub get-left : (xs ys : List Event) (i : ℕ) → i < length xs → slice_get (xs ++ ys) i ≡ slice_get xs i
-get-left [] ys i l = absurd (omega arith)
-get-left (x ∷ xs) ys zero l = refl
-get-left (x ∷ xs) ys (suc i) l = get-left xs ys i (omega arith)
-
-pub get-right : (xs ys : List Event) (i j : ℕ) → i ≡ length xs + j → slice_get (xs ++ ys) i ≡ slice_get ys j
-get-right [] ys i j e = let s : i ≡ j = omega arith in ap (slice_get ys) s
-get-right (x ∷ xs) ys zero j e = absurd (omega arith)
-get-right (x ∷ xs) ys (suc i) j e = get-right xs ys i j (omega arith)
-
--- the receive of nothing at a place
-pub receive-at : (polls : List IdleTick) (added : List Event) (j : ℕ) (d : IdleTick) → AreReceives polls added
-    → j < length polls → (e : Event) × (slice_get added j ≡ Some e) × IsIdleReceive (get_or polls j d) e
-receive-at [] added j d r l = absurd (omega arith)
-receive-at (x ∷ polls) [] j d r l = absurd r
-receive-at (x ∷ polls) (e ∷ added) zero d r l = (e, refl, r.0)
-receive-at (x ∷ polls) (e ∷ added) (suc j) d r l = receive-at polls added j d r.1 (omega arith)
 
 module _ (events added : List Event) (ticks : List ℕ) (polls : List IdleTick) (long : length ticks ≡ length events) (r : AreReceives polls added) where
   abbrev all : List Event

@@ -13,8 +13,10 @@ use Rattle.idle_laws.proofs.Common.{IsOfNothing, ticks_of, IsActOf, IsTraceOf, s
 use Rattle.step_trace.specs.declared.steps.Act.TheVariants as act
 use Rattle.step_trace.specs.Processors.{has_proc}
 use Rattle.step_trace.specs.Steps.{act_dest, act_ids}
-use Rattle.idle_laws.proofs.AddedEvents.{get-left, get-right, long-all, new-tick, old-tick, poll_of, receive-at}
-use Rattle.idle_laws.proofs.EventSteps.{EventOf, event-at, event-of, one-number, place-in, step-of}
+use Rattle.timed_events.proofs.IdleEvents.{received-at, get-right, get-left}
+use Rattle.idle_laws.proofs.AddedEvents.{long-all, new-tick, old-tick, poll_of}
+use Rattle.timed_events.proofs.BriefEvents.{event-at}
+use Rattle.idle_laws.proofs.EventSteps.{EventOf, event-of, one-number, place-in, step-of}
 
 -- event i is a Send between members, to b
 pub record IsSending (set : ℕ) (events : List Event) (i b : ℕ) : Type 0 where
@@ -149,7 +151,7 @@ module _ (n : ℕ) (events added : List Event) (ticks : List ℕ) (last : ℕ) (
         let at : f.place ≡ length events + j = omega (arith, f.inside) in
         let within : j < length polls = omega (arith, f.inside) in
         let d = poll_of 0 0 in
-        let w = receive-at polls added j d r within in
+        let w = received-at polls added j d r within in
         let same = same_Some w.0 f.is.event (sym w.1 ∙ sym (get-right events added f.place j at) ∙ f.is.at) in
         let proc : (get_or polls j d).processor ≡ x.proc = sym w.2.own ∙ ap (λ (v : Event). v.processor) same ∙ sym f.is.proc in
         let tick : (get_or polls j d).tick ≡ tick_of trace k = sym (new-tick events added ticks polls long r f.place j d at within) ∙ sym f.tick in
@@ -182,7 +184,7 @@ module _ (n : ℕ) (events added : List Event) (ticks : List ℕ) (last : ℕ) (
       let d = poll_of p y in
       let i = length events + j in
       let within = c.1 in
-      let w = receive-at polls added j d r within in
+      let w = received-at polls added j d r within in
       let f = step-of n all all_ticks last trace t i (omega (arith, long-all events added ticks polls long r)) in
       let same = same_Some f.is.event w.0 (sym f.is.at ∙ get-right events added i j refl ∙ w.1) in
       record {

@@ -1,6 +1,6 @@
 -- The steps of a trace of events, and the events of its steps.
-use Rattle.std.proofs.Common.{ℕ, ◌≡◌, ◌<◌, ◌≤◌, ◌⊎◌, inl, inr, List, [], ◌∷◌, length, get_or, Some, zero, suc, refl, sym, ap, ◌∙◌, subst, arith}
-use Rattle.std.specs.Prelude.{slice_get, slice_index}
+use Rattle.std.proofs.Common.{ℕ, ◌≡◌, ◌<◌, ◌≤◌, ◌⊎◌, inl, inr, List, length, get_or, Some, suc, sym, ap, ◌∙◌, subst, arith}
+use Rattle.std.specs.Prelude.{slice_index}
 use Rattle.std.proofs.lemmas.Bool.{cases_lt}
 use Rattle.std.proofs.lemmas.List.{get_or-map, get_or_past, take_all}
 use Rattle.idle_laws.proofs.Common.{Step, Recorded, step_at, tick_of, Event, HasSteps, IsStepAt, IsTraceOf, known, zip-step, place-found, places-inside}
@@ -19,11 +19,6 @@ pub record StepOf (events : List Event) (ticks numbers : List ℕ) (trace : Reco
   pub at : step_at trace.steps (slice_index numbers place) ≡ Some step
   pub is : IsStepAt events numbers place step
   pub tick : tick_of trace (slice_index numbers place) ≡ slice_index ticks place
-
-pub event-at : (xs : List Event) (i : ℕ) → i < length xs → (e : Event) × (slice_get xs i ≡ Some e)
-event-at [] i l = absurd (omega arith)
-event-at (x ∷ xs) zero l = (x, refl)
-event-at (x ∷ xs) (suc i) l = event-at xs i (omega arith)
 
 module _ (n : ℕ) (events : List Event) (ticks : List ℕ) (last : ℕ) (trace : Recorded) (t : IsTraceOf n events ticks last trace) where
   pub event-of : (k : ℕ) (x : Step) → step_at trace.steps k ≡ Some x → EventOf events ticks t.numbers trace k x

@@ -10,7 +10,8 @@ use Rattle.timed_events.specs.Checks.{AreMeant, AreOfProcessors, HaveOwnMoments,
 use Rattle.timed_events.proofs.MovedEvents.{greatest-each}
 use Rattle.timed_events.proofs.PassedEvents.{one-at_moment}
 use Rattle.timed_events.proofs.SpreadTraces.{meant-processors}
-use Rattle.idle_laws.proofs.AddedEvents.{get-left, get-right, long-all, new-tick, old-tick, receive-at}
+use Rattle.timed_events.proofs.IdleEvents.{received-at, get-right, get-left}
+use Rattle.idle_laws.proofs.AddedEvents.{long-all, new-tick, old-tick}
 use Rattle.idle_laws.proofs.FilledBounds.{ticks-long}
 use Rattle.idle_laws.proofs.MadeTraces.{made}
 use Rattle.idle_laws.proofs.SilentTicks.{AllSilent, all-silent}
@@ -46,7 +47,7 @@ module _ (n : ℕ) (events added : List Event) (ticks : List ℕ) (last limit : 
 
   new-moment : (i j : ℕ) → i ≡ length events + j → j < length a.polls → moment_at all all_ticks i ≡ moment_of (get_or a.polls j nobody).tick (get_or a.polls j nobody).processor
   new-moment i j e l =
-      let w = receive-at a.polls added j nobody r l in
+      let w = received-at a.polls added j nobody r l in
       ap₂ moment_of (new-tick events added ticks a.polls long r i j nobody e l) (ap (λ v. option_map_or (λ (x : Event). x.processor) v 0) (get-right events added i j e ∙ w.1) ∙ w.2.own)
 
   -- an event isn't at the moment of a receive of nothing

@@ -8,7 +8,7 @@ use Rattle.idle_laws.proofs.Common.{Act, Step, Recorded, Event, EventAct, Send, 
 use Rattle.idle_laws.proofs.Common.{IsOrder, IsActOf, IsStepAt, IsTraceOf, sent_number, setup_of, places-apart}
 use Rattle.idle_laws.proofs.Common.{places-inside}
 use Rattle.step_trace.specs.declared.steps.Act.TheVariants as act
-use Rattle.idle_laws.proofs.EventSteps.{event-at}
+use Rattle.timed_events.proofs.BriefEvents.{event-at}
 use Rattle.idle_laws.proofs.SortedPlaces.{numbered, sorted}
 
 act-of : (numbers : List ℕ) (e : EventAct) → (a : Act) × IsActOf numbers e a

@@ -1,13 +1,11 @@
 -- The events of which each is made, by their heads, and the places of those that stay.
-use Rattle.std.proofs.Common.{ℕ, ℤ, zero, suc, ◌≡◌, ◌∙◌, ◌+◌, ◌/◌, ◌<◌, ◌≤◌, ◌≤ℤ◌, ◌-ℤ◌, Bool, true}
+use Rattle.std.proofs.Common.{ℕ, ℤ, zero, suc, ◌≡◌, ◌∙◌, ◌+◌, ◌<◌, ◌≤◌, ◌≤ℤ◌, ◌-ℤ◌, Bool, true}
 use Rattle.std.proofs.Common.{false, not, cond, List, [], ◌∷◌, ◌++◌, length, length-append, map}
-use Rattle.std.proofs.Common.{get_or, refl, sym, ap, ap₂, subst, arith}
+use Rattle.std.proofs.Common.{refl, sym, ap, ap₂, subst, arith}
 use Rattle.std.specs.Prelude.{◌==◌, ◌||◌, ◌&&◌, int_lt, nat_lt, slice_index, slice_index_or}
 use Rattle.std.specs.List.{filter, range_with_len}
 use Rattle.std.proofs.lemmas.Bool.{eq-eqb, eqb-true, false_from_ne_true, not_from_false, true≢false}
 use Rattle.std.proofs.lemmas.Int.{ints}
-use Rattle.std.proofs.lemmas.Nat.{le-div}
-use Rattle.std.proofs.Math.Nat.{div-mul-le_self}
 use Rattle.std.specs.Int.RustNames.{unsigned_abs}
 use Rattle.std.proofs.lemmas.List.{length-map, map-append}
 use Rattle.std.proofs.lemmas.List.Elements.{filter-append}
@@ -19,8 +17,9 @@ use Rattle.timed_events.specs.Checks.{time_at}
 use Rattle.timed_events.specs.Times.{least_time, time_tick, time_ticks}
 use Rattle.timed_events.proofs.CausalWalks.{range-more}
 use Rattle.timed_events.proofs.SortedEvents.{place-found}
-use Rattle.timed_events.proofs.TimeBounds.{least_time-below}
+use Rattle.timed_events.proofs.TimeBounds.{div_up}
 use Rattle.timed_events.proofs.TimeOrders.{inside-order}
+use Rattle.timed_events.proofs.NearTimes.{least-at}
 use Rattle.merged_receives.specs.Merges.{is_merged, is_part, parts_of, staying_before, staying_places}
 use Rattle.merged_receives.specs.MergeWalks.{AreHeadsOf, ArePart, AreParts, AreRising, has_some, own_before, own_parts, places_before}
 use Rattle.merged_receives.proofs.JoinedReceives.{head-once, part-self}
@@ -185,23 +184,11 @@ own-inside n heads order b =
 apart : (x y z : ℤ) → x ≤ℤ y → y ≤ℤ z → unsigned_abs (y -ℤ x) ≤ unsigned_abs (z -ℤ x)
 apart x y z h k = omega (arith, ints)
 
-div_up : (a b k : ℕ) → 0 < k → a ≤ b → a / k ≤ b / k
-div_up a b k p h = le-div (a / k) b k p (let m = div-mul-le_self a k in omega arith)
-
 -- ticks don't fall in the order of times
 tick-at : (f : ℤ → ℕ) (xs : List Event) (i : ℕ) → i < length xs → slice_index (map (λ e. f e.time) xs) i ≡ f (time_at xs i)
 tick-at f [] i l = absurd (omega (arith, l))
 tick-at f (e ∷ es) zero l = refl
 tick-at f (e ∷ es) (suc i) l = tick-at f es i (omega (arith, l))
-
-time-got : (xs : List Event) (i : ℕ) (d : Event) → i < length xs → (get_or xs i d).time ≡ time_at xs i
-time-got [] i d l = absurd (omega (arith, l))
-time-got (e ∷ es) zero d l = refl
-time-got (e ∷ es) (suc i) d l = time-got es i d (omega (arith, l))
-
-least-at : (events : List Event) (i : ℕ) → i < length events → least_time events ≤ℤ time_at events i
-least-at [] i l = absurd (omega (arith, l))
-least-at (e ∷ es) i l = subst (λ x. least_time (e ∷ es) ≤ℤ x) (time-got (e ∷ es) i e l) (least_time-below (e ∷ es) i e l)
 
 earlier-time : (events : List Event) (j i : ℕ) → is_earlier events j i ≡ true → time_at events j ≤ℤ time_at events i
 earlier-time events j i h = go (int_lt (time_at events j) (time_at events i)) refl (int_lt (time_at events i) (time_at events j)) refl (nat_lt j i) refl h where

@@ -7,7 +7,7 @@ use Rattle.std.proofs.lemmas.Option.{none-some}
 use Rattle.patience_laws.proofs.Common.{Act, IsProc, has_proc, Recorded, step_at, IsStepOf, tick_of, IsTimed, PhiHolds}
 use Rattle.patience_laws.proofs.Common.{part_of, IsRun, count_by-more, StepsByPace, IsInRoundFrom, HasHeardFrom}
 use Rattle.patience_laws.proofs.Common.{is_step_since, sends_to, steps_since}
-use Rattle.patience_laws.proofs.KnownRounds.{heard-weaker}
+use Rattle.deciding_runs.proofs.NotedPeers.{heard-weaker}
 use Rattle.patience_laws.proofs.RoundSends.{one-before, times-more}
 use Rattle.patience_laws.proofs.RoundsHeard.{behind-ends}
 use Rattle.patience_laws.proofs.RoundMessages.{few-all, few-one}

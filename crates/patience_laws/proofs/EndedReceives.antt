@@ -8,8 +8,9 @@ use Rattle.std.proofs.lemmas.Option.{same_Some}
 use Rattle.std.proofs.lemmas.List.Folds.{list_any_at, Any-from_list_any}
 use Rattle.std.proofs.lemmas.List.{get_or_default}
 use Rattle.std.proofs.lemmas.List.Sums.{sum_by-cons}
+use Rattle.deciding_runs.proofs.NotedPeers.{none-passes, heard-weaker}
 use Rattle.patience_laws.proofs.Common.{Receive, Step, Setup, IsProc, act_ids, has_proc, IsWithin, step_at}
-use Rattle.patience_laws.proofs.Common.{IsWellFormed, Contains-head, Contains-rest, Contains-nil, Contains-cons_cases}
+use Rattle.patience_laws.proofs.Common.{IsWellFormed, Contains-head, Contains-rest}
 use Rattle.patience_laws.proofs.Common.{Contains-processors, State, Part, Listing, Locking, Acknowledging, Releasing}
 use Rattle.patience_laws.proofs.Common.{part_at, part_of, owner, phase_of, processors, All-range_with_len, act_ends}
 use Rattle.patience_laws.proofs.Common.{receiving, node_before, Peer, may_hear, may_hear_in, may_hear_all}
@@ -21,7 +22,7 @@ use Rattle.patience_laws.specs.PacedRuns.{pace_after, peer_after, pace_taking, S
 use Rattle.patience_laws.proofs.HeardMessages.{heard-long}
 use Rattle.patience_laws.proofs.HeardPeers.{IsReceivedOf, peer-cases, pace-long, pace-quorum}
 use Rattle.patience_laws.proofs.PacedSteps.{rounds_after, round-here}
-use Rattle.patience_laws.proofs.KnownRounds.{noted, heard, heard-weaker, latest-received}
+use Rattle.patience_laws.proofs.KnownRounds.{noted, heard, latest-received}
 
 -- none of a list that passes no test is counted
 pub count_by-none : (test : ℕ → Bool) (xs : List ℕ) → ((x : ℕ) → Contains xs x → test x ≡ false) → count_by test xs ≡ 0
@@ -95,21 +96,6 @@ or-three : (x y z : Bool) → (x || y || z) ≡ true → (x ≡ true) ⊎ ((y �
 or-three true y z h = inl refl
 or-three false true z h = inr (inl refl)
 or-three false false z h = inr (inr h)
-
--- nobody passes a test that none of a list passes
-none-passes : (test : ℕ → Bool) (xs : List ℕ) (x : ℕ) → count_by test xs ≡ 0 → Contains xs x → test x ≡ false
-none-passes test [] x none is = absurd (Contains-nil x is)
-none-passes test (y ∷ ys) x none is = elim (Contains-cons_cases y x ys is) [
-  | inl e ↦ ap test e ∙ fails (test y) count
-  | inr rest ↦ none-passes test ys x (let e = count in omega arith) rest
-]
-  where
-    count : cond {A = ℕ} (test y) 1 0 + count_by test ys ≡ 0
-    count = sym (sum_by-cons (λ z. cond {A = ℕ} (test z) 1 0) y ys) ∙ none
-
-    fails : (b : Bool) → cond {A = ℕ} b 1 0 + count_by test ys ≡ 0 → b ≡ false
-    fails true e = absurd (omega arith)
-    fails false e = refl
 
 or-last : (a : Bool) → (a || true) ≡ true
 or-last true = refl

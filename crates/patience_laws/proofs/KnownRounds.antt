@@ -2,6 +2,7 @@
 use Rattle.std.proofs.Common.{ℕ, zero, suc, ◌≡◌, ◌+◌, ◌-◌, ◌<◌, ◌≤◌, ◌⊎◌, inl, inr, List, Bool, true, false, ◌==◌, ◌&&◌, refl, sym, ap, subst, ◌∙◌, arith}
 use Rattle.std.proofs.lemmas.Bool.{cases_lt}
 use Rattle.std.proofs.lemmas.List.{get_or-replicate}
+use Rattle.deciding_runs.proofs.NotedPeers.{heard-weaker}
 use Rattle.patience_laws.proofs.Common.{Step, Setup, IsProc, IsWellFormed, step_at_within, part_of, round_at, Peer, HasHeardOf, IsTakenAt, unheard, TakesOf}
 use Rattle.patience_laws.specs.PacedRuns.{pace_after, peer_after}
 use Rattle.patience_laws.proofs.PacedSteps.{rounds_after, step-cases}
@@ -31,13 +32,6 @@ module _ (c : Setup) (patience : ℕ) (steps : List Step) (p : ℕ) where
 
   pub rounds-up : (j k : ℕ) → j ≤ k → rounds_after steps p j ≤ rounds_after steps p k
   rounds-up j k l = let e : j + (k - j) ≡ k = omega arith in subst (λ n. rounds_after steps p j ≤ rounds_after steps p n) e (rounds-rise j (k - j))
-
--- of an earlier round, and by a later step
-pub heard-weaker : (steps : List Step) (p q round r k j : ℕ) → r ≤ round → k ≤ j → HasHeardOf steps p q round k → HasHeardOf steps p q r j
-heard-weaker steps p q round r k j low late is =
-    let later = is.later in
-    let by = is.by in
-    record { message = is.message; sent = is.sent; later = omega arith; place = is.place; take = is.take; by = omega arith }
 
 module _ (c : Setup) (patience : ℕ) (steps : List Step) (p q : ℕ) (w : IsWellFormed c steps) (is : IsProc c q) where
   -- what was heard with the last step, or before

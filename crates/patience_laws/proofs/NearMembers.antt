@@ -7,7 +7,8 @@ use Rattle.patience_laws.proofs.Common.{may_hear_in, HasHeardOf, peer_after, Sus
 use Rattle.patience_laws.proofs.Common.{AreInTouch, AreInRoundFrom, IsHeardOutByAll, TakeInOrder, HearThemselves}
 use Rattle.patience_laws.proofs.Common.{HaveMet, NoneBefore, SuspectNoneIn, ticks_rise, tick_of}
 use Rattle.patience_laws.proofs.PacedSteps.{rounds_after, round-here}
-use Rattle.patience_laws.proofs.KnownRounds.{rounds-up, heard-weaker}
+use Rattle.deciding_runs.proofs.NotedPeers.{heard-weaker}
+use Rattle.patience_laws.proofs.KnownRounds.{rounds-up}
 use Rattle.patience_laws.proofs.SilentPhases.{suspected-silent, silent-suspected}
 use Rattle.patience_laws.proofs.EndedReceives.{complete-heard}
 use Rattle.patience_laws.proofs.PatienceTicks.{IsEndOf, rounds-ended, end-of}

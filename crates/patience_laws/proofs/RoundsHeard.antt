@@ -1,30 +1,17 @@
 -- What is taken in time, and which rounds it ends.
-use Rattle.std.proofs.Common.{ℕ, zero, suc, ◌≡◌, ◌+◌, ◌-◌, ◌*◌, ◌≤◌, inl, inr, List, length, Some, Bool, true, false, refl, sym, ap, subst, ◌∙◌, arith}
-use Rattle.std.specs.Prelude.{Contains}
+use Rattle.std.proofs.Common.{ℕ, zero, suc, ◌≡◌, ◌+◌, ◌-◌, ◌*◌, ◌≤◌, inl, inr, length, Bool, true, false, refl, sym, ap, subst, ◌∙◌, arith}
 use Rattle.std.proofs.lemmas.Bool.{cases_lt}
 use Rattle.std.proofs.lemmas.Option.{none-some, same_Some}
-use Rattle.patience_laws.proofs.Common.{Act, Send, Receive, Step, IsProc, act_ids, act_dest, has_proc, IsWithin}
-use Rattle.patience_laws.proofs.Common.{Recorded, step_at, IsReceiveOf, tick_of, IsTimed, IsTrace, DeltaHolds, PhiHolds}
+use Rattle.deciding_runs.proofs.OrderedTakes.{taken-at}
+use Rattle.patience_laws.proofs.Common.{Receive, Step, IsProc, act_dest, has_proc, IsWithin}
+use Rattle.patience_laws.proofs.Common.{Recorded, IsReceiveOf, tick_of, IsTimed, IsTrace, DeltaHolds, PhiHolds}
 use Rattle.patience_laws.proofs.Common.{own_ticks_rise, passed, before, IsRun, IsSend, node_before, may_hear}
-use Rattle.patience_laws.proofs.Common.{HasHeardOf, IsTakenAt, IsTakenBefore, StepsByPace, IsInRoundFrom, sends_to}
+use Rattle.patience_laws.proofs.Common.{HasHeardOf, IsTakenBefore, StepsByPace, IsInRoundFrom, sends_to}
 use Rattle.patience_laws.proofs.Common.{EachEnds, HasHeardFrom, HearsMembers, may_hear_of}
 use Rattle.lock_phases.specs.Hearing.{number_of}
 use Rattle.patience_laws.proofs.PacedSteps.{rounds_after, round-here}
 use Rattle.patience_laws.proofs.RoundSends.{round-ends, round-grows}
 use Rattle.patience_laws.proofs.EndedReceives.{ends-behind, ends-complete}
-
--- who takes something makes a Receive
-taken-at : (steps : List Step) (p k s : ℕ) (x : Step) → step_at steps k ≡ Some x → x.proc ≡ p → Contains (act_ids x.act) s → IsTakenAt steps p k s
-taken-at steps p k s x stands own taken = go x.act refl taken
-  where
-    go : (act : Act) → x.act ≡ act → Contains (act_ids act) s → IsTakenAt steps p k s
-    go (Send to) e d = absurd (let l = d.1 in omega arith)
-    go (Receive ends ids) e d = record {
-      ids = ids;
-      ends = ends;
-      step = stands ∙ ap (λ q. Some (record { proc = q; act = x.act })) own ∙ ap (λ act. Some (record { proc = p; act = act })) e;
-      taken = d;
-    }
 
 -- By the communication bound, what was sent to p is taken by each Receive of p so many ticks later.
 pub taken-by : (trace : Recorded) (set g d p q s k : ℕ) → IsTrace trace → DeltaHolds set trace g d → has_proc set p ≡ true → has_proc set q ≡ true

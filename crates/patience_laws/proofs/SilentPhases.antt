@@ -10,7 +10,8 @@ use Rattle.patience_laws.proofs.Common.{TakesNothingOf, WasSilent}
 use Rattle.patience_laws.specs.PacedRuns.{pace_after, peer_after}
 use Rattle.patience_laws.proofs.PacedSteps.{rounds_after, round-here}
 use Rattle.patience_laws.proofs.HeardPeers.{IsDeaf, IsListening, peer_received, IsStillOf, IsReceivedOf, peer-cases}
-use Rattle.patience_laws.proofs.KnownRounds.{rounds-up, noted, heard, heard-cases, heard-weaker}
+use Rattle.deciding_runs.proofs.NotedPeers.{heard-weaker}
+use Rattle.patience_laws.proofs.KnownRounds.{rounds-up, noted, heard, heard-cases}
 
 -- the first round of the phase that follows so many rounds
 abbrev pub first_after : ℕ → ℕ

@@ -29,18 +29,18 @@ use Rattle.timed_events.proofs.TakenMessages.{is_for-inside}
 use Rattle.timed_events.proofs.PassedEvents.{one-at_moment, own-passed}
 use Rattle.timed_events.proofs.RankedEvents.{messages-none, moment-parts}
 
-get-left : (xs ys : List Event) (i : ℕ) → i < length xs → slice_get (xs ++ ys) i ≡ slice_get xs i
+pub get-left : (xs ys : List Event) (i : ℕ) → i < length xs → slice_get (xs ++ ys) i ≡ slice_get xs i
 get-left [] ys i l = absurd (omega arith)
 get-left (x ∷ xs) ys zero l = refl
 get-left (x ∷ xs) ys (suc i) l = get-left xs ys i (omega arith)
 
-get-right : (xs ys : List Event) (i j : ℕ) → i ≡ length xs + j → slice_get (xs ++ ys) i ≡ slice_get ys j
+pub get-right : (xs ys : List Event) (i j : ℕ) → i ≡ length xs + j → slice_get (xs ++ ys) i ≡ slice_get ys j
 get-right [] ys i j e = let s : i ≡ j = omega arith in ap (slice_get ys) s
 get-right (x ∷ xs) ys zero j e = absurd (omega arith)
 get-right (x ∷ xs) ys (suc i) j e = get-right xs ys i j (omega arith)
 
 -- the receive of an idle tick
-received-at : (idles : List IdleTick) (added : List Event) (j : ℕ) (d : IdleTick) → AreReceives idles added
+pub received-at : (idles : List IdleTick) (added : List Event) (j : ℕ) (d : IdleTick) → AreReceives idles added
     → j < length idles → (e : Event) × (slice_get added j ≡ Some e) × IsIdleReceive (get_or idles j d) e
 received-at [] added j d r l = absurd (omega arith)
 received-at (x ∷ idles) [] j d r l = absurd r

@@ -2,7 +2,8 @@ use Rattle.std.proofs.Common.{◌≡◌, ◌+◌, ◌-◌, ap, arith}
 use Rattle.std.proofs.lemmas.Bool.{le-leb, leb-true}
 use Rattle.patience_laws.specs.PacedRuns.{peer_after}
 use Rattle.patience_laws.proofs.PacedSteps.{rounds_after}
-use Rattle.patience_laws.proofs.KnownRounds.{noted, heard, heard-weaker}
+use Rattle.deciding_runs.proofs.NotedPeers.{heard-weaker}
+use Rattle.patience_laws.proofs.KnownRounds.{noted, heard}
 use Rattle.patience_laws.proofs.laws.knowledge_laws.Goals as goal
 
 pub returns-clause-noted : goal.returns-clause-noted
