@@ -1,12 +1,11 @@
 //! The longest gaps of the members.
 
-ghost use Rattle.std.specs.Prelude.{◌≡◌, ℕ, ◌+◌, ◌<◌, ◌↔◌, ◌++◌, Contains, AllPairs, OnOk, OnErr, IfOk};
+ghost use Rattle.std.specs.Prelude.{◌≡◌, ◌+◌, ◌<◌, ◌↔◌, ◌++◌, Contains, AllPairs, OnOk, OnErr, IfOk};
 ghost use Rattle.step_trace.specs.Processors.{IsWithin};
 ghost use Rattle.bound_witness.specs.LongestGaps.{IsLongestGap, ListsGapsBy, Precedes, gap_between};
 
-use crate::step_facts::is_step_of;
 use std::alloc::{AllocError, Global};
-use step_trace::{Gap, ProcSet, Trace};
+use step_trace::{Gap, ProcSet, Trace, is_step_of};
 
 /// Appends the gap between the ticks of two steps of processor `proc`, if they aren't neighbours.
 /// Refuses only if they aren't.

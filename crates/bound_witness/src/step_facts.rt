@@ -1,20 +1,10 @@
 //! Facts of single steps of a trace.
 
-ghost use Rattle.std.specs.Prelude.{◌≡◌, ℕ, ◌↔◌, IsTrue};
-ghost use Rattle.step_trace.specs.Traces.{step_at, IsStepOf, TakesAt};
+ghost use Rattle.std.specs.Prelude.{◌↔◌, IsTrue};
+ghost use Rattle.step_trace.specs.Traces.{TakesAt};
 ghost use Rattle.bound_witness.specs.TickWindows.{IsReceiveBetween, IsStepBetween};
 
-use step_trace::{Trace, is_receive_of};
-
-/// Whether the step of number `no` is one of processor `p`.
-pub(crate) fn is_step_of(trace: &Trace, no: u64, p: u64) -> bool
-    ensures { IsTrue result ↔ IsStepOf trace.now.steps no p }
-{
-    match trace.step(no) {
-        None => false,
-        Some(step) => step.proc == p,
-    }
-}
+use step_trace::{Trace, is_receive_of, is_step_of};
 
 /// Whether the step of number `no` is one of processor `p`, in a tick from `from` on and before `before`.
 pub(crate) fn is_step_between(trace: &Trace, no: u64, p: u64, from: u64, before: u64) -> bool

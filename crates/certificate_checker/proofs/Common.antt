@@ -25,7 +25,7 @@ pub use Rattle.certificate_checker.specs.LongestSilences.{IsLongestSilence, IsTo
 pub use Rattle.certificate_checker.specs.LongestWitnesses.{AreBefore, AreFrom, HasNoGapAt, HasNoMiss, HasNoMissAfter}
 pub use Rattle.certificate_checker.specs.LongestWitnesses.{HasSpan, IsLastMiss, IsLongestGapAt, IsLongestMissAfter}
 pub use Rattle.certificate_checker.specs.LongestWitnesses.{KnowsMissesAfter, longer_miss, span_of}
-pub use Rattle.certificate_checker.specs.Receives.{IsLastBefore, IsLastWaited, KnowsReceives, NotesTakes, WaitsAt, last_waited}
+pub use Rattle.certificate_checker.specs.Receives.{IsLastBefore, IsLastWaited, KnowsReceives, WaitsAt, last_waited}
 pub use Rattle.certificate_checker.specs.Searches.{AreInOrder, IsFirst, IsFirstReason, IsFirstWith}
 pub use Rattle.certificate_checker.specs.Silences.{AreSilences, IsNextStep, IsSilence, KnowsSilence, KnowsSilences}
 pub use Rattle.certificate_checker.specs.Verdicts.{HasRow, HasTwoRows, IsNotAfter, IsVerdict, Stands, place_of, row_of}

@@ -1,9 +1,9 @@
 -- If no miss from a tick on is the longest there is none from there on, and only one is named so; likewise with gaps.
 use Rattle.std.proofs.Common.{ℕ, ◌≡◌, ◌+◌, ◌-◌, ◌≤◌, inl, inr, length, refl, ap, sym, subst, suc, zero, arith}
-use Rattle.std.specs.Prelude.{IsTrue, nat_le, nat_lt, ◌&&◌}
-use Rattle.std.proofs.lemmas.Bool.{cases_eq, cases_lt, and_parts, leb-true}
+use Rattle.std.proofs.lemmas.Bool.{cases_eq, cases_lt}
 use Rattle.step_trace.specs.declared.processors.TheConstants.{MAX_MEMBER}
-use Rattle.certificate_checker.proofs.Common.{Miss, Gap, has_proc, Recorded, tick_of, IsTimed, IsMessage, IsMiss, IsGap}
+use Rattle.step_trace.proofs.ProcessorSets.{member_within}
+use Rattle.certificate_checker.proofs.Common.{Miss, Gap, Recorded, tick_of, IsTimed, IsMessage, IsMiss, IsGap}
 use Rattle.certificate_checker.proofs.Common.{step_at_within, one_in_tick, IsMessage-receiver, Miss-same, Gap-same}
 use Rattle.certificate_checker.proofs.Common.{IsLongestMiss, IsLongestGap, span_of}
 
@@ -106,10 +106,6 @@ IsLongestMiss-unique set trace g m o time a b =
     let tick = ap (tick_of trace) sent in
     let to = IsMessage-receiver set trace.steps o.sent a.miss.to b.miss.to (subst (λ s. IsMessage set trace.steps s a.miss.to) sent a.miss.message) b.miss.message in
     Miss-same m o sent (one_in_tick trace time m.missed o.missed _ _ a.miss.receive.step b.miss.receive.step to (omega (arith, tick, below, above)))
-
--- members are numbered up to MAX_MEMBER
-member_within : (set p : ℕ) → IsTrue (has_proc set p) → p ≤ MAX_MEMBER
-member_within set p m = leb-true p MAX_MEMBER (and_parts (nat_lt 0 p) (nat_le p MAX_MEMBER) (and_parts (nat_lt 0 p && nat_le p MAX_MEMBER) _ m).0).1
 
 -- if no gap is the longest from tick g on, there is none
 pub no_gap : (set : ℕ) (trace : Recorded) (g : ℕ) → ((w : Gap) → ¬ IsLongestGap set trace g w)

@@ -1,28 +1,16 @@
 -- What is known of the Receives up to a step, on over one step more.
-use Rattle.std.proofs.Common.{ℕ, ◌≡◌, ◌≢◌, ◌+◌, ◌-◌, ◌<◌, ◌≤◌, ◌==◌, ◌||◌, take, inl, inr, List, length, get_or, set}
+use Rattle.std.proofs.Common.{ℕ, ◌≡◌, ◌≢◌, ◌+◌, ◌-◌, ◌<◌, ◌≤◌, ◌==◌, inl, inr, List, length, get_or, set}
 use Rattle.std.proofs.Common.{Some, Bool, true, false, cond, refl, sym, ap, subst, ◌∙◌, arith, get_or-set_same}
 use Rattle.std.proofs.Common.{get_or-set_other}
 use Rattle.std.specs.Prelude.{Contains}
 use Rattle.std.specs.List.{list_any}
 use Rattle.std.proofs.lemmas.List.{length-set}
-use Rattle.std.proofs.lemmas.List.Folds.{list_any_more}
-use Rattle.std.proofs.lemmas.Bool.{cases_eq, eqb-true, eqb-false}
+use Rattle.std.proofs.lemmas.Bool.{cases_eq}
+use Rattle.step_trace.proofs.StepPositions.{same_step, receive_unique}
+use Rattle.step_trace.specs.MessageNotes.{AreNoted}
 use Rattle.certificate_checker.proofs.Common.{Send, Receive, Step, act_ids, Recorded, step_at, TakesAt, IsReceiveOf}
 use Rattle.certificate_checker.proofs.Common.{IsWellFormed, Contains-from_takes, act_takes-from_Contains, UNTAKEN}
-use Rattle.certificate_checker.proofs.Common.{Receives, IsLastBefore, KnowsReceives, NotesTakes}
-use Rattle.certificate_checker.proofs.StepFacts.{same_step, receive_unique}
-
--- one id more, as at a step of a loop
-pub taken_noted : (old now ids : List ℕ) (x i s : ℕ) → i < length ids → length now ≡ length old
-    → get_or ids i 0 < length old → get_or now s 0 ≡ cond (list_any (λ k. k == s) (take i ids)) x (get_or old s 0)
-    → get_or (set now (get_or ids i 0) x) s 0 ≡ cond (list_any (λ k. k == s) (take (i + 1) ids)) x (get_or old s 0)
-taken_noted old now ids x i s below long inside known = rw (list_any_more (λ k. k == s) ids i 0 below) (go (list_any (λ k. k == s) (take i ids)) (get_or ids i 0 == s) known refl) where
-  go : (before here : Bool) → get_or now s 0 ≡ cond before x (get_or old s 0) → (get_or ids i 0 == s) ≡ here
-      → get_or (set now (get_or ids i 0) x) s 0 ≡ cond (before || here) x (get_or old s 0)
-  go true true k e = subst (λ (m : ℕ). get_or (set now (get_or ids i 0) x) m 0 ≡ x) (eqb-true (get_or ids i 0) s e) (get_or-set_same now (get_or ids i 0) x 0 (omega (arith, long, inside)))
-  go false true k e = subst (λ (m : ℕ). get_or (set now (get_or ids i 0) x) m 0 ≡ x) (eqb-true (get_or ids i 0) s e) (get_or-set_same now (get_or ids i 0) x 0 (omega (arith, long, inside)))
-  go true false k e = get_or-set_other now (get_or ids i 0) s x 0 (λ q. eqb-false (get_or ids i 0) s e (sym q)) ∙ k
-  go false false k e = get_or-set_other now (get_or ids i 0) s x 0 (λ q. eqb-false (get_or ids i 0) s e (sym q)) ∙ k
+use Rattle.certificate_checker.proofs.Common.{Receives, IsLastBefore, KnowsReceives}
 
 -- a last Receive stays it after a step that is no Receive of its processor
 IsLastBefore-later : (steps : List Step) (p x r : ℕ) → (IsReceiveOf steps x p → ⊥) → IsLastBefore steps p x r → IsLastBefore steps p (x + 1) r
@@ -97,7 +85,7 @@ known_of t x p s ids ends old low h k within false e some = let f = k.known s so
 -- over a Receive the notes of the messages that it takes, and of its processor, are right again
 pub KnowsReceives-receive : (t : Recorded) (x p : ℕ) (ids : List ℕ) (ends : Bool) (old new : Receives) → IsWellFormed t.config t.steps → p ≤ t.config.n → 1 ≤ x
     → step_at t.steps x ≡ Some (record { proc = p; act = Receive ends ids }) → KnowsReceives t (x - 1) old
-    → length new.before.items ≡ length old.before.items → NotesTakes (get_or old.last.items p 0) ids old.before.items new.before.items → new.last.items ≡ set old.last.items p x
+    → length new.before.items ≡ length old.before.items → AreNoted (get_or old.last.items p 0) ids old.before.items new.before.items → new.last.items ≡ set old.last.items p x
     → KnowsReceives t x new
 KnowsReceives-receive t x p ids ends old new w within low h k long notes lasts =
     let next : x - 1 + 1 ≡ x = omega arith in

@@ -7,8 +7,8 @@ use Rattle.std.proofs.lemmas.List.{length-set}
 use Rattle.std.proofs.lemmas.List.Elements.{All-nil, All-push, Contains-push, Contains-append_left}
 use Rattle.std.proofs.lemmas.List.Sorted.{IsNonDecreasingBy-short, IsNonDecreasingBy-push}
 use Rattle.std.proofs.lemmas.Option.{slice_get_within, slice_get_read, get_or_from_slice_get}
+use Rattle.step_trace.proofs.StepPositions.{same_step}
 use Rattle.certificate_checker.proofs.Common.{Step, has_proc, Recorded, IsStepOf, tick_of, IsTimed, StepsIn, step_at_within, ticks_rise, Silence, IsSilence, AreSilences, KnowsSilence, KnowsSilences}
-use Rattle.certificate_checker.proofs.StepFacts.{same_step}
 
 -- before the first step
 pub KnowsSilence-before_all : (t : Recorded) (p : ℕ) (s : Silence) → s.ticks.items ≡ [] → KnowsSilence t p 1 s

@@ -1,29 +1,9 @@
 -- Facts of single steps.
-use Rattle.std.proofs.Common.{ℕ, ◌≡◌, ◌+◌, ◌<◌, ◌≤◌, List, length, get_or, Some, Bool, suc, zero, refl, ap, sym, ◌∙◌, arith}
-use Rattle.std.specs.Prelude.{All, Contains}
-use Rattle.std.proofs.lemmas.List.{get_or_default}
-use Rattle.std.proofs.lemmas.Option.{same_Some}
-use Rattle.certificate_checker.proofs.Common.{Act, Send, Receive, Step, Setup, act_ids, step_at, TakesAt, IsReceiveOf, IsWellFormed, step_at_within}
+use Rattle.std.proofs.Common.{ℕ, ◌≡◌, ◌≤◌, List, length, Some, suc, zero, refl, ap, ◌∙◌, arith}
+use Rattle.std.specs.Prelude.{Contains}
+use Rattle.step_trace.proofs.StepPositions.{same_step}
+use Rattle.certificate_checker.proofs.Common.{Act, Send, Receive, Step, Setup, act_ids, step_at, TakesAt, IsReceiveOf, IsWellFormed}
 use Rattle.step_trace.proofs.TickPositions.{step_exists}
-
--- a step by its processor and its act
-pub with_act : (steps : List Step) (x : ℕ) (s : Step) (a : Act) → step_at steps x ≡ Some s → s.act ≡ a → step_at steps x ≡ Some (record { proc = s.proc; act = a })
-with_act steps x s a h e = h ∙ ap (λ (b : Act). let z : Step = record { proc = s.proc; act = b } in Some z) e
-
--- one step of a number
-pub same_step : (steps : List Step) (x : ℕ) (a b : Step) → step_at steps x ≡ Some a → step_at steps x ≡ Some b → a ≡ b
-same_step steps x a b h g = same_Some a b (sym h ∙ g)
-
--- a Receive is of one processor
-pub receive_unique : (steps : List Step) (x p q : ℕ) → IsReceiveOf steps x p → IsReceiveOf steps x q → p ≡ q
-receive_unique steps x p q g h = ap (λ (z : Step). z.proc) (same_step steps x _ _ g.step h.step)
-
--- the ids of a Receive are numbers of steps
-pub ids_bound : (c : Setup) (steps : List Step) (x p : ℕ) (ids list : List ℕ) (ends : Bool) → IsWellFormed c steps → step_at steps x ≡ Some (record { proc = p; act = Receive ends ids })
-    → length list ≡ length steps + 1 → All (λ s. s < length list) ids
-ids_bound c steps x p ids list ends w h long = λ k d l.
-    let earlier = (w.earlier x (get_or ids k d) (record { proc = p; act = Receive ends ids }) h (k, l, get_or_default ids k (get_or ids k d) d l)).0 in
-    omega (arith, earlier, step_at_within steps x _ h, long)
 
 -- who takes a message is its receiver
 pub taker_receives : (c : Setup) (steps : List Step) (s a b place : ℕ) → IsWellFormed c steps

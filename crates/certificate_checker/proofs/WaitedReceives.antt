@@ -2,11 +2,12 @@
 use Rattle.std.proofs.Common.{ℕ, ◌≡◌, ◌<◌, ◌≤◌, ◌==◌, inl, inr, List, length, get_or, Bool, true, false, cond, refl, ap, subst, arith}
 use Rattle.std.specs.Prelude.{◌↔◌}
 use Rattle.std.proofs.lemmas.Bool.{cases_lt, eqb-true, eqb-false}
+use Rattle.step_trace.proofs.StepPositions.{same_step}
 use Rattle.certificate_checker.proofs.Common.{Miss, Step, Recorded, TakesAt, IsReceiveOf, IsWellFormed, tick_of}
 use Rattle.certificate_checker.proofs.Common.{IsTrace, IsMessage, IsMiss, step_at_within, ticks_rise, own_ticks_rise}
 use Rattle.certificate_checker.proofs.Common.{IsMessage-receiver, UNTAKEN, Receives, IsLastBefore, WaitsAt}
 use Rattle.certificate_checker.proofs.Common.{IsLastWaited, KnowsReceives, last_waited, IsLastMiss}
-use Rattle.certificate_checker.proofs.StepFacts.{taker_receives, same_step}
+use Rattle.certificate_checker.proofs.StepFacts.{taker_receives}
 
 -- if no note was made of a message it is never taken
 never_taken : (t : Recorded) (s : ℕ) (r : Receives) → IsWellFormed t.config t.steps → KnowsReceives t (length t.steps) r → get_or r.before.items s 0 ≡ UNTAKEN → (k : ℕ) → ¬ TakesAt t.steps k s

@@ -1,6 +1,5 @@
 -- Which Receives come before others, by the numbers of steps; 0 denotes none (own).
 use Rattle.std.specs.Prelude.{ℕ, ◌≡◌, ◌≢◌, ◌+◌, ◌<◌, ◌≤◌, ◌==◌, List, length, slice_index, if◌then◌else◌}
-use Rattle.std.specs.List.{list_any}
 use Rattle.step_trace.specs.declared.steps.Step.{Step}
 use Rattle.step_trace.specs.Traces.{Recorded, TakesAt, IsReceiveOf}
 use Rattle.certificate_checker.specs.declared.receives.TheConstants.{UNTAKEN}
@@ -34,7 +33,3 @@ pub record KnowsReceives (trace : Recorded) (done : ℕ) (r : Receives) : Type 0
   pub known : (s : ℕ) → slice_index r.before.items s ≢ UNTAKEN → s ≤ length trace.steps
       → (k : ℕ) × TakesAt trace.steps k s × (k ≤ done)
   pub last : (p : ℕ) → p ≤ trace.config.n → IsLastBefore trace.steps p (done + 1) (slice_index r.last.items p)
-
--- the value is noted for these messages, and the others are as before
-abbrev pub NotesTakes : ℕ → List ℕ → List ℕ → List ℕ → Type 0
-NotesTakes x ids old new = (s : ℕ) → slice_index new s ≡ (if list_any (λ i. i == s) ids then x else slice_index old s)

@@ -12,7 +12,6 @@ mod laws;
 mod receives;
 mod row_order;
 mod silences;
-mod step_facts;
 mod verdicts;
 mod witnesses;
 

@@ -2,16 +2,14 @@
 //!
 //! Steps and processors are numbered from 1, and 0 denotes none.
 
-ghost use Rattle.std.specs.Prelude.{◌≡◌, ◌-◌, ◌<◌, ◌≤◌, ◌↔◌, length, slice_index, All, IfOk, IsTrue, MatchOption};
-ghost use Rattle.step_trace.specs.declared.traces.TheConstants.{MAX_STEPS};
+ghost use Rattle.std.specs.Prelude.{◌≡◌, ◌-◌, ◌<◌, ◌≤◌, ◌↔◌, length, IfOk, IsTrue, MatchOption};
 ghost use Rattle.step_trace.specs.Processors.{IsWithin};
 ghost use Rattle.step_trace.specs.Witnesses.{IsMiss};
-ghost use Rattle.certificate_checker.specs.Receives.{KnowsReceives, IsLastWaited, NotesTakes, last_waited};
+ghost use Rattle.certificate_checker.specs.Receives.{KnowsReceives, last_waited};
 ghost use Rattle.certificate_checker.specs.LongestWitnesses.{HasNoMiss, IsLastMiss};
 
-use crate::step_facts::step_of;
 use std::alloc::{AllocError, Global};
-use step_trace::{Act, Miss, ProcSet, Trace, is_receive_of, receiver};
+use step_trace::{Act, Miss, ProcSet, Trace, is_receive_of, note_messages, receiver, step_of};
 
 /// Denotes a message that no Receive takes: no step has this number.
 const UNTAKEN: u32 = 4_294_967_295;
@@ -59,10 +57,10 @@ impl Receives {
     {
         let step = step_of(trace, no);
         if let Act::Receive { ids, .. } = &step.act {
-            note_takes(
+            note_messages(
                 &mut self.before,
-                self.last[step.proc as usize],
                 ids.as_slice(),
+                self.last[step.proc as usize],
             );
             self.last[step.proc as usize] = no as u32;
         }
@@ -112,16 +110,5 @@ impl Receives {
             return None;
         }
         Some(Miss { sent, missed })
-    }
-}
-
-/// Notes the Receive before the one that takes these messages.
-fn note_takes(list: &mut Vec<u32>, before: u32, ids: &[u64])
-    requires ids { All (λ s. s < length list.old.items) ids.now }
-    ensures len { length list.new.items ≡ length list.old.items }
-    ensures taken { NotesTakes before ids.now list.old.items list.new.items }
-{
-    for s in ids {
-        list[*s as usize] = before;
     }
 }

@@ -5,9 +5,8 @@ ghost use Rattle.step_trace.specs.declared.traces.TheConstants.{MAX_TICKS};
 ghost use Rattle.certificate_checker.specs.Closings.{IsRaised, PutsEnds};
 ghost use Rattle.certificate_checker.specs.Silences.{IsNextStep, IsSilence, KnowsSilences, AreSilences};
 
-use crate::step_facts::step_of;
 use std::alloc::{AllocError, Global};
-use step_trace::{ProcSet, Trace};
+use step_trace::{ProcSet, Trace, step_of};
 
 /// Where one processor is silent, by the ticks in which it takes steps.
 #[derive(Debug, Drop)]

@@ -4,13 +4,13 @@ use Rattle.std.proofs.lemmas.Bool.{cases_lt, ltb-true}
 use Rattle.step_trace.specs.Traces.{Recorded}
 use Rattle.step_trace.specs.Ticks.{tick_of, IsTrace}
 use Rattle.step_trace.proofs.ListMembers.{Contains-nil, Contains-map, Contains-from_map, Contains-filter, Contains-from_filter, Contains-head, Contains-rest}
+use Rattle.step_trace.specs.TickSteps.{AreStepsBefore}
 use Rattle.chunk_join.specs.declared.summaries.Place.{Place}
 use Rattle.chunk_join.specs.declared.summaries.Fate.{Fate}
 use Rattle.chunk_join.specs.declared.summaries.Fate.TheVariants.{Open, Taken}
 use Rattle.chunk_join.specs.declared.summaries.Message.{Message}
 use Rattle.chunk_join.specs.declared.summaries.Take.{Take}
 use Rattle.chunk_join.specs.Summaries.{IsListing, Rises, IsSent, IsFate, IsAnyTake, IsTake, IsPlace, IsLastReceive, SentBefore, TakenBefore}
-use Rattle.chunk_join.specs.TickSteps.{AreStepsBefore}
 use Rattle.chunk_join.specs.Parts.{later_of, after, settle, settled_by, takes_of, is_older}
 use Rattle.chunk_join.specs.BlockSteps.{IsOpenBy, AreFates, fated, fate_by, takes_no, AreTakesBy, AreOpenBy}
 use Rattle.chunk_join.specs.Laws.Listings.{Contains-found, Rises-map, Rises-filter}

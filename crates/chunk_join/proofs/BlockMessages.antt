@@ -10,15 +10,14 @@ use Rattle.step_trace.specs.Processors.{has_proc}
 use Rattle.step_trace.specs.Traces.{Recorded, step_at, IsReceiveOf}
 use Rattle.step_trace.specs.Ticks.{tick_of, IsTimed}
 use Rattle.step_trace.specs.Bounds.{IsMessage}
-use Rattle.step_trace.proofs.StepPositions.{step_at_within}
+use Rattle.step_trace.proofs.StepPositions.{step_at_within, same_step}
 use Rattle.step_trace.proofs.TickOrder.{ticks_rise, number_below, own_ticks_rise}
-use Rattle.suffix_staircase.proofs.ReceivesLowered.{same_step}
+use Rattle.step_trace.specs.TickSteps.{AreStepsBefore}
 use Rattle.chunk_join.specs.declared.summaries.Place.{Place}
 use Rattle.chunk_join.specs.declared.summaries.Fate.{Fate}
 use Rattle.chunk_join.specs.declared.summaries.Fate.TheVariants.{Open}
 use Rattle.chunk_join.specs.declared.summaries.Message.{Message}
 use Rattle.chunk_join.specs.Summaries.{IsLastReceive, AreLastReceives, SentBefore, last_of}
-use Rattle.chunk_join.specs.TickSteps.{AreStepsBefore}
 use Rattle.chunk_join.specs.BlockSteps.{IsOpenBy, AreFated, fated, IsLastBy, AreLastBy, AreOpenBy}
 use Rattle.chunk_join.proofs.ListingGrowth.{IsListing-same, IsListing-push}
 use Rattle.suffix_staircase.proofs.LongestGaps.{member_range}

@@ -2,11 +2,11 @@
 use Rattle.std.proofs.Common.{ℕ, ◌≡◌, ◌+◌, ◌-◌, ◌≤◌, List, [], filter, ◌∙◌, subst, sym, arith, length}
 use Rattle.step_trace.specs.Traces.{Recorded}
 use Rattle.step_trace.specs.Ticks.{IsTrace}
+use Rattle.step_trace.specs.TickSteps.{AreStepsBefore}
 use Rattle.chunk_join.specs.declared.summaries.Fate.{Fate}
 use Rattle.chunk_join.specs.declared.summaries.Take.{Take}
 use Rattle.chunk_join.specs.Summaries.{Summary, IsSummary, IsListing, IsSent, IsTake, IsLongest, SentBefore, TakenBefore, EndsBefore}
 use Rattle.chunk_join.specs.Parts.{is_older}
-use Rattle.chunk_join.specs.TickSteps.{AreStepsBefore}
 use Rattle.chunk_join.specs.BlockSteps.{AreFates, AreFated, AreLastBy, AreTakesBy}
 use Rattle.chunk_join.proofs.BlockMessages.{last_all}
 use Rattle.chunk_join.proofs.BlockFates.{any_takes_all, block_taken, block_sent, fated_settled}

@@ -10,11 +10,10 @@ use Rattle.step_trace.specs.Processors.{has_proc}
 use Rattle.step_trace.specs.Traces.{Recorded, step_at, IsStepOf}
 use Rattle.step_trace.specs.Ticks.{tick_of, StepsIn, IsTimed}
 use Rattle.step_trace.specs.Witnesses.{IsGap}
-use Rattle.step_trace.proofs.StepPositions.{step_at_within}
+use Rattle.step_trace.proofs.StepPositions.{step_at_within, same_step}
 use Rattle.step_trace.proofs.TickOrder.{one_in_tick}
-use Rattle.suffix_staircase.proofs.ReceivesLowered.{same_step}
+use Rattle.step_trace.specs.TickSteps.{AreStepsBefore}
 use Rattle.chunk_join.specs.Summaries.{IsListing, IsLongest, EndsBefore}
-use Rattle.chunk_join.specs.TickSteps.{AreStepsBefore}
 use Rattle.chunk_join.specs.BlockSteps.{IsDone, StepsDone, IsBegun, IsEnded, AreEnded, IsLongestFrom, AreLongestFrom}
 use Rattle.chunk_join.proofs.ListingGrowth.{IsListing-same, IsListing-push}
 use Rattle.chunk_join.proofs.BlockMessages.{step_early}

@@ -5,19 +5,20 @@ use Rattle.std.proofs.lemmas.Bool.{cases_eq}
 use Rattle.std.proofs.lemmas.List.{append-nil, append_assoc, map-append, take_all, take_more}
 use Rattle.std.proofs.lemmas.List.Elements.{Contains-get_or, Contains-append_left, Contains-push, Contains-push_cases}
 use Rattle.std.specs.List.Sorted.{IsStrictlyIncreasing}
+use Rattle.std.specs.Option.{option_map_or}
 use Rattle.step_trace.specs.declared.steps.Act.TheVariants.{Receive}
 use Rattle.step_trace.specs.declared.steps.Step.{Step}
 use Rattle.step_trace.specs.Processors.{has_proc}
 use Rattle.step_trace.specs.Steps.{act_ids}
-use Rattle.step_trace.specs.Traces.{Recorded, step_at, IsReceiveOf, IsWellFormed}
+use Rattle.step_trace.specs.Traces.{Recorded, ids_at, step_at, IsReceiveOf, IsWellFormed}
 use Rattle.step_trace.specs.Ticks.{tick_of, IsTimed, IsTrace}
 use Rattle.step_trace.proofs.ListMembers.{Contains-nil}
-use Rattle.suffix_staircase.proofs.ReceivesLowered.{same_step}
+use Rattle.step_trace.proofs.StepPositions.{same_step}
+use Rattle.step_trace.specs.TickSteps.{AreStepsBefore}
 use Rattle.chunk_join.specs.declared.summaries.Place.{Place}
 use Rattle.chunk_join.specs.declared.summaries.Take.{Take}
 use Rattle.chunk_join.specs.Summaries.{IsAnyTake, IsLastReceive, TakenBefore, last_of}
-use Rattle.chunk_join.specs.TickSteps.{AreStepsBefore}
-use Rattle.chunk_join.specs.BlockSteps.{IsAnyTakeBy, IsLastBy, AreLastBy, take_of, ids_of, ids_at, AreTakesBy}
+use Rattle.chunk_join.specs.BlockSteps.{IsAnyTakeBy, IsLastBy, AreLastBy, take_of, AreTakesBy}
 use Rattle.chunk_join.specs.Laws.LastReceives.{IsLastReceive-one}
 use Rattle.chunk_join.proofs.ListingGrowth.{IsListing-none, IsListing-same, IsListing-push}
 use Rattle.chunk_join.proofs.BlockMessages.{step_early, last_at_step, last_more}
@@ -159,7 +160,7 @@ any_takes_step set t sound time i k p b low r member last taken l =
     let all : length ids ≤ length ids = omega arith in
     let upto = any_takes_upto set t time i k p b low r.ends ids (sound.rising (k + 1) _ r.step) r.step member last taken l (length ids) all in
     let whole = subst (λ ys. AreTakesBy set t i k ys (taken ++ map (take_of t (record { no = k + 1; tick = tick_of t (k + 1) }) p b) ys)) (take_all (length ids) ids all) upto in
-    let same : ids ≡ ids_at t.steps (k + 1) = sym (ap ids_of r.step) in
+    let same : ids ≡ ids_at t.steps (k + 1) = sym (ap (λ o. option_map_or (λ (x : Step). act_ids x.act) o []) r.step) in
     subst (λ ys. AreTakesBy set t i (k + 1) [] (taken ++ map (take_of t (record { no = k + 1; tick = tick_of t (k + 1) }) p b) ys)) same (any_takes_done set t i k p r.ends ids _ r.step whole)
 
 -- so do the last Receives with it

@@ -1,10 +1,10 @@
 -- The digests of the workers' shares, joined in their order.
-use Rattle.std.proofs.Common.{ℕ, ◌≡◌, ◌+◌, ◌-◌, ◌/◌, ◌<◌, ◌⊎◌, inl, inr, List, [], ◌∷◌, ◌++◌, length, Some, None, Option, refl, sym, ap, subst, ◌∙◌, zero, suc, arith}
+use Rattle.std.proofs.Common.{ℕ, ◌≡◌, ◌+◌, ◌-◌, ◌/◌, ◌<◌, inl, inr, List, [], ◌∷◌, ◌++◌, length, Some, None, Option, sym, ap, subst, ◌∙◌, suc, arith}
 use Rattle.std.specs.Prelude.{Result, Ok, Err, IfOk, slice_get}
 use Rattle.std.proofs.Math.Nat.{zero-div, zero-mul, mul-div_cancel_left}
-use Rattle.std.proofs.lemmas.Option.{none-some, same_Some}
 use Rattle.std.specs.declared.thread.PromisedHandle.{PromisedHandle}
 use Rattle.step_trace.specs.Traces.{Recorded}
+use Rattle.step_trace.proofs.StepPositions.{slice_get-push_cases}
 use Rattle.chunk_join.specs.declared.analyses.DigestOf.{DigestOf}
 use Rattle.chunk_join.specs.Summaries.{Summary}
 use Rattle.chunk_join.specs.Digests.{IsDigestOf}
@@ -28,15 +28,6 @@ cut_zero ticks workers = sym (ap (λ x. x / workers) (zero-mul ticks) ∙ zero-d
 cut_all : (ticks workers : ℕ) → 0 < workers → cut ticks workers workers ≡ ticks
 cut_all ticks workers some = mul-div_cancel_left ticks some
 
-slice_get-push : {X : Type 0} (xs : List X) (x y : X) (k : ℕ) → slice_get (xs ++ x ∷ []) k ≡ Some y → (slice_get xs k ≡ Some y) ⊎ ((k ≡ length xs) × (x ≡ y))
-slice_get-push [] x y zero h = inr (refl, same_Some x y h)
-slice_get-push [] x y (suc k) h = absurd (none-some y h)
-slice_get-push (z ∷ xs) x y zero h = inl h
-slice_get-push (z ∷ xs) x y (suc k) h = elim (slice_get-push xs x y k h) [
-  | inl old ↦ inl old
-  | inr new ↦ inr (ap suc new.0, new.1)
-]
-
 -- both as one
 after : {E : Type 0} (all right more : Result (Option Summary) E) (set : ℕ) (trace : Recorded) (i j k : ℕ)
     → IfOk more (λ digest. (set : ℕ) (trace : Recorded) (i j k : ℕ) → IfOk all (IsDigestBetween set trace i j) → IfOk right (IsDigestBetween set trace j k) → IsDigestBetween set trace i k digest)
@@ -49,7 +40,7 @@ module _ {T G : Type 0} where
       (threads : List (PromisedHandle T (DigestOf G))) (thread : PromisedHandle T (DigestOf G))
       → ArePromised set trace gate workers threads → IsPromised set trace gate workers
       (length threads + 1) thread.promise → ArePromised set trace gate workers (threads ++ thread ∷ [])
-  ArePromised-push set trace gate workers threads thread are is = λ k other h. elim (slice_get-push threads thread other k h) [
+  ArePromised-push set trace gate workers threads thread are is = λ k other h. elim (slice_get-push_cases threads thread other k h) [
     | inl old ↦ are k other old
     | inr new ↦ subst (λ x. IsPromised set trace gate workers (k + 1) x.promise) new.1 (subst (λ n. IsPromised set trace gate workers (n + 1) thread.promise) (sym new.0) is)
   ]

@@ -1,20 +1,19 @@
 -- Traces with the same steps up to a tick have the same summary of the ticks up to it.
-use Rattle.std.proofs.Common.{ℕ, ◌≡◌, ◌+◌, ◌-◌, ◌<◌, ◌≤◌, inl, inr, List, [], ◌∷◌, ◌++◌, length, length-append, append-nil, Option, Some, None, zero, suc, refl, sym, ap, subst, ◌∙◌, arith}
-use Rattle.std.specs.Prelude.{slice_get, Result, Ok, Err, OnOk, OnErr}
+use Rattle.std.proofs.Common.{ℕ, ◌≡◌, ◌+◌, ◌-◌, ◌<◌, ◌≤◌, inl, inr, [], ◌∷◌, ◌++◌, length, length-append, append-nil, Option, Some, None, suc, refl, sym, subst, ◌∙◌, arith}
+use Rattle.std.specs.Prelude.{Result, Ok, Err, OnOk, OnErr}
 use Rattle.std.proofs.lemmas.Bool.{cases_lt}
-use Rattle.std.proofs.lemmas.List.{get_or_append_left}
-use Rattle.step_trace.proofs.PagePlaces.{slice_get-left}
 use Rattle.step_trace.specs.declared.steps.Step.{Step}
 use Rattle.step_trace.specs.declared.rows.Gap.{Gap}
 use Rattle.step_trace.specs.declared.traces.TheConstants.{MAX_TICKS}
 use Rattle.step_trace.specs.Traces.{Recorded, step_at, TakesAt, IsReceiveOf}
-use Rattle.step_trace.specs.Ticks.{tick_at, tick_of, StepsIn, IsTimed, IsTrace, with_step, with_last}
+use Rattle.step_trace.specs.Ticks.{tick_of, StepsIn, IsTimed, IsTrace, with_step, with_last}
 use Rattle.step_trace.specs.TickRefusals.{refusal_in}
-use Rattle.step_trace.specs.Extensions.{BeginsWith, Extends}
+use Rattle.step_trace.specs.Extensions.{Extends}
 use Rattle.step_trace.specs.Cuts.{IsCutAt}
 use Rattle.step_trace.proofs.StepPositions.{step_at_within}
 use Rattle.step_trace.proofs.TickPositions.{tick_at-push_last}
 use Rattle.step_trace.proofs.TickReasons.{CanAppend-from_none}
+use Rattle.step_trace.proofs.StepPrefixes.{step_kept, tick_kept}
 use Rattle.chunk_join.specs.declared.summaries.Place.{Place}
 use Rattle.chunk_join.specs.declared.summaries.Fate.{Fate}
 use Rattle.chunk_join.specs.declared.summaries.Fate.TheVariants.{Open, Taken}
@@ -135,14 +134,6 @@ IsSummary-shared t p k a sound is low high set s h = record {
 }
 
 -- A trace that goes on shares the ticks before its further steps.
-
-step_kept : (list first : List Step) → BeginsWith list first → (s : ℕ) → s ≤ length first → step_at list s ≡ step_at first s
-step_kept list first b zero l = refl
-step_kept list first b (suc s) l = ap (λ xs. slice_get xs s) b.whole ∙ slice_get-left first b.more s (omega (arith, l))
-
-tick_kept : (list first : List ℕ) → BeginsWith list first → (s : ℕ) → s ≤ length first → tick_at list s ≡ tick_at first s
-tick_kept list first b zero l = refl
-tick_kept list first b (suc s) l = ap (λ xs. tick_at xs (suc s)) b.whole ∙ get_or_append_left first b.more 0 s (omega (arith, l))
 
 ShareTicks-extended : (t seen : Recorded) (k : ℕ) → Extends t seen → IsTimed seen → ((s : ℕ) (x : Step) → length seen.steps < s → step_at t.steps s ≡ Some x → k < tick_of t s) → ShareTicks seen t k
 ShareTicks-extended t seen k e time later = record {

@@ -88,14 +88,6 @@ pub record IsAnyTakeBy (set : ℕ) (trace : Recorded) (i k : ℕ) (ids : List �
 abbrev pub AreTakesBy : ℕ → Recorded → ℕ → ℕ → List ℕ → List Take → Type 0
 AreTakesBy set trace i k ids taken = IsListing TakenBefore (IsAnyTakeBy set trace i k ids) taken
 
--- the ids that the step of this number takes
-abbrev pub ids_of : Option Step → List ℕ
-ids_of None = []
-ids_of (Some x) = act_ids x.act
-
-abbrev pub ids_at : List Step → ℕ → List ℕ
-ids_at steps k = ids_of (step_at steps k)
-
 -- the take of message s by this Receive of p
 abbrev pub take_of : Recorded → Place → ℕ → Option Place → ℕ → Take
 take_of trace at p before s =

@@ -2,16 +2,17 @@
 
 ghost use Rattle.std.specs.Prelude.{◌≡◌, ◌-◌, ◌<◌, ◌≤◌, ℕ, slice_index_or, ◌++◌};
 ghost use Rattle.std.specs.Prelude.{length, map, filter, All, IfOk, OnOk, []};
+ghost use Rattle.step_trace.specs.Traces.{ids_at};
 ghost use Rattle.step_trace.specs.Ticks.{IsTrace, IsTimed};
+ghost use Rattle.step_trace.specs.TickSteps.{AreStepsBefore};
 ghost use Rattle.chunk_join.specs.declared.summaries.Fate.TheVariants.{Open};
-ghost use Rattle.chunk_join.specs.TickSteps.{AreStepsBefore};
 ghost use Rattle.chunk_join.specs.Parts.{is_older};
-ghost use Rattle.chunk_join.specs.BlockSteps.{AreFated, AreFates, fate_after, AreLastBy, take_of, ids_at, AreTakesBy};
+ghost use Rattle.chunk_join.specs.BlockSteps.{AreFated, AreFates, fate_after, AreLastBy, take_of, AreTakesBy};
 
 use crate::summaries::{Fate, Message, Place, Take, after, last_of};
-use crate::tick_steps::{destination, receiver};
+use crate::tick_steps::receiving_member;
 use std::alloc::{AllocError, Global};
-use step_trace::{MAX_MEMBER, ProcSet, Trace};
+use step_trace::{MAX_MEMBER, ProcSet, Trace, receiver};
 
 /// The messages between members that the steps after number `before` up to number `end` send, with these fates.
 pub(crate) fn sent_in(
@@ -34,7 +35,7 @@ pub(crate) fn sent_in(
 {
     let mut sent = Vec::new(alloc);
     for no in before..end {
-        if let Some(to) = destination(trace, set, no + 1) {
+        if let Some(to) = receiver(trace, set, no + 1) {
             sent.push(Message {
                 sent: Place::of(trace, no + 1),
                 to,
@@ -108,7 +109,7 @@ pub(crate) fn receives_in(
     let mut taken = Vec::new(alloc);
     let mut last = vec![in alloc; None; MAX_MEMBER as usize + 1]?;
     for no in before..end {
-        if let Some(by) = receiver(trace, set, no + 1) {
+        if let Some(by) = receiving_member(trace, set, no + 1) {
             let at = Place::of(trace, no + 1);
             let missed = last_of(&last, by);
             append_takes(&mut taken, trace, at, by, missed)?;

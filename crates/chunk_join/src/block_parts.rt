@@ -6,9 +6,8 @@ ghost use Rattle.chunk_join.specs.Summaries.{IsSummary};
 use crate::block_messages::{Receives, fates_by, keep_older, receives_in, sent_in};
 use crate::block_silences::silences_in;
 use crate::parts::Part;
-use crate::tick_steps::steps_before;
 use std::alloc::{AllocError, Global};
-use step_trace::{ProcSet, Trace};
+use step_trace::{ProcSet, Trace, steps_before};
 
 /// The summary of the ticks `from` to `to`. The first step is found by bisection.
 pub(crate) fn part_of_block(

@@ -2,8 +2,9 @@
 
 ghost use Rattle.std.specs.Prelude.{◌≡◌, ◌+◌, ◌-◌, ◌<◌, ◌≤◌, ℕ, length, IfOk, OnOk};
 ghost use Rattle.step_trace.specs.Ticks.{IsTrace};
+ghost use Rattle.step_trace.specs.TickSteps.{AreStepsBefore};
 ghost use Rattle.chunk_join.specs.Summaries.{IsListing, IsLongest, EndsBefore};
-ghost use Rattle.chunk_join.specs.TickSteps.{AreStepsBefore, AreStepsOf};
+ghost use Rattle.chunk_join.specs.TickSteps.{AreStepsOf};
 ghost use Rattle.chunk_join.specs.BlockSteps.{IsMemberAt, AreEnded};
 
 use crate::tick_steps::{TickSpan, steps_through};

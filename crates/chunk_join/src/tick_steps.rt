@@ -1,8 +1,9 @@
 //! The steps of a tick of a trace, which follow one another by number.
 
-ghost use Rattle.std.specs.Prelude.{◌+◌, ◌≤◌, length};
+ghost use Rattle.std.specs.Prelude.{◌+◌};
 ghost use Rattle.step_trace.specs.Ticks.{IsTrace};
-ghost use Rattle.chunk_join.specs.TickSteps.{AreStepsBefore, IsMessageAt, IsReceiverAt};
+ghost use Rattle.step_trace.specs.TickSteps.{AreStepsBefore};
+ghost use Rattle.chunk_join.specs.TickSteps.{IsReceiverAt};
 
 use step_trace::{Act, ProcSet, Trace};
 
@@ -12,23 +13,6 @@ pub(crate) struct TickSpan {
     pub(crate) tick: u64,
     pub(crate) before: u64,
     pub(crate) end: u64,
-}
-
-/// How many steps come before a tick, by bisection.
-pub(crate) fn steps_before(trace: &Trace, tick: u64) -> u64
-    ensures { AreStepsBefore trace.now tick result }
-{
-    let mut low = 0;
-    let mut high = trace.len() as u64;
-    while low < high {
-        let middle = low + (high - low) / 2;
-        if trace.tick(middle + 1) < tick {
-            low = middle + 1;
-        } else {
-            high = middle;
-        }
-    }
-    low
 }
 
 /// How many steps come up to a tick, of which this many come before it.
@@ -48,24 +32,8 @@ pub(crate) fn steps_through(trace: &Trace, tick: u64, before: u64) -> u64
     trace.len() as u64
 }
 
-/// If the step of this number is a message between members, its destination.
-pub(crate) fn destination(trace: &Trace, set: ProcSet, no: u64) -> Option<u64>
-    ensures { IsMessageAt set trace.now.steps no result }
-{
-    let Some(step) = trace.step(no) else {
-        return None;
-    };
-    if !set.contains(step.proc) {
-        return None;
-    }
-    match &step.act {
-        Act::Send { to } => set.contains(*to).then_some(*to),
-        Act::Receive { .. } => None,
-    }
-}
-
 /// If the step of this number is a Receive of a member, the member.
-pub(crate) fn receiver(trace: &Trace, set: ProcSet, no: u64) -> Option<u64>
+pub(crate) fn receiving_member(trace: &Trace, set: ProcSet, no: u64) -> Option<u64>
     ensures { IsReceiverAt set trace.now.steps no result }
 {
     let Some(step) = trace.step(no) else {

@@ -19,7 +19,7 @@ pub use Rattle.round_model.specs.BoundedDecision.{HaveDecided, IsInTouch, decidi
 pub use Rattle.round_model.specs.RoundStates.{processors}
 pub use Rattle.step_buffers.proofs.GrownNodes.{count_by-more, passed-ends, passed-stays}
 pub use Rattle.step_buffers.proofs.HeardSenders.{Contains-numbers, IsSentIn-from_test, heard_table-from_heard, is_sent_in-from_send, state_after-prefix}
-pub use Rattle.step_buffers.proofs.StepPrefixes.{IsWellFormed-prefix, passed-before, round_at-prefix, step_at-prefix, step_at-prefix_old}
+pub use Rattle.step_buffers.proofs.StepPrefixes.{passed-before, round_at-prefix}
 pub use Rattle.step_buffers.specs.Buffers.{buffer, waits_for}
 pub use Rattle.step_buffers.specs.HeardTables.{act_ends, before, is_sent_in, numbers, passed, round_at}
 pub use Rattle.step_buffers.specs.Moves.{next_send, step_of}

@@ -5,9 +5,10 @@ use Rattle.std.proofs.lemmas.Bool.{cases_lt}
 use Rattle.std.proofs.lemmas.List.{length-append, length-set}
 use Rattle.std.proofs.lemmas.Option.{same_Some}
 use Rattle.step_trace.specs.declared.steps.Act.TheVariants as act
+use Rattle.step_trace.proofs.StepPrefixes.{step_at-prefix_old}
 use Rattle.deciding_runs.proofs.Common.{Step, Setup, IsProc, step_at, IsWellFormed, step_at_within, step_at_last}
 use Rattle.deciding_runs.proofs.Common.{Contains-head, Contains-rest, part_of, passed, round_at, IsSend, buffer}
-use Rattle.deciding_runs.proofs.Common.{next_send, step_of, step_at-prefix_old, round_at-prefix, Peer, HasHeardOf}
+use Rattle.deciding_runs.proofs.Common.{next_send, step_of, round_at-prefix, Peer, HasHeardOf}
 use Rattle.deciding_runs.proofs.Common.{Paced, WereHeard, heard_message, heard_waiting, ends_round, paced_move}
 use Rattle.deciding_runs.proofs.Common.{after_receive, after_move}
 use Rattle.step_buffers.specs.Origins.{sender_of, round_ahead}

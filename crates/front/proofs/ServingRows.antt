@@ -1,5 +1,5 @@
 -- The rows of a report apply to every tick of the trace.
-use Rattle.std.proofs.Common.{ℕ, ◌≡◌, ◌+◌, ◌<◌, ◌≤◌, inl, inr, List, [], ◌∷◌, map, Contains, Option, Some, None, Bool, true, false, refl, sym, subst, ap, suc, zero, arith}
+use Rattle.std.proofs.Common.{ℕ, ◌≡◌, ◌+◌, ◌<◌, ◌≤◌, inl, inr, List, [], ◌∷◌, map, Contains, Option, Some, None, Bool, true, false, refl, sym, subst, ap, arith}
 use Rattle.std.specs.Prelude.{IsSomeAnd, nat_le, cond}
 use Rattle.std.specs.List.Sorted.{IsStrictlyIncreasing}
 use Rattle.std.proofs.lemmas.Bool.{cases_lt}
@@ -12,25 +12,9 @@ use Rattle.step_trace.specs.Bounds.{DeltaHolds, PhiHolds, IsDelta, IsPhi}
 use Rattle.step_trace.specs.Fronts.{Triple, IsFeasible, IsOnFront, IsReport, triple_of}
 use Rattle.front.specs.Reports.{Reported, Serves, first_of, last_begun, row_at}
 use Rattle.step_trace.proofs.BoundLaws.{DeltaHolds-later, PhiHolds-later, DeltaHolds-past_end, PhiHolds-past_end}
-use Rattle.step_trace.proofs.FrontCriterion.{IsDelta-on_front, IsPhi-on_front}
+use Rattle.step_trace.proofs.FrontCriterion.{IsDelta-on_front, IsPhi-on_front, front-below}
 use Rattle.front.proofs.Stretches.{miss-refutes, gap-refutes}
 use Rattle.step_trace.proofs.ListMembers.{Contains-nil, Contains-head, Contains-rest, Contains-map, Contains-cons_cases, Contains-from_map, rising-tail, rising-first}
-
--- no feasible triple has nothing of the front at or below it
-pub front-below : (set : ℕ) (trace : Recorded) (size : ℕ) (t : Triple) → t.gst + t.delta + t.phi ≤ size → IsFeasible set trace t
-    → ((o : Triple) → IsOnFront set trace o → o.gst ≤ t.gst → o.delta ≤ t.delta → o.phi ≤ t.phi → ⊥) → ⊥
-front-below set trace zero t most feasible none = let start = feasible.start in omega arith
-front-below set trace (suc n) t most feasible none = none t
-    (record {
-      feasible = feasible;
-      undominated = λ o lower dominates.
-          let gst : o.gst ≤ t.gst = dominates.gst in
-          let delta : o.delta ≤ t.delta = dominates.delta in
-          let phi : o.phi ≤ t.phi = dominates.phi in
-          let less : o.gst + o.delta + o.phi ≤ n = elim dominates.smaller [ inl l ↦ omega arith | inr m ↦ elim m [ inl l ↦ omega arith | inr l ↦ omega arith ] ] in
-          front-below set trace n o less lower (λ q front a b c. none q front (omega arith) (omega arith) (omega arith));
-    })
-    (omega arith) (omega arith) (omega arith)
 
 -- bounds past the last tick hold from each tick
 IsFeasible-greatest : (set : ℕ) (trace : Recorded) (g : ℕ) → IsTimed trace → 1 ≤ g → g ≤ trace.last → IsFeasible set trace (record { gst = g; delta = trace.last + 1; phi = trace.last + 1 })

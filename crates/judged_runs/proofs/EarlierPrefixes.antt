@@ -10,12 +10,13 @@ use Rattle.step_trace.specs.Cuts.{IsCutAt}
 use Rattle.step_trace.specs.Fronts.{Triple, IsFeasible, IsReport, triple_of}
 use Rattle.step_trace.proofs.ListMembers.{Contains-slice_get, Contains-from_map}
 use Rattle.step_trace.proofs.TraceFronts.{one_cut}
+use Rattle.step_trace.proofs.FrontCriterion.{front-below}
 use Rattle.decision_claims.specs.declared.decisions.Decision.{Decision}
 use Rattle.decision_claims.specs.declared.lateness.Late.{Late}
 use Rattle.decision_claims.specs.Claims.{IsLater, IsMonotone, KeepsClaim, KeepsClaimInTime}
 use Rattle.decision_claims.specs.Decisions.{HaveDecidedBy}
 use Rattle.decision_claims.specs.LateRows.{IsFirstLate}
-use Rattle.decision_claims.proofs.FrontClaims.{front-below, KeepsClaim-rows}
+use Rattle.decision_claims.proofs.FrontClaims.{KeepsClaim-rows}
 use Rattle.decision_claims.proofs.PrefixClaims.{has_cut, IsCutAt-twice, IsFeasible-cut}
 use Rattle.judged_runs.specs.declared.prefixes.Ahead.{Ahead}
 use Rattle.judged_runs.specs.LateInTime.{AreNoEarlier, AreNoneDue, AreOldLater, IsAhead, IsGlance, IsLateInTime, IsNextLook, IsNextTick, KeepsBefore, begun_after}

@@ -3,9 +3,8 @@
 ghost use Rattle.std.specs.Prelude.{◌≡◌, ℕ, ◌-◌, ◌/◌, ◌%◌, ◌≤◌, length, IfOk, OnOk};
 ghost use Rattle.step_trace.specs.declared.processors.TheConstants.{MAX_MEMBER};
 ghost use Rattle.step_trace.specs.declared.configurations.TheConstants.{MAX_PROCESSORS};
-ghost use Rattle.step_trace.specs.declared.traces.TheConstants.{MAX_TICKS};
 ghost use Rattle.step_trace.specs.Processors.{IsWithin};
-ghost use Rattle.step_trace.specs.Ticks.{tick_of, IsTimed, IsTrace};
+ghost use Rattle.step_trace.specs.Ticks.{IsTimed, IsTrace};
 ghost use Rattle.step_trace.specs.Traces.{Recorded};
 ghost use Rattle.suffix_staircase.specs.Receives.{IsLastMissByNumber};
 ghost use Rattle.link_bounds.specs.Passes.{KnowsLinksFrom, ListsBefore};
@@ -16,8 +15,7 @@ use crate::bounds::LeastBound;
 use crate::copies::copies;
 use crate::rows::BoundRow;
 use std::alloc::{AllocError, Global};
-use step_trace::{MAX_MEMBER, Miss, ProcSet, Trace, receiver};
-use suffix_staircase::step_of;
+use step_trace::{MAX_MEMBER, Miss, ProcSet, Trace, receiver, step_of};
 
 /// How many places a sender has: one for each receiver, and one for number 0, which is no processor.
 pub(crate) const RECEIVERS: u64 = MAX_MEMBER + 1;
@@ -58,7 +56,7 @@ impl Links {
         let from = step_of(trace, no).proc;
         let place = place_of(from, to);
         let mut bound = self.bounds[place].unwrap_or(LeastBound::without_evidence());
-        let long = tick_of(trace, missed).saturating_sub(trace.tick(no));
+        let long = trace.tick_at(missed).saturating_sub(trace.tick(no));
         bound.note(Miss { sent: no, missed }, long);
         self.bounds[place] = Some(bound);
     }
@@ -97,13 +95,4 @@ fn place_of(from: u64, to: u64) -> usize
     ensures { result ≡ place_of from to }
 {
     (from * RECEIVERS + to) as usize
-}
-
-/// The tick of the step of this number, and 0 for number 0.
-fn tick_of(trace: &Trace, no: u64) -> u64
-    requires { no ≤ length trace.now.steps }
-    ensures value { result ≡ tick_of trace.now no }
-    ensures limit { result ≤ MAX_TICKS }
-{
-    if no == 0 { 0 } else { trace.tick(no) }
 }

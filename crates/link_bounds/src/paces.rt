@@ -11,8 +11,7 @@ use crate::bounds::LeastBound;
 use crate::copies::copies;
 use crate::rows::BoundRow;
 use std::alloc::{AllocError, Global};
-use step_trace::{Gap, ProcSet, Trace};
-use suffix_staircase::step_of;
+use step_trace::{Gap, ProcSet, Trace, step_of};
 
 /// What is known of the gaps of each processor after a step.
 #[derive(Debug, Drop)]

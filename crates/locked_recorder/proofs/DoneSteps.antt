@@ -9,11 +9,12 @@ use Rattle.std.proofs.lemmas.Option.{slice_get_within, get_or_from_slice_get}
 use Rattle.step_trace.specs.declared.steps.Step.{Step}
 use Rattle.step_trace.specs.Configurations.{Setup}
 use Rattle.step_trace.specs.Traces.{step_at, IsWellFormed}
+use Rattle.step_trace.proofs.StepPrefixes.{IsWellFormed-prefix}
 use Rattle.round_model.specs.RoundStates.{state_after}
 use Rattle.step_buffers.specs.declared.moves.Done.{Done}
 use Rattle.step_buffers.specs.HeardTables.{act_ends, passed, heard_table}
 use Rattle.step_buffers.specs.Runs.{node_at}
-use Rattle.step_buffers.proofs.StepPrefixes.{IsWellFormed-prefix, passed-append}
+use Rattle.step_buffers.proofs.StepPrefixes.{passed-append}
 use Rattle.step_buffers.proofs.DecidedRounds.{decision-prefix}
 use Rattle.step_buffers.proofs.GrownNodes.{passed-ends, passed-stays}
 use Rattle.locked_recorder.specs.Audits.{done_last, done_at, all_done}

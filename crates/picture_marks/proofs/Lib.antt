@@ -1,6 +1,4 @@
-pub mod MessageTakers
 pub mod GatheredLists
-pub mod TickFacts
 pub mod ShownMarks
 pub mod ColumnSteps
 pub mod RowPlaces

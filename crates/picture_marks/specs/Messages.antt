@@ -1,20 +1,15 @@
 -- Messages with the Receives that take them (own).
-use Rattle.std.specs.Prelude.{ℕ, ◌==◌, ◌&&◌, Bool, false, List, [], length, Option}
+use Rattle.std.specs.Prelude.{ℕ, ◌==◌, ◌&&◌, Bool, false, List, length, Option}
 use Rattle.std.specs.Prelude.{Some, None, slice_index_or, if◌then◌else◌, suc, zero}
 use Rattle.std.specs.List.{list_any}
 use Rattle.std.specs.Option.{option_map_or}
 use Rattle.step_trace.specs.declared.steps.Act.{Act}
 use Rattle.step_trace.specs.declared.steps.Act.TheVariants.{Send, Receive}
 use Rattle.step_trace.specs.declared.steps.Step.{Step}
-use Rattle.step_trace.specs.Steps.{act_ids}
-use Rattle.step_trace.specs.Traces.{Recorded, step_at}
+use Rattle.step_trace.specs.Traces.{Recorded, ids_at, step_at}
 use Rattle.step_trace.specs.Ticks.{tick_of}
 use Rattle.picture_marks.specs.declared.messages.Message.{Message}
 use Rattle.step_trace.specs.Processors.{has_proc}
-
--- the ids that step k takes, none if there is no such step
-abbrev pub ids_at : List Step → ℕ → List ℕ
-ids_at steps k = option_map_or (λ x. act_ids x.act) (step_at steps k) []
 
 -- whether step k takes message s
 abbrev pub takes_at : List Step → ℕ → ℕ → Bool

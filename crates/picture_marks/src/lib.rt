@@ -9,7 +9,7 @@ mod strokes;
 pub mod takers;
 mod windows;
 
-pub use messages::{Message, processor_at, tick_at};
+pub use messages::{Message, processor_at};
 pub use pictures::{Picture, picture_of};
 pub use report_rows::COLUMNS;
 pub use strokes::{Stroke, Strokes, strokes_of};

@@ -1,7 +1,6 @@
 //! Messages in a picture.
 
 ghost use Rattle.std.specs.Prelude.{◌≡◌, ℕ, length};
-ghost use Rattle.step_trace.specs.Ticks.{tick_of};
 ghost use Rattle.picture_marks.specs.Messages.{proc_of, taker, taker_in, sends_between};
 ghost use Rattle.picture_marks.specs.Pictures.{shown_step, shown_message};
 
@@ -14,18 +13,6 @@ use step_trace::{Act, ProcSet, Trace};
 pub struct Message {
     pub sent: u64,
     pub taken: Option<u64>,
-}
-
-/// The tick of the step of this number; 0 if there is no such step.
-pub fn tick_at(trace: &Trace, no: u64) -> u64
-    ensures { result ≡ tick_of trace.now no }
-{
-    // Its contract says that each step has a tick, and no other number.
-    let _ = trace.last_tick();
-    if no == 0 || no > trace.len() as u64 {
-        return 0;
-    }
-    trace.tick(no)
 }
 
 /// The processor of the step of this number; 0 if there is no such step.
@@ -42,7 +29,7 @@ pub fn processor_at(trace: &Trace, no: u64) -> u64
 pub(crate) fn shown_step(trace: &Trace, window: Window, lanes: ProcSet, no: u64) -> Option<u64>
     ensures { result ≡ shown_step trace.now window lanes no }
 {
-    let tick = tick_at(trace, no);
+    let tick = trace.tick_at(no);
     if window.touches(tick, tick) && lanes.contains(processor_at(trace, no)) {
         Some(no)
     } else {
@@ -65,9 +52,9 @@ pub(crate) fn shown_message(
         return None;
     }
     let taken = taker_in(takers, no);
-    let sent_in = tick_at(trace, no);
+    let sent_in = trace.tick_at(no);
     let end = match taken {
-        Some(r) => tick_at(trace, r),
+        Some(r) => trace.tick_at(r),
         None => sent_in,
     };
     if window.touches(sent_in, end) {

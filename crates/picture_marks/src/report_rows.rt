@@ -5,7 +5,7 @@ ghost use Rattle.picture_marks.specs.Rows.{row_at, miss_at, gap_at, same_miss, s
 ghost use Rattle.picture_marks.specs.Rows.{column, column_in, share_column};
 ghost use Rattle.picture_marks.specs.Pictures.{shown_miss, shown_gap, shows_gap, shows_miss, corner};
 
-use crate::messages::{processor_at, tick_at};
+use crate::messages::processor_at;
 use crate::windows::Window;
 use step_trace::{Gap, Miss, ProcSet, Row, Trace};
 
@@ -38,7 +38,7 @@ pub(crate) fn shown_miss(
 fn shows_miss(trace: &Trace, window: Window, lanes: ProcSet, miss: Miss) -> bool
     ensures { result ≡ shows_miss trace.now window lanes miss }
 {
-    window.touches(tick_at(trace, miss.sent), tick_at(trace, miss.missed))
+    window.touches(trace.tick_at(miss.sent), trace.tick_at(miss.missed))
         && (lanes.contains(processor_at(trace, miss.sent))
             && lanes.contains(processor_at(trace, miss.missed)))
 }

@@ -7,7 +7,7 @@ ghost use Rattle.picture_marks.specs.declared.report_rows.TheConstants.{COLUMNS}
 ghost use Rattle.picture_marks.specs.declared.strokes.TheConstants.{PLACES};
 ghost use Rattle.picture_marks.specs.Strokes.{IsNextStroke, ShowsSteps, busy_at, columns_for, has_stroke, steps_to};
 
-use crate::messages::{processor_at, tick_at};
+use crate::messages::processor_at;
 use crate::report_rows::{COLUMNS, column_in};
 use std::alloc::{AllocError, Global};
 use step_trace::{MAX_MEMBER, Trace};
@@ -61,7 +61,7 @@ fn busy_columns(alloc: Global, trace: &Trace, columns: u64) -> Result<Vec<bool>,
     let mut busy = blank(alloc, PLACES)?;
     for i in 0..trace.len() {
         let no = i as u64 + 1;
-        let column = column_in(columns, trace.last_tick(), tick_at(trace, no));
+        let column = column_in(columns, trace.last_tick(), trace.tick_at(no));
         note(&mut busy, processor_at(trace, no), column);
     }
     Ok(busy)

@@ -1,11 +1,11 @@
 //! For each message the Receive that takes it.
 
-ghost use Rattle.std.specs.Prelude.{◌≡◌, ℕ, ◌<◌, ◌≤◌, ◌==◌, length, All, IfOk, Some, if◌then◌else◌};
+ghost use Rattle.std.specs.Prelude.{◌≡◌, ℕ, ◌<◌, ◌==◌, length, All, IfOk, Some, if◌then◌else◌};
 ghost use Rattle.std.specs.List.{list_any};
-ghost use Rattle.picture_marks.specs.Messages.{ids_at, taker, taker_in};
+ghost use Rattle.picture_marks.specs.Messages.{taker, taker_in};
 
 use std::alloc::{AllocError, Global};
-use step_trace::Trace;
+use step_trace::{Trace, ids_at};
 
 /// For each number up to that of the last step, the step that takes the message of this number, in time
 /// that grows with the steps and the ids that they take.
@@ -28,17 +28,6 @@ pub fn taker_in(takers: &[Option<u64>], no: u64) -> Option<u64>
     match takers.get(no as usize) {
         Some(taker) => *taker,
         None => None,
-    }
-}
-
-/// The ids that the step of this number takes, none if there is no such step: earlier numbers.
-fn ids_at(trace: &Trace, no: u64) -> &[u64]
-    ensures value { result.now ≡ ids_at trace.now.steps no }
-    ensures earlier { All (λ s. s < no) result.now }
-{
-    match trace.step(no) {
-        Some(step) => step.act.ids(),
-        None => &[],
     }
 }
 

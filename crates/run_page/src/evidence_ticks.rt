@@ -9,7 +9,7 @@ ghost use Rattle.run_page.specs.EvidenceTicks.{taker_of, widened};
 
 use crate::scales::Span;
 use picture_marks::takers::{taker_in, takers};
-use picture_marks::{MAX_WINDOW, Window, tick_at};
+use picture_marks::{MAX_WINDOW, Window};
 use run_story::{Delay, Evidence, Stall, evidence_of};
 use std::alloc::{AllocError, Global};
 use step_trace::{Row, Trace};
@@ -114,7 +114,7 @@ fn around_miss(trace: &Trace, delay: Delay, taken: Option<u64>) -> Span
     ensures { result ≡ around_miss trace.now delay taken }
 {
     Span {
-        first: tick_at(trace, delay.miss.sent),
+        first: trace.tick_at(delay.miss.sent),
         to: miss_end(trace, delay, taken),
     }
 }
@@ -122,11 +122,11 @@ fn around_miss(trace: &Trace, delay: Delay, taken: Option<u64>) -> Span
 fn miss_end(trace: &Trace, delay: Delay, taken: Option<u64>) -> u64
     ensures { result ≡ miss_end trace.now delay taken }
 {
-    let missed = tick_at(trace, delay.miss.missed);
+    let missed = trace.tick_at(delay.miss.missed);
     let Some(taken) = taken else {
         return missed;
     };
-    let tick = tick_at(trace, taken);
+    let tick = trace.tick_at(taken);
     if tick.saturating_sub(missed) < delay.ticks.max(NEAR) {
         tick.max(missed)
     } else {

@@ -3,8 +3,8 @@
 use crate::runs::receiver_at;
 use crate::scans::Scan;
 use crate::scenes::with_node;
+use picture_marks::processor_at;
 use picture_marks::takers::taker_in;
-use picture_marks::{processor_at, tick_at};
 use step_trace::{ProcSet, Trace};
 
 /// What became of the messages between members.
@@ -87,7 +87,7 @@ impl Sent {
         }
         Some(Sent {
             to,
-            tick: tick_at(trace, no),
+            tick: trace.tick_at(no),
             is_taken: taker_in(takers, no).is_some(),
             last_look: scan.last_receive_of(to),
         })

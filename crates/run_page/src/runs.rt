@@ -6,14 +6,13 @@ use crate::fates::Fates;
 use crate::node_bounds::NodeBounds;
 use crate::pieces::Piece;
 use crate::scans::Scan;
-use crate::tick_steps::steps_before;
 use crate::timings::Timing;
 use picture_marks::takers::taker_in;
-use picture_marks::{Strokes, processor_at, tick_at};
+use picture_marks::{Strokes, processor_at};
 use run_story::{Evidence, Headline, LostReceivers, MessageCounts, Named};
 use run_words::Clock;
 use step_tables::StepRow;
-use step_trace::{Act, ProcSet, Row, Trace};
+use step_trace::{Act, ProcSet, Row, Trace, steps_before};
 
 /// A run, and what is found in it. All is lent, so that a phrase takes it whole.
 #[derive(Drop)]
@@ -80,7 +79,7 @@ impl Run<'_> {
 
     /// The tick of the step of this number; 0 if there is no such step.
     pub(crate) fn tick(&self, no: u64) -> u64 {
-        tick_at(self.trace, no)
+        self.trace.tick_at(no)
     }
 
     /// When the step of this number was made.

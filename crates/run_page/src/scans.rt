@@ -1,6 +1,5 @@
 //! What one pass over a trace finds: when each processor acts last, and the kinds of Receives.
 
-use picture_marks::tick_at;
 use std::alloc::{AllocError, Global};
 use step_trace::{Act, MAX_MEMBER, Step, Trace};
 
@@ -73,7 +72,7 @@ impl Scan {
         };
         let proc = step.proc as usize;
         if proc < self.lasts.len() {
-            self.lasts[proc] = self.lasts[proc].after(step, tick_at(trace, no));
+            self.lasts[proc] = self.lasts[proc].after(step, trace.tick_at(no));
         }
         self.count(step);
     }

@@ -4,7 +4,7 @@ use crate::frames::{Frame, Line};
 use crate::mark_words::Words;
 use crate::svg::put;
 use crate::titles::{Made, push_message_title};
-use picture_marks::{Message, tick_at};
+use picture_marks::Message;
 use std::alloc::{AllocError, Global};
 use step_trace::{Act, Trace};
 
@@ -33,7 +33,7 @@ pub(crate) fn put_message(
     };
     let made = Made {
         no: message.sent,
-        tick: tick_at(trace, message.sent),
+        tick: trace.tick_at(message.sent),
         processor: step.proc,
     };
     let sending = Sending {
@@ -57,7 +57,7 @@ fn put_way(
     let Some(taken) = sending.taken else {
         return put_line(alloc, out, frame.lost(tick, from, to), "l d");
     };
-    let end = tick_at(trace, taken);
+    let end = trace.tick_at(taken);
     if from == to {
         return put_arc(alloc, out, frame, tick, end, from);
     }
@@ -87,7 +87,7 @@ fn put_title(
     sending: Sending,
 ) -> Result<(), AllocError> {
     let end = match sending.taken {
-        Some(taken) => tick_at(trace, taken),
+        Some(taken) => trace.tick_at(taken),
         None => 0,
     };
     out.extend_from_slice(b"<title>")?;

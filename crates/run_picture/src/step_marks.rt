@@ -6,7 +6,6 @@ use crate::frames::Frame;
 use crate::mark_words::Words;
 use crate::svg::put;
 use crate::titles::{Made, push_receive_title, push_send_title};
-use picture_marks::tick_at;
 use std::alloc::{AllocError, Global};
 use step_trace::{Act, Trace};
 
@@ -22,7 +21,7 @@ pub(crate) fn put_step(
     let Some(step) = trace.step(no) else {
         return Ok(());
     };
-    let (tick, processor) = (tick_at(trace, no), step.proc);
+    let (tick, processor) = (trace.tick_at(no), step.proc);
     let mark = Mark {
         made: Made {
             no,

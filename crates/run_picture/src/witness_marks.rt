@@ -5,7 +5,7 @@ use crate::mark_words::Words;
 use crate::message_lines::put_line;
 use crate::svg::put;
 use crate::titles::{Made, push_gap_title, push_miss_title};
-use picture_marks::{processor_at, tick_at};
+use picture_marks::processor_at;
 use std::alloc::{AllocError, Global};
 use step_trace::{Row, Trace};
 
@@ -24,10 +24,10 @@ pub(crate) fn put_miss(
     let (sent, from) = (miss.sent, processor_at(trace, miss.sent));
     let missed = Made {
         no: miss.missed,
-        tick: tick_at(trace, miss.missed),
+        tick: trace.tick_at(miss.missed),
         processor: processor_at(trace, miss.missed),
     };
-    let line = frame.line(tick_at(trace, sent), from, missed.tick, missed.processor);
+    let line = frame.line(trace.tick_at(sent), from, missed.tick, missed.processor);
     put_line(alloc, out, line, "w")?;
     out.extend_from_slice(b"<title>")?;
     push_miss_title(out, words, missed, sent, from, row.gst, row.delta)?;

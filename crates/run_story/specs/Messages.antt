@@ -1,19 +1,14 @@
 -- Facts of the messages of a trace, by their numbers (own).
-use Rattle.std.specs.Prelude.{ℕ, Bool, false, List, [], slice_index_or}
+use Rattle.std.specs.Prelude.{ℕ, Bool, false, List, slice_index_or}
 use Rattle.std.specs.Option.{option_map_or}
 use Rattle.step_trace.specs.declared.steps.Act.{Act}
 use Rattle.step_trace.specs.declared.steps.Act.TheVariants.{Send, Receive}
 use Rattle.step_trace.specs.declared.steps.Step.{Step}
-use Rattle.step_trace.specs.Steps.{act_ids}
 use Rattle.step_trace.specs.Traces.{step_at}
 
 -- the flag of this number; false if there is none
 abbrev pub flag_at : List Bool → ℕ → Bool
 flag_at flags s = slice_index_or flags s false
-
--- the ids that step k takes: none if there is no such step
-abbrev pub ids_at : List Step → ℕ → List ℕ
-ids_at steps k = option_map_or (λ x. act_ids x.act) (step_at steps k) []
 
 -- who sends, and who receives, in a step of p: 0 if it isn't a Send
 abbrev pub sent_by : ℕ → Act → ℕ

@@ -6,7 +6,7 @@ ghost use Rattle.step_trace.specs.PushRefusals.{is_taken};
 ghost use Rattle.run_story.specs.Messages.{flag_at, receiver_of, sender_of};
 ghost use Rattle.run_story.specs.Delays.{AreDelays, IsDelay, IsDelayUpTo, are_alike, goes_on, longer, miss_at};
 
-use crate::messages::{flag_at, receiver_of, sender_of, taken_messages, tick_at};
+use crate::messages::{flag_at, receiver_of, sender_of, taken_messages};
 use std::alloc::{AllocError, Global};
 use step_trace::{Miss, Row, Trace};
 
@@ -79,7 +79,9 @@ fn of_row(trace: &Trace, rows: &[Row], first: usize) -> Option<Delay>
     let miss = miss_at(rows, first)?;
     Some(Delay {
         miss,
-        ticks: tick_at(trace, miss.missed).saturating_sub(tick_at(trace, miss.sent)),
+        ticks: trace
+            .tick_at(miss.missed)
+            .saturating_sub(trace.tick_at(miss.sent)),
         to: receiver_of(trace, miss.sent),
         first,
         last: first,
@@ -169,7 +171,7 @@ fn are_alike(trace: &Trace, taken: &[bool], first: Miss, next: Miss) -> bool
     ensures { result ≡ are_alike trace.now first next }
 {
     if flag_at(taken, first.sent) {
-        flag_at(taken, next.sent) && tick_at(trace, next.sent) <= tick_at(trace, first.missed)
+        flag_at(taken, next.sent) && trace.tick_at(next.sent) <= trace.tick_at(first.missed)
     } else {
         !flag_at(taken, next.sent)
     }

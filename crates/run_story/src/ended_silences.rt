@@ -6,7 +6,7 @@ ghost use Rattle.run_story.specs.EndedSilences.{is_of_pair, matters, may_matter}
 
 use crate::delays::Delay;
 use crate::evidence::Evidence;
-use crate::messages::{sender_of, tick_at};
+use crate::messages::sender_of;
 use crate::stalls::Stall;
 use step_trace::Trace;
 
@@ -71,8 +71,8 @@ fn ended_shortly(trace: &Trace, delay: Delay, stall: Stall) -> bool
     ensures { result ≡ ended_shortly trace.now delay stall }
 {
     let (sent, missed) = (
-        tick_at(trace, delay.miss.sent),
-        tick_at(trace, delay.miss.missed),
+        trace.tick_at(delay.miss.sent),
+        trace.tick_at(delay.miss.missed),
     );
     let until = u128::from(stall.gap.to) + u128::from(SHORTLY) * u128::from(delay.ticks);
     u128::from(sent) <= until && stall.gap.to < missed

@@ -9,7 +9,7 @@ ghost use Rattle.run_story.specs.Evidence.{AreEvidence, alone, explained, explai
 ghost use Rattle.run_story.specs.Evidence.{shared_ticks, stall_evidence, with_delay};
 
 use crate::delays::{Delay, delays_of};
-use crate::messages::{flag_at, tick_at};
+use crate::messages::flag_at;
 use crate::stalls::{Stall, stalls_of};
 use std::alloc::{AllocError, Global};
 use step_trace::{MAX_TICKS, Row, Trace};
@@ -139,8 +139,8 @@ fn explains(trace: &Trace, stall: Stall, delay: Delay) -> bool
 fn shared_ticks(trace: &Trace, stall: Stall, delay: Delay) -> u64
     ensures { result ≡ shared_ticks trace.now stall delay }
 {
-    let from = stall.gap.from.max(tick_at(trace, delay.miss.sent));
-    let to = stall.gap.to.min(tick_at(trace, delay.miss.missed));
+    let from = stall.gap.from.max(trace.tick_at(delay.miss.sent));
+    let to = stall.gap.to.min(trace.tick_at(delay.miss.missed));
     to.saturating_sub(from.saturating_sub(1))
 }
 

@@ -4,15 +4,14 @@ ghost use Rattle.std.specs.Prelude.{◌≡◌, ◌==◌, ◌<◌, false, length}
 ghost use Rattle.std.specs.List.{list_any};
 ghost use Rattle.std.specs.Option.{option_map_or};
 ghost use Rattle.step_trace.specs.Fronts.{IsReport};
-ghost use Rattle.step_trace.specs.Traces.{step_at};
+ghost use Rattle.step_trace.specs.Traces.{ids_at, step_at};
 ghost use Rattle.step_trace.specs.PushRefusals.{is_taken};
 ghost use Rattle.run_story.specs.CalmRows.{FitsIn};
-ghost use Rattle.run_story.specs.Messages.{ids_at};
 ghost use Rattle.run_story.specs.Headlines.{headline_of, is_between, is_lost_in, is_silent_to_end};
 ghost use Rattle.run_story.specs.Headlines.{last_step_of, poor_headline, row_in, sends_from};
 
 use crate::calm::is_poor;
-use crate::messages::{receiver_of, sender_of, tick_at};
+use crate::messages::{receiver_of, sender_of};
 use step_trace::{ProcSet, Row, Trace};
 
 /// A run of fewer ticks whose calm row is poor is too short to show much.
@@ -182,7 +181,7 @@ fn sends_from(trace: &Trace, set: ProcSet, g: u64) -> bool
     let mut sends = false;
     for i in 0..trace.len() {
         let no = i as u64 + 1;
-        if is_between(trace, set, no) && g <= tick_at(trace, no) {
+        if is_between(trace, set, no) && g <= trace.tick_at(no) {
             sends = true;
         }
     }

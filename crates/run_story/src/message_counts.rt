@@ -9,7 +9,7 @@ ghost use Rattle.run_story.specs.MessageCounts.{is_lost, is_missed, is_receive_a
 ghost use Rattle.run_story.specs.MessageCounts.{last_receive, message_counts, tick_in};
 
 use crate::headlines::is_between;
-use crate::messages::{flag_at, receiver_of, taken_messages, tick_at};
+use crate::messages::{flag_at, receiver_of, taken_messages};
 use std::alloc::{AllocError, Global};
 use step_trace::{Act, ProcSet, Trace};
 
@@ -129,7 +129,7 @@ fn is_missed(trace: &Trace, lasts: &[u64], no: u64) -> bool
         (receiver_of trace.now.steps no) trace.now (length trace.now.steps) }
     ensures { result ≡ is_missed trace.now no }
 {
-    tick_at(trace, no) < tick_in(lasts, receiver_of(trace, no))
+    trace.tick_at(no) < tick_in(lasts, receiver_of(trace, no))
 }
 
 /// The tick of a processor in a list of ticks.
@@ -168,7 +168,7 @@ fn note_receive(lasts: &mut Vec<u64>, trace: &Trace, no: u64)
     if let Act::Receive { .. } = &step.act {
         let place = step.proc as usize;
         if place < lasts.len() {
-            lasts[place] = tick_at(trace, no);
+            lasts[place] = trace.tick_at(no);
         }
     }
 }

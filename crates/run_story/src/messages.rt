@@ -3,11 +3,10 @@
 ghost use Rattle.std.specs.Prelude.{◌≡◌, ◌+◌, ◌<◌, ◌||◌, ◌==◌, ℕ, All, IfOk, length};
 ghost use Rattle.std.specs.List.{list_any};
 ghost use Rattle.step_trace.specs.PushRefusals.{is_taken};
-ghost use Rattle.step_trace.specs.Ticks.{tick_of};
-ghost use Rattle.run_story.specs.Messages.{flag_at, ids_at, receiver_of, sender_of};
+ghost use Rattle.run_story.specs.Messages.{flag_at, receiver_of, sender_of};
 
 use std::alloc::{AllocError, Global};
-use step_trace::{Act, Trace};
+use step_trace::{Act, Trace, ids_at};
 
 /// For each number up to that of the last step, whether a step takes the message of this number.
 pub(crate) fn taken_messages(alloc: Global, trace: &Trace) -> Result<Vec<bool>, AllocError>
@@ -18,17 +17,6 @@ pub(crate) fn taken_messages(alloc: Global, trace: &Trace) -> Result<Vec<bool>, 
         mark(&mut taken, ids_at(trace, i as u64 + 1));
     }
     Ok(taken)
-}
-
-/// The ids that the step of this number takes: none if there is no such step.
-fn ids_at(trace: &Trace, no: u64) -> &[u64]
-    ensures value { result.now ≡ ids_at trace.now.steps no }
-    ensures earlier { All (λ s. s < no) result.now }
-{
-    match trace.step(no) {
-        Some(step) => step.act.ids(),
-        None => &[],
-    }
 }
 
 /// Sets the flags of these messages.
@@ -77,16 +65,4 @@ pub(crate) fn receiver_of(trace: &Trace, no: u64) -> u64
         },
         None => 0,
     }
-}
-
-/// The tick of the step of this number; 0 if there is no such step.
-pub(crate) fn tick_at(trace: &Trace, no: u64) -> u64
-    ensures { result ≡ tick_of trace.now no }
-{
-    // Its contract says that each step has a tick, and no other number.
-    let _ = trace.last_tick();
-    if no == 0 || no > trace.len() as u64 {
-        return 0;
-    }
-    trace.tick(no)
 }

@@ -11,12 +11,12 @@ use Rattle.std.proofs.lemmas.List.Elements.{filter-append}
 use Rattle.std.proofs.lemmas.List.Folds.{list_any-append}
 use Rattle.std.proofs.lemmas.List.Kept.{IsStrictlyIncreasing-filter}
 use Rattle.step_trace.specs.declared.steps.Act.{Act}
+use Rattle.step_trace.proofs.StepPrefixes.{step_at-prefix, IsWellFormed-prefix}
 use Rattle.step_buffers.proofs.Common.{Send, Receive, Step, Setup, act_dest, act_takes, act_sends_to, step_at}
 use Rattle.step_buffers.proofs.Common.{IsWellFormed, is_sent_to, is_taken, step_at_within, step_at_last}
 use Rattle.step_buffers.proofs.Common.{taken_at-from_is_taken, Contains-from_filter, range_with_len-more}
 use Rattle.step_buffers.proofs.Common.{IsStrictlyIncreasing-range_with_len, All-range_with_len, numbers, waits_for}
 use Rattle.step_buffers.proofs.Common.{buffer, IsSend, sending, receiving, Fits-from_well_formed, sent_from}
-use Rattle.step_buffers.proofs.StepPrefixes.{step_at-prefix, IsWellFormed-prefix}
 use Rattle.step_buffers.proofs.RemovedIds.{filter-agree, filter-all, Contains-from_is_in}
 
 -- two filters one after the other

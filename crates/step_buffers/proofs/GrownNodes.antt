@@ -5,11 +5,12 @@ use Rattle.std.proofs.Common.{ℕ, zero, suc, ◌≡◌, ◌+◌, ◌-◌, ◌�
 use Rattle.std.specs.Prelude.{count_by, slice_get}
 use Rattle.std.specs.List.{range_with_len}
 use Rattle.std.proofs.lemmas.List.Sums.{sum_by-append, sum_by-cons, count_by-le-length}
+use Rattle.step_trace.proofs.StepPrefixes.{step_at-prefix_old, IsWellFormed-prefix}
 use Rattle.step_buffers.proofs.Common.{Step, range_with_len-more, Setup, step_at, IsWellFormed, step_at_within, step_at-push_cases, state_after-next, messages_heard-local}
 use Rattle.step_buffers.specs.HeardTables.{is_sent_in, passed, before, round_at, act_ends, heard_table}
 use Rattle.step_buffers.specs.Runs.{sent_before, next_destination, IsDue, IsRun, node_at, body_of, destinations}
 use Rattle.step_buffers.proofs.HeardSenders.{IsSentIn-from_test, is_sent_in-from_send, same_tests, IsSentIn-longer, IsSentIn-prefix, state_after-prefix, IsHeard-from_table}
-use Rattle.step_buffers.proofs.StepPrefixes.{step_at-prefix_old, before-prefix, passed-before, IsWellFormed-prefix, passed-append, round_at-prefix}
+use Rattle.step_buffers.proofs.StepPrefixes.{before-prefix, passed-before, passed-append, round_at-prefix}
 use Rattle.std.proofs.lemmas.List.{length-append}
 use Rattle.std.proofs.lemmas.Bool.{and_from}
 use Rattle.std.proofs.Math.Seq.{take-length}

@@ -6,10 +6,11 @@ use Rattle.std.specs.List.{list_any}
 use Rattle.std.specs.Option.{option_map_or}
 use Rattle.std.proofs.lemmas.Bool.{eqb-true, leb-true, le-leb, and_parts, and_from, cases_lt}
 use Rattle.std.proofs.lemmas.List.FromFn.{length-range_with_len, get_or-range_with_len}
+use Rattle.step_trace.proofs.StepPrefixes.{step_at-prefix}
 use Rattle.step_buffers.proofs.Common.{Step, act_ids, act_sends, step_at, IsWellFormed, step_at_within, list_any-found, list_any-at, Setup, IsSettled, state_after-settled}
 use Rattle.step_buffers.specs.HeardTables.{passed, round_at, numbers, is_sent_in, hears_at, heard_table}
 use Rattle.round_model.specs.RoundStates.{state_after}
-use Rattle.step_buffers.proofs.StepPrefixes.{step_at-prefix, passed-append, passed-before, round_at-prefix, round_at-past}
+use Rattle.step_buffers.proofs.StepPrefixes.{passed-append, passed-before, round_at-prefix, round_at-past}
 
 -- step k is one that passes a test
 pub record IsStepWith (test : Step → Bool) (steps : List Step) (k : ℕ) : Type 0 where

@@ -6,6 +6,7 @@ use Rattle.std.specs.Option.{option_map_or}
 use Rattle.std.proofs.Math.Bool.{or-true}
 use Rattle.std.proofs.lemmas.Option.{same_Some}
 use Rattle.std.proofs.lemmas.List.{length-append}
+use Rattle.step_trace.proofs.StepPrefixes.{step_at-prefix, step_at-prefix_old}
 use Rattle.step_buffers.proofs.Common.{Send, Step, Setup, act_ids, act_takes, act_dest, IsWellFormed, is_taken}
 use Rattle.step_buffers.proofs.Common.{step_at_within, step_at-push_cases, act_takes-from_Contains, taken_from_at}
 use Rattle.step_buffers.proofs.Common.{taken_at-from_is_taken, Letter, passed, round_at, IsSend, letter_at, round_of}
@@ -13,7 +14,7 @@ use Rattle.step_buffers.proofs.Common.{IsKept, IsLetter, AreLetters, IsEntry, Is
 use Rattle.step_buffers.proofs.Common.{Contains-nil, Contains-filter, Contains-from_filter, Contains-map}
 use Rattle.step_buffers.proofs.Common.{Contains-from_map, Entry, ids_of, kept_of, is_ahead, ahead, IsEntered, Held}
 use Rattle.step_buffers.proofs.Common.{kept_ids, IsMoved}
-use Rattle.step_buffers.proofs.StepPrefixes.{step_at-prefix, step_at-prefix_old, round_at-prefix}
+use Rattle.step_buffers.proofs.StepPrefixes.{round_at-prefix}
 use Rattle.step_buffers.proofs.HeardSenders.{IsTakenBy}
 use Rattle.step_buffers.proofs.BufferSteps.{is_taken-push}
 use Rattle.std.specs.List.Sorted.{IsPermutation}

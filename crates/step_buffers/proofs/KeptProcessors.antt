@@ -3,6 +3,7 @@ use Rattle.std.proofs.Common.{None, ℕ, zero, suc, ◌≡◌, ◌⊎◌, inl, i
 use Rattle.std.proofs.Common.{◌∙◌, subst, arith, ◌≢◌, ◌+◌, ◌-◌, ◌≤◌, get_or, Option, Bool, true, false, ◌==◌, ◌&&◌}
 use Rattle.std.specs.Prelude.{slice_get, slice_set}
 use Rattle.std.proofs.lemmas.Option.{same_Some, none-some, slice_get_read}
+use Rattle.step_trace.proofs.StepPrefixes.{IsWellFormed-prefix}
 use Rattle.step_buffers.proofs.Common.{Send, Step, Setup, IsProc, step_at, Recorded, IsWellFormed, step_at_within}
 use Rattle.step_buffers.proofs.Common.{slice_get-push_cases, opening, State, initial_value, state_after-opening}
 use Rattle.step_buffers.proofs.Common.{node_at, IsRun, IsProcessor, AreProcessors, AreLetters, Serves, IsInbox}
@@ -17,7 +18,6 @@ use Rattle.std.proofs.Math.Bool.{and-false}
 use Rattle.std.proofs.lemmas.Bool.{ne_eqb}
 use Rattle.std.proofs.lemmas.List.{length-set}
 use Rattle.step_buffers.specs.Queues.{Queue}
-use Rattle.step_buffers.proofs.StepPrefixes.{IsWellFormed-prefix}
 use Rattle.step_buffers.proofs.GrownNodes.{passed-ends, passed-stays, node_at-stays}
 use Rattle.step_buffers.proofs.BufferSteps.{buffer-sent_to, buffer-sent_elsewhere, buffer-received_elsewhere}
 

@@ -3,6 +3,7 @@
 use Rattle.std.proofs.Common.{ℕ, suc, Result, Ok, Err, ◌≡◌, ◌+◌, ◌-◌, ◌<◌, List, [], ◌∷◌, ◌++◌, length, Option, Some}
 use Rattle.std.proofs.Common.{None, Bool, true, false, cond, not, ◌&&◌, refl, sym, ap, subst, arith, eq-eqb, inl, inr}
 use Rattle.std.proofs.Common.{take, drop, ◌∙◌}
+use Rattle.step_trace.proofs.StepPrefixes.{step_at-prefix_old, IsWellFormed-prefix}
 use Rattle.step_buffers.proofs.HeardSenders.{Contains-numbers}
 use Rattle.std.specs.Prelude.{Contains, find, is_some, option_map, IfOk, OnOk, slice_get, IfErr}
 use Rattle.std.specs.declared.alloc.AllocError.{AllocError}
@@ -14,7 +15,6 @@ use Rattle.step_buffers.proofs.Common.{IdsNotRising, NotInBuffer, numbers, waits
 use Rattle.step_buffers.proofs.Common.{take_refusal, step_refusal, IsStepRefusal, due_for}
 use Rattle.step_buffers.specs.declared.moves.Move.TheVariants as move
 use Rattle.step_buffers.specs.Runs.{next_destination, IsDue, IsRun}
-use Rattle.step_buffers.proofs.StepPrefixes.{IsWellFormed-prefix, step_at-prefix_old}
 use Rattle.step_buffers.proofs.GrownNodes.{next_destination-prefix, IsRun-prefix, IsRun-push}
 use Rattle.step_buffers.proofs.RemovedIds.{is_in-member}
 use Rattle.std.proofs.lemmas.Option.{none-some, slice_get_within, slice_get_cases, get_or_from_slice_get}

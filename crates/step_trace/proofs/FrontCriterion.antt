@@ -1,10 +1,10 @@
 -- Which triples are on the front: those of a real-time step and its least bounds. The step is the first
 -- one, or one of these bounds isn't the least one from the step before.
-use Rattle.std.proofs.Common.{ℕ, ◌≡◌, ◌-◌, ◌<◌, ◌≤◌, inl, inr, subst, arith}
+use Rattle.std.proofs.Common.{ℕ, zero, suc, ◌≡◌, ◌+◌, ◌-◌, ◌<◌, ◌≤◌, inl, inr, subst, arith}
 use Rattle.std.proofs.lemmas.Bool.{cases_lt}
 use Rattle.step_trace.specs.Traces.{Recorded}
 use Rattle.step_trace.specs.Bounds.{DeltaHolds, PhiHolds, IsDelta, IsPhi}
-use Rattle.step_trace.specs.Fronts.{Triple, IsOnFront}
+use Rattle.step_trace.specs.Fronts.{Triple, IsFeasible, IsOnFront}
 use Rattle.step_trace.proofs.BoundLaws.{DeltaHolds-later, PhiHolds-later}
 use Rattle.step_trace.proofs.LeastBounds.{IsDelta-earlier, IsPhi-earlier}
 
@@ -63,3 +63,19 @@ IsOnFront-from_change set trace t start end d f change = record {
       (IsDelta-earlier set trace (t.gst - 1) t.gst t.delta d (omega arith) delta_before)
       (IsPhi-earlier set trace (t.gst - 1) t.gst t.phi f (omega arith) phi_before);
 }
+
+-- no feasible triple has nothing of the front at or below it
+pub front-below : (set : ℕ) (trace : Recorded) (size : ℕ) (t : Triple) → t.gst + t.delta + t.phi ≤ size → IsFeasible set trace t
+    → ((o : Triple) → IsOnFront set trace o → o.gst ≤ t.gst → o.delta ≤ t.delta → o.phi ≤ t.phi → ⊥) → ⊥
+front-below set trace zero t most feasible none = let start = feasible.start in omega arith
+front-below set trace (suc n) t most feasible none = none t
+    (record {
+      feasible = feasible;
+      undominated = λ o lower dominates.
+          let gst : o.gst ≤ t.gst = dominates.gst in
+          let delta : o.delta ≤ t.delta = dominates.delta in
+          let phi : o.phi ≤ t.phi = dominates.phi in
+          let less : o.gst + o.delta + o.phi ≤ n = elim dominates.smaller [ inl l ↦ omega arith | inr m ↦ elim m [ inl l ↦ omega arith | inr l ↦ omega arith ] ] in
+          front-below set trace n o less lower (λ q front a b c. none q front (omega arith) (omega arith) (omega arith));
+    })
+    (omega arith) (omega arith) (omega arith)

@@ -9,6 +9,8 @@ pub mod NamedReasons
 pub mod NumberLists
 pub mod TickOrder
 pub mod TickPositions
+pub mod TickSearches
+pub mod MessageNotes
 pub mod FittingTicks
 pub mod TickReasons
 pub mod Takes
@@ -17,6 +19,7 @@ pub mod UncheckedSteps
 pub mod PagePlaces
 pub mod KeptTicks
 pub mod PlacedNumbers
+pub mod StepPrefixes
 pub mod ExtendedTraces
 pub mod FirstDifferences
 pub mod SamePrefixes

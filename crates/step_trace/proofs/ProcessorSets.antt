@@ -2,7 +2,7 @@
 use Rattle.std.proofs.Common.{ℕ, ◌≡◌, ◌≢◌, ◌-◌, ◌*◌, ◌/◌, ◌%◌, ◌^◌, ◌<◌, ◌≤◌, ◌==◌, ◌&&◌, ◌↔◌, ◌∙◌, inl, inr, Bool, IsTrue, true, false, w64, arith, ap, refl}
 use Rattle.std.specs.Prelude.{nat_lt, nat_le, bit_or}
 use Rattle.std.specs.Int.{bit_at}
-use Rattle.std.proofs.lemmas.Bool.{cases_lt}
+use Rattle.std.proofs.lemmas.Bool.{and_parts, cases_lt, leb-true}
 use Rattle.std.proofs.lemmas.Bool.Decides.{nat_tests}
 use Rattle.std.proofs.lemmas.Nat.Bits.{bit_at_set_same, bit_at_set_other, bit_at_ones, bit_at_ones_above, ones_shr}
 use Rattle.step_trace.specs.declared.processors.TheConstants.{MAX_MEMBER}
@@ -51,3 +51,7 @@ has_all_to n p few = (inside, below) where
       let a : nat_lt 0 p ≡ true = grind (arith, nat_tests) in
       let b : nat_le p MAX_MEMBER ≡ true = grind (arith, nat_tests) in
       rw (a, b, bit_at_ones n (p - 1) (omega arith)) refl
+
+-- members are numbered up to MAX_MEMBER
+pub member_within : (set p : ℕ) → IsTrue (has_proc set p) → p ≤ MAX_MEMBER
+member_within set p m = leb-true p MAX_MEMBER (and_parts (nat_lt 0 p) (nat_le p MAX_MEMBER) (and_parts (nat_lt 0 p && nat_le p MAX_MEMBER) _ m).0).1

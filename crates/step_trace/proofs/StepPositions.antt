@@ -1,15 +1,18 @@
 -- Steps by their numbers, as a list of steps grows at its end.
-use Rattle.std.proofs.Common.{ℕ, ◌≡◌, ◌+◌, ◌<◌, ◌≤◌, ◌⊎◌, inl, inr, List, [], ◌∷◌, ◌++◌, length, Some, true, ◌==◌, refl, ap, ◌∙◌, suc, zero, arith, eq-eqb}
-use Rattle.std.specs.Prelude.{slice_get, Contains}
+use Rattle.std.proofs.Common.{ℕ, ◌≡◌, ◌+◌, ◌<◌, ◌≤◌, ◌⊎◌, inl, inr, List, [], ◌∷◌, ◌++◌, length, Some, true, ◌==◌, refl, sym, ap, ◌∙◌, suc, zero, arith, eq-eqb, get_or}
+use Rattle.std.specs.Prelude.{slice_get, All, Contains}
 use Rattle.std.proofs.lemmas.Option.{same_Some, none-some, slice_get_within, slice_get-get_or}
 use Rattle.std.proofs.lemmas.List.{get_or_default}
+use Rattle.std.proofs.lemmas.List.Elements.{Contains-get_or}
 use Rattle.std.proofs.lemmas.List.Folds.{list_any_at, Any-from_list_any}
 use Rattle.std.proofs.lemmas.Map.Keys.{any_passes_from_place}
 use Rattle.std.proofs.lemmas.Bool.{eqb-true}
 use Rattle.step_trace.specs.declared.steps.Act.{Act}
+use Rattle.step_trace.specs.declared.steps.Act.TheVariants.{Send}
 use Rattle.step_trace.specs.declared.steps.Step.{Step}
+use Rattle.step_trace.specs.Configurations.{Setup}
 use Rattle.step_trace.specs.Steps.{act_ids, act_takes}
-use Rattle.step_trace.specs.Traces.{step_at, TakesAt}
+use Rattle.step_trace.specs.Traces.{step_at, TakesAt, IsReceiveOf, IsWellFormed}
 use Rattle.step_trace.specs.PushRefusals.{is_taken}
 
 -- an element of the longer list is one of the shorter, or the new one
@@ -69,3 +72,33 @@ pub taken_at-from_is_taken : (steps : List Step) (s : ℕ) → is_taken steps s 
 taken_at-from_is_taken steps s h =
     let y = Any-from_list_any (λ x. act_takes x.act s) steps h in
     (suc y.0, (y.1, slice_get-get_or steps y.0 y.1 y.2 ∙ ap (λ (x : Step). Some x) y.3, Contains-from_takes y.1.act s y.4))
+
+-- one number has one step
+pub same_step : (steps : List Step) (k : ℕ) (x y : Step) → step_at steps k ≡ Some x → step_at steps k ≡ Some y → x ≡ y
+same_step steps k x y g h = same_Some x y (sym g ∙ h)
+
+-- a Receive is of one processor
+pub receive_unique : (steps : List Step) (k p q : ℕ) → IsReceiveOf steps k p → IsReceiveOf steps k q → p ≡ q
+receive_unique steps k p q g h = ap (λ (x : Step). x.proc) (same_step steps k _ _ g.step h.step)
+
+-- a Send is no Receive
+pub send_is_no_receive : (steps : List Step) (k a b p : ℕ) → step_at steps k ≡ Some (record { proc = a; act = Send b }) → IsReceiveOf steps k p → ⊥
+send_is_no_receive steps k a b p h r =
+    let same = ap (λ (x : Step). x.act) (same_step steps k _ _ h r.step) in
+    cc
+
+-- what a step takes was sent before it
+pub ids_earlier : (c : Setup) (steps : List Step) (k : ℕ) (x : Step) → IsWellFormed c steps → step_at steps k ≡ Some x → All (λ s. s < k) (act_ids x.act)
+ids_earlier c steps k x w is = λ i d inside. (w.earlier k (get_or (act_ids x.act) i d) x is (Contains-get_or (act_ids x.act) i d inside)).0
+
+-- so its ids are places of a list with one place more than there are steps
+pub ids_bound : (c : Setup) (steps : List Step) (k : ℕ) (x : Step) (list : List ℕ) → IsWellFormed c steps
+    → step_at steps k ≡ Some x → length list ≡ length steps + 1 → All (λ s. s < length list) (act_ids x.act)
+ids_bound c steps k x list w h long = λ i d inside.
+    let earlier = ids_earlier c steps k x w h i d inside in
+    let within = step_at_within steps k x h in
+    omega (arith, earlier, within, long)
+
+-- a step by its processor and its act
+pub with_act : (steps : List Step) (k : ℕ) (x : Step) (a : Act) → step_at steps k ≡ Some x → x.act ≡ a → step_at steps k ≡ Some (record { proc = x.proc; act = a })
+with_act steps k x a h e = h ∙ ap (λ (b : Act). let z : Step = record { proc = x.proc; act = b } in Some z) e

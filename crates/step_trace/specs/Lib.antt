@@ -7,6 +7,8 @@ pub mod KeptIds
 pub mod Steps
 pub mod Traces
 pub mod Ticks
+pub mod TickSteps
+pub mod MessageNotes
 pub mod Extensions
 pub mod Differences
 pub mod Cuts

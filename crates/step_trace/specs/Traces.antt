@@ -1,7 +1,8 @@
 -- Traces (section 2, the runs of a set of processors; the numbering of all steps from 1 is own).
-use Rattle.std.specs.Prelude.{ℕ, ◌≡◌, ◌<◌, ◌≤◌, List, length, Option, Some, None}
+use Rattle.std.specs.Prelude.{ℕ, ◌≡◌, ◌<◌, ◌≤◌, List, [], length, Option, Some, None}
 use Rattle.std.specs.Prelude.{slice_get, Contains, IfSome, suc, zero, Bool}
 use Rattle.std.specs.List.Sorted.{IsStrictlyIncreasing}
+use Rattle.std.specs.Option.{option_map_or}
 use Rattle.step_trace.specs.declared.traces.TheConstants.{MAX_STEPS}
 use Rattle.step_trace.specs.declared.steps.Act.{Act}
 use Rattle.step_trace.specs.declared.steps.Act.TheVariants.{Send, Receive}
@@ -50,3 +51,7 @@ pub record IsReceiveOf (steps : List Step) (r p : ℕ) : Type 0 where
 -- step x is one of processor p
 abbrev pub IsStepOf : List Step → ℕ → ℕ → Type 0
 IsStepOf steps x p = (a : Act) × (step_at steps x ≡ Some (record { proc = p; act = a }))
+
+-- the ids that step k takes: none if there is no such step
+abbrev pub ids_at : List Step → ℕ → List ℕ
+ids_at steps k = option_map_or (λ x. act_ids x.act) (step_at steps k) []

@@ -166,8 +166,9 @@ impl Trace {
     }
 
     /// The tick of the step of this number; 0 if there is no such step.
-    pub(crate) fn tick_at(&self, no: u64) -> u64
-        ensures { result ≡ tick_of self.now no }
+    pub fn tick_at(&self, no: u64) -> u64
+        ensures value { result ≡ tick_of self.now no }
+        ensures limit { result ≤ MAX_TICKS }
     {
         self.placed.tick(no)
     }

@@ -2,11 +2,11 @@
 use Rattle.std.proofs.Common.{ℕ, ◌≡◌, ◌+◌, ◌<◌, ◌≤◌, ◌==◌, inl, inr, List, length, get_or, set, Some, Bool, true, false, cond, refl, ap, subst, ◌∙◌, arith}
 use Rattle.std.specs.Prelude.{Contains}
 use Rattle.std.proofs.lemmas.Bool.{cases_lt, eqb-true, eqb-false}
+use Rattle.step_trace.proofs.StepPositions.{same_step}
 use Rattle.suffix_staircase.proofs.Common.{Act, Send, Receive, Step, Setup, act_ids, Recorded, step_at, TakesAt}
 use Rattle.suffix_staircase.proofs.Common.{IsReceiveOf, IsWellFormed, IsMessage, step_at_within, Receives, last_missed}
 use Rattle.suffix_staircase.proofs.Common.{IsLastReceive, KnowsReceives, IsDeliveredByNumber, IsMissByNumber}
 use Rattle.suffix_staircase.proofs.Common.{IsLastMissByNumber}
-use Rattle.suffix_staircase.proofs.ReceivesLowered.{same_step}
 
 -- who takes a message is its receiver
 pub taker_receives : (c : Setup) (steps : List Step) (x b place : ℕ) (a : ℕ) → IsWellFormed c steps

@@ -2,12 +2,12 @@
 use Rattle.std.proofs.Common.{ℕ, ◌≡◌, ◌+◌, ◌-◌, ◌<◌, ◌≤◌, inl, inr, Option, Some, None, Bool, true, false, IsTrue, cond, refl, ap, subst, arith}
 use Rattle.std.specs.Prelude.{nat_le}
 use Rattle.std.proofs.lemmas.Bool.{cases_eq, cases_lt, leb-true, leb-false}
+use Rattle.step_trace.proofs.StepPositions.{same_step}
 use Rattle.suffix_staircase.proofs.Common.{Miss, Step, has_proc, DeltaHolds, IsDelta, tick_of, Recorded, step_at}
 use Rattle.suffix_staircase.proofs.Common.{IsMiss, NamesMiss, Level, StandsBefore, KnowsMisses, NamesAfter}
 use Rattle.suffix_staircase.proofs.Common.{KnowsMissesAfter, with_miss, MissRefutes-sound, IsNamedMiss-refutes}
 use Rattle.suffix_staircase.proofs.Common.{DeltaHolds-unrefuted}
 use Rattle.suffix_staircase.proofs.MissNumbers.{IsLastMissOf}
-use Rattle.suffix_staircase.proofs.ReceivesLowered.{same_step}
 
 -- a bound with its named miss is positive
 delta_positive : (set : ℕ) (t : Recorded) (g d : ℕ) (o : Option Miss) → NamesMiss set t g d o → 1 ≤ d

@@ -1,5 +1,5 @@
 -- Misses by the numbers of their steps, and by their ticks.
-use Rattle.std.proofs.Common.{ℕ, ◌≡◌, ◌<◌, ◌≤◌, inl, inr, length, Some, sym, ap, ◌∙◌, suc, zero, arith}
+use Rattle.std.proofs.Common.{ℕ, ◌≡◌, ◌<◌, ◌≤◌, inl, inr, Some, sym, ap, ◌∙◌, suc, zero, arith}
 use Rattle.std.specs.Prelude.{◌↔◌}
 use Rattle.std.proofs.lemmas.Bool.{cases_lt}
 use Rattle.std.proofs.lemmas.Option.{same_Some}
@@ -76,10 +76,3 @@ IsLastMissOf-from_numbers set t w s r l = record {
   positive : (r : ℕ) → tick_of t s < tick_of t r → 0 < r
   positive zero h = absurd (omega arith)
   positive (suc k) h = omega arith
-
--- it is the number of a step, or 0
-pub last_miss_bound : (set : ℕ) (t : Recorded) (s r : ℕ) → IsLastMissByNumber set t.steps s r → r ≤ length t.steps
-last_miss_bound set t s r l = elim (cases_lt 0 r) [
-  | inl some ↦ (let inside = step_at_within t.steps r _ (l.found some).receive.step in omega (arith, inside))
-  | inr none ↦ omega (arith, none)
-]

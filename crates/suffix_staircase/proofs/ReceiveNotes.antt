@@ -1,29 +1,17 @@
 -- What is known of the Receives after a step, back over a Receive.
-use Rattle.std.proofs.Common.{ℕ, ◌≡◌, ◌≢◌, ◌+◌, ◌-◌, ◌<◌, ◌≤◌, ◌==◌, ◌||◌, take, ◌⊎◌, inl, inr, List, length, get_or}
+use Rattle.std.proofs.Common.{ℕ, ◌≡◌, ◌≢◌, ◌+◌, ◌-◌, ◌<◌, ◌≤◌, ◌==◌, ◌||◌, ◌⊎◌, inl, inr, List, length, get_or}
 use Rattle.std.proofs.Common.{set, Some, Bool, true, false, IsTrue, cond, refl, sym, ap, subst, ◌∙◌, arith}
 use Rattle.std.proofs.Common.{get_or-set_same, get_or-set_other}
 use Rattle.std.specs.Prelude.{Contains}
 use Rattle.std.specs.List.{list_any}
 use Rattle.std.proofs.lemmas.List.{length-set}
-use Rattle.std.proofs.lemmas.List.Folds.{list_any_more}
 use Rattle.std.proofs.lemmas.Bool.{cases_eq, cases_lt, eqb-true, eqb-false}
+use Rattle.step_trace.proofs.StepPositions.{same_step, receive_unique, send_is_no_receive}
 use Rattle.suffix_staircase.proofs.Common.{Receive, Step, act_ids, has_proc, Recorded, step_at, IsReceiveOf, IsSentTo}
 use Rattle.suffix_staircase.proofs.Common.{IsWellFormed, step_at_within, Contains-from_takes, act_takes-from_Contains}
 use Rattle.suffix_staircase.proofs.Common.{Receives, IsTaker, IsLastReceive, IsFirstReceive, KnowsReceives}
 use Rattle.suffix_staircase.proofs.Common.{NotesReceive}
-use Rattle.suffix_staircase.proofs.ReceivesLowered.{IsLastReceive-lower, IsFirstReceive-lower, IsTaker-lower, same_step, send_is_no_receive}
-
--- one id more, as at a step of a loop
-pub taken_noted : (old now ids : List ℕ) (x i s : ℕ) → i < length ids → length now ≡ length old
-    → get_or ids i 0 < length old → get_or now s 0 ≡ cond (list_any (λ k. k == s) (take i ids)) x (get_or old s 0)
-    → get_or (set now (get_or ids i 0) x) s 0 ≡ cond (list_any (λ k. k == s) (take (i + 1) ids)) x (get_or old s 0)
-taken_noted old now ids x i s below long inside known = rw (list_any_more (λ k. k == s) ids i 0 below) (go (list_any (λ k. k == s) (take i ids)) (get_or ids i 0 == s) known refl) where
-  go : (before here : Bool) → get_or now s 0 ≡ cond before x (get_or old s 0) → (get_or ids i 0 == s) ≡ here
-      → get_or (set now (get_or ids i 0) x) s 0 ≡ cond (before || here) x (get_or old s 0)
-  go true true k e = subst (λ (m : ℕ). get_or (set now (get_or ids i 0) x) m 0 ≡ x) (eqb-true (get_or ids i 0) s e) (get_or-set_same now (get_or ids i 0) x 0 (omega (arith, long, inside)))
-  go false true k e = subst (λ (m : ℕ). get_or (set now (get_or ids i 0) x) m 0 ≡ x) (eqb-true (get_or ids i 0) s e) (get_or-set_same now (get_or ids i 0) x 0 (omega (arith, long, inside)))
-  go true false k e = get_or-set_other now (get_or ids i 0) s x 0 (λ q. eqb-false (get_or ids i 0) s e (sym q)) ∙ k
-  go false false k e = get_or-set_other now (get_or ids i 0) s x 0 (λ q. eqb-false (get_or ids i 0) s e (sym q)) ∙ k
+use Rattle.suffix_staircase.proofs.ReceivesLowered.{IsLastReceive-lower, IsFirstReceive-lower, IsTaker-lower}
 
 -- the notes of taken messages
 IsTaker-noted : (steps : List Step) (x p s old : ℕ) (ids : List ℕ) (ends : Bool) → 1 ≤ x → step_at steps x ≡ Some (record { proc = p; act = Receive ends ids }) → IsTaker steps x s old
@@ -38,10 +26,6 @@ IsTaker-noted steps x p s old ids ends low h k = go (list_any (λ i. i == s) ids
       let same = same_step steps x _ _ t.1 h in
       let f = act_takes-from_Contains (Receive ends ids) s (subst (λ (z : Step). Contains (act_ids z.act) s) same t.2) in
       cc) k
-
--- a Receive is of one processor
-receive_unique : (steps : List Step) (x p q : ℕ) → IsReceiveOf steps x p → IsReceiveOf steps x q → p ≡ q
-receive_unique steps x p q g h = ap (λ (z : Step). z.proc) (same_step steps x _ _ g.step h.step)
 
 -- a last Receive that there is stays it back over an earlier one
 IsLastReceive-noted : (steps : List Step) (p x high r : ℕ) → 1 ≤ x → IsReceiveOf steps x p → x < high → (r ≡ 0 → ⊥) → IsLastReceive steps p x high r → IsLastReceive steps p (x - 1) high r

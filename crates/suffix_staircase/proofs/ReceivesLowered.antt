@@ -1,18 +1,14 @@
 -- What is known of the Receives after a step: at the end, and back over a step that is no Receive of a member.
-use Rattle.std.proofs.Common.{ℕ, ◌≡◌, ◌+◌, ◌-◌, ◌≤◌, inl, inr, List, length, get_or, Some, IsTrue, refl, sym, ap, subst, ◌∙◌, suc, zero, arith, replicate}
+use Rattle.std.proofs.Common.{ℕ, ◌≡◌, ◌+◌, ◌-◌, ◌≤◌, inl, inr, List, length, Some, IsTrue, refl, sym, ap, subst, ◌∙◌, arith, replicate}
 use Rattle.std.specs.Prelude.{Contains}
 use Rattle.std.proofs.lemmas.List.{length-replicate}
 use Rattle.std.proofs.lemmas.Option.{same_Some}
 use Rattle.std.proofs.lemmas.Bool.{cases_eq}
+use Rattle.step_trace.proofs.StepPositions.{same_step, send_is_no_receive}
+use Rattle.step_trace.proofs.MessageNotes.{get_or-zeros}
 use Rattle.suffix_staircase.proofs.Common.{Send, Step, act_ids, has_proc, Recorded, step_at, TakesAt, IsReceiveOf}
 use Rattle.suffix_staircase.proofs.Common.{IsSentTo, IsWellFormed, step_at_within, Receives, IsTaker, IsLastReceive}
 use Rattle.suffix_staircase.proofs.Common.{IsFirstReceive, KnowsReceives}
-
--- each place of a list of zeros holds 0
-get_or-zeros : (m k : ℕ) → get_or {A = ℕ} (replicate m 0) k 0 ≡ 0
-get_or-zeros zero k = refl
-get_or-zeros (suc m) zero = refl
-get_or-zeros (suc m) (suc k) = get_or-zeros m k
 
 -- after the last step there is no Receive
 pub KnowsReceives-after_all : (set : ℕ) (t : Recorded) (r : Receives) → r.links.items ≡ replicate (length t.steps + 1) 0
@@ -65,16 +61,6 @@ send_takes_none steps x a b s h t =
     let same : record { proc = a; act = Send b } ≡ t.0 = same_Some _ t.0 (sym h ∙ t.1) in
     let none = subst (λ (z : Step). Contains (act_ids z.act) s) (sym same) t.2 in
     omega (arith, none.1)
-
--- one number has one step
-pub same_step : (steps : List Step) (x : ℕ) (y z : Step) → step_at steps x ≡ Some y → step_at steps x ≡ Some z → y ≡ z
-same_step steps x y z g h = same_Some y z (sym g ∙ h)
-
--- a Send is no Receive
-pub send_is_no_receive : (steps : List Step) (x a b p : ℕ) → step_at steps x ≡ Some (record { proc = a; act = Send b }) → IsReceiveOf steps x p → ⊥
-send_is_no_receive steps x a b p h r =
-    let same = ap (λ (z : Step). z.act) (same_step steps x _ _ h r.step) in
-    cc
 
 -- back over a step that takes no message to a member, and is no Receive of one, nothing changes
 KnowsReceives-lower : (set : ℕ) (t : Recorded) (x : ℕ) (r : Receives) → 1 ≤ x → ((s p : ℕ) → IsTrue (has_proc set p) → IsSentTo t.steps s p → ¬ TakesAt t.steps x s)

@@ -2,12 +2,12 @@
 -- is also one by the numbers of its steps, as long as its Receive is in a later tick than its Send.
 use Rattle.std.specs.Prelude.{ℕ, ◌≡◌, ◌+◌, ◌<◌, ◌≤◌, ◌==◌, List, ◌∷◌, length}
 use Rattle.std.specs.Prelude.{slice_index, slice_set, IsTrue, if◌then◌else◌}
-use Rattle.std.specs.List.{list_any}
 use Rattle.step_trace.specs.declared.rows.Miss.{Miss}
 use Rattle.step_trace.specs.declared.steps.Step.{Step}
 use Rattle.step_trace.specs.Processors.{has_proc}
 use Rattle.step_trace.specs.Traces.{Recorded, TakesAt, IsReceiveOf, IsSentTo}
 use Rattle.step_trace.specs.Bounds.{IsMessage}
+use Rattle.step_trace.specs.MessageNotes.{AreNoted}
 use Rattle.suffix_staircase.specs.declared.receives.Receives.{Receives}
 
 -- some Receive after message s, up to number y, takes it
@@ -60,16 +60,11 @@ pub record KnowsReceives (set : ℕ) (trace : Recorded) (x : ℕ) (r : Receives)
   pub last : (p : ℕ) → p ≤ trace.config.n → IsTrue (has_proc set p)
       → IsLastReceive trace.steps p x (length trace.steps + 1) (slice_index r.last.items p)
 
--- x is noted at these places, and at others there is what was before
-abbrev pub NotesAt : ℕ → List ℕ → List ℕ → List ℕ → Type 0
-NotesAt x places old new = (s : ℕ)
-    → slice_index new s ≡ (if list_any (λ i. i == s) places then x else slice_index old s)
-
 -- what changes if the Receive x of p, which takes these messages, is scanned: it is linked from them, and from the
 -- Receive of p that follows
 pub record NotesReceive (x p : ℕ) (ids : List ℕ) (old new : Receives) : Type 0 where
   pub long : length new.links.items ≡ length old.links.items
-  pub links : NotesAt x (slice_index old.first.items p ∷ ids) old.links.items new.links.items
+  pub links : AreNoted x (slice_index old.first.items p ∷ ids) old.links.items new.links.items
   pub first : new.first.items ≡ slice_set old.first.items p x
   pub last : new.last.items
       ≡ (if slice_index old.last.items p == 0 then slice_set old.last.items p x else old.last.items)

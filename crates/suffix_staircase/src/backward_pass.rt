@@ -14,10 +14,10 @@ ghost use Rattle.suffix_staircase.specs.Analysis.{AreIdleUpTo, with_miss, with_g
 
 use crate::levels::Level;
 use crate::next_steps::NextSteps;
-use crate::receives::{Receives, step_of};
+use crate::receives::Receives;
 use crate::staircases::StairBuilder;
 use std::alloc::{AllocError, Global};
-use step_trace::{Gap, Miss, ProcSet, Trace};
+use step_trace::{Gap, Miss, ProcSet, Trace, step_of};
 
 /// What is known of the scanned steps of a trace, from the last one back, and of the ticks.
 #[derive(Debug, Drop)]
@@ -88,7 +88,7 @@ impl Pass {
         }
         let missed = self.receives.step_back(trace, self.set, no);
         self.next_steps.step_back(trace, self.set, no, tick);
-        let long = tick_of(trace, missed).saturating_sub(tick);
+        let long = trace.tick_at(missed).saturating_sub(tick);
         note_miss(&mut self.level, Miss { sent: no, missed }, long);
     }
 
@@ -112,7 +112,7 @@ impl Pass {
             builder.new) }
         ensures tick { IfOk result (λ tick. tick ≡ tick_of trace.now done) }
     {
-        let tick = tick_of(trace, done);
+        let tick = trace.tick_at(done);
         for g in (tick + 1..high + 1).rev() {
             builder.lower(self.tick_back(g))?;
         }
@@ -136,15 +136,6 @@ impl Pass {
         note_gap(&mut self.level, self.next_steps.latest(), g, until);
         self.level
     }
-}
-
-/// The tick of the step of this number, and 0 for number 0.
-fn tick_of(trace: &Trace, no: u64) -> u64
-    requires { no ≤ length trace.now.steps }
-    ensures value { result ≡ tick_of trace.now no }
-    ensures limit { result ≤ MAX_TICKS }
-{
-    if no == 0 { 0 } else { trace.tick(no) }
 }
 
 /// Takes a miss of this length, in ticks, into the level, if its bound allows no such miss.

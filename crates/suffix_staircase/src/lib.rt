@@ -10,5 +10,5 @@ mod stretches;
 
 pub use backward_pass::{note_gap, note_miss};
 pub use levels::Level;
-pub use receives::{Receives, step_of};
+pub use receives::Receives;
 pub use staircases::{StairBuilder, Stairs};

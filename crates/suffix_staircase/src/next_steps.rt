@@ -9,9 +9,8 @@ ghost use Rattle.step_trace.specs.Traces.{step_at};
 ghost use Rattle.step_trace.specs.Ticks.{tick_of, IsTimed};
 ghost use Rattle.suffix_staircase.specs.NextSteps.{AreNextTicks, IsLatest, KnowsNextSteps};
 
-use crate::receives::step_of;
 use std::alloc::{AllocError, Global};
-use step_trace::{ProcSet, Trace};
+use step_trace::{ProcSet, Trace, step_of};
 
 /// What is known of the gaps that begin at a tick: the longest is that of the member whose next step
 /// comes last.

@@ -2,14 +2,14 @@
 //!
 //! Steps and processors are numbered from 1, and 0 denotes none.
 
-ghost use Rattle.std.specs.Prelude.{ℕ, ◌≡◌, ◌-◌, ◌<◌, ◌≤◌, length, Some, All, IfOk, slice_index, replicate};
+ghost use Rattle.std.specs.Prelude.{ℕ, ◌≡◌, ◌-◌, ◌<◌, ◌≤◌, length, All, IfOk, slice_index, replicate};
 ghost use Rattle.step_trace.specs.declared.traces.TheConstants.{MAX_STEPS};
-ghost use Rattle.step_trace.specs.Traces.{step_at, IsWellFormed};
-ghost use Rattle.suffix_staircase.specs.Receives.{KnowsReceives, NotesReceive, NotesAt};
+ghost use Rattle.step_trace.specs.Traces.{IsWellFormed};
+ghost use Rattle.suffix_staircase.specs.Receives.{KnowsReceives, NotesReceive};
 ghost use Rattle.suffix_staircase.specs.Receives.{IsLastMissByNumber, last_missed};
 
 use std::alloc::{AllocError, Global};
-use step_trace::{Act, ProcSet, Step, Trace};
+use step_trace::{Act, ProcSet, Trace, note_messages, step_of};
 
 /// What is known of the Receives of members after a step. One list has an entry for each step, so the entries are no
 /// wider than a number of a step needs.
@@ -22,19 +22,6 @@ pub struct Receives {
     first: Vec<u32>,
     // For each member, its last Receive after the step.
     last: Vec<u32>,
-}
-
-/// The step of this number.
-pub fn step_of(trace: &Trace, no: u64) -> &Step
-    requires low { 1 ≤ no }
-    requires high { no ≤ length trace.now.steps }
-    ensures step { step_at trace.now.steps no ≡ Some result.now }
-    ensures sound { IsWellFormed trace.now.config trace.now.steps }
-{
-    match trace.step(no) {
-        Some(step) => step,
-        None => unreachable!(),
-    }
 }
 
 /// So many zeros.
@@ -113,24 +100,12 @@ impl Receives {
         requires next { slice_index self.old.first.items proc < length self.old.links.items }
         ensures { NotesReceive no proc ids.now self.old self.new }
     {
-        note_takes(&mut self.links, no, ids);
+        note_messages(&mut self.links, ids, no as u32);
         let next = self.first[proc as usize];
         self.links[next as usize] = no as u32;
         self.first[proc as usize] = no as u32;
         if self.last[proc as usize] == 0 {
             self.last[proc as usize] = no as u32;
         }
-    }
-}
-
-/// Notes that the Receive of number `no` takes these messages.
-fn note_takes(links: &mut Vec<u32>, no: u64, ids: &[u64])
-    requires limit { no ≤ MAX_STEPS }
-    requires ids { All (λ s. s < length links.old.items) ids.now }
-    ensures len { length links.new.items ≡ length links.old.items }
-    ensures taken { NotesAt no ids.now links.old.items links.new.items }
-{
-    for s in ids {
-        links[*s as usize] = no as u32;
     }
 }

@@ -9,9 +9,8 @@ use Rattle.step_trace.specs.declared.steps.Act.TheVariants.{Send, Receive}
 use Rattle.step_trace.specs.declared.steps.Step.{Step}
 use Rattle.step_trace.specs.Traces.{Recorded, step_at, IsReceiveOf}
 use Rattle.step_trace.specs.Ticks.{tick_of, IsTimed}
-use Rattle.step_trace.proofs.StepPositions.{step_at_within}
+use Rattle.step_trace.proofs.StepPositions.{step_at_within, same_step}
 use Rattle.step_trace.proofs.TickOrder.{ticks_rise, one_in_tick}
-use Rattle.suffix_staircase.proofs.ReceivesLowered.{same_step}
 use Rattle.chunk_join.specs.declared.summaries.Place.{Place}
 use Rattle.chunk_join.specs.Summaries.{IsLastReceive}
 use Rattle.chunk_join.specs.Parts.{later_of, after}

@@ -6,8 +6,8 @@ use Rattle.step_trace.specs.declared.steps.Step.{Step}
 use Rattle.step_trace.specs.Traces.{Recorded, TakesAt, IsReceiveOf}
 use Rattle.step_trace.specs.Ticks.{tick_of, IsTrace}
 use Rattle.step_trace.specs.Bounds.{IsMessage}
+use Rattle.step_trace.proofs.StepPositions.{same_step}
 use Rattle.suffix_staircase.proofs.LastMisses.{taker_receives}
-use Rattle.suffix_staircase.proofs.ReceivesLowered.{same_step}
 use Rattle.chunk_join.specs.declared.summaries.Place.{Place}
 use Rattle.chunk_join.specs.declared.summaries.Fate.{Fate}
 use Rattle.chunk_join.specs.declared.summaries.Fate.TheVariants.{Open, Taken}

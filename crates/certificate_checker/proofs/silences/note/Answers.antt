@@ -1,7 +1,7 @@
 use Rattle.std.proofs.Common.{IsTrue, ◌∙◌, refl, sym, length, arith}
 use Rattle.std.proofs.lemmas.Option.{slice_get_read}
+use Rattle.step_trace.proofs.StepPositions.{with_act}
 use Rattle.certificate_checker.proofs.Common.{has_proc, IsStepOf}
-use Rattle.certificate_checker.proofs.StepFacts.{with_act}
 use Rattle.certificate_checker.proofs.SilenceSteps.{KnowsSilence-own, KnowsSilences-note, KnowsSilences-other}
 use Rattle.certificate_checker.proofs.silences.note.Goals as goal
 

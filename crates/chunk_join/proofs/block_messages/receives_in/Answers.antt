@@ -1,9 +1,10 @@
 use Rattle.std.proofs.Common.{◌≤◌, ◌<◌, ◌⊎◌, inl, inr, ◌+◌, ◌-◌, ◌≡◌, ◌++◌, [], length, map, replicate, Option, Some, None, refl, sym, subst, arith, rules}
 use Rattle.step_trace.specs.declared.processors.TheConstants.{MAX_MEMBER}
+use Rattle.step_trace.specs.Traces.{ids_at}
 use Rattle.step_trace.specs.Ticks.{tick_of}
 use Rattle.chunk_join.specs.declared.summaries.Place.{Place}
 use Rattle.chunk_join.specs.TickSteps.{IsReceiverAt}
-use Rattle.chunk_join.specs.BlockSteps.{take_of, ids_at, AreTakesBy}
+use Rattle.chunk_join.specs.BlockSteps.{take_of, AreTakesBy}
 use Rattle.chunk_join.proofs.BlockMessages.{step_after, last_none, last_same}
 use Rattle.chunk_join.proofs.BlockTakes.{any_takes_none, any_takes_same, receives_more}
 use Rattle.chunk_join.proofs.block_messages.receives_in.Goals as goal
@@ -30,9 +31,9 @@ loop-no-preserved c =
     let more : c.args.before ≤ no + 1 = omega (arith, order) in
     let inside : no < length t.steps = omega (arith, c.loop-no-test.true, c.requires.within) in
     let low = step_after t c.args.from c.args.before no c.requires.low c.requires.first order inside in
-    elim c.match-receiver.branch [
+    elim c.match-receiving_member.branch [
       | in-Some+in_ok-append_takes w ↦ (
-          let r = subst (IsReceiverAt c.args.set t.steps (no + 1)) w.in-Some.is c.receiver.ensures in
+          let r = subst (IsReceiverAt c.args.set t.steps (no + 1)) w.in-Some.is c.receiving_member.ensures in
           let both = receives_more c.args.set t c.requires.sound i no w.in-Some.by
           (tick_of t (no + 1)) w.last_of-missed.result low refl r.1 r.0 c.loop-no.taken.items c.loop-no.last.items
           (search rules) c.loop-no.invariant.1 c.loop-no.invariant.2 in
@@ -41,7 +42,7 @@ loop-no-preserved c =
           w.last_of-missed.result) (ids_at t.steps (no + 1)) = search rules in
           rw (w.taken-is, w.last-is, w.of-at.ensures) (more, subst (AreTakesBy c.args.set t i (no + 1) []) (sym items) both.0, both.1))
       | in_default w ↦ (
-          let none = subst (IsReceiverAt c.args.set t.steps (no + 1)) w.in_default.is c.receiver.ensures in
+          let none = subst (IsReceiverAt c.args.set t.steps (no + 1)) w.in_default.is c.receiving_member.ensures in
           rw (w.taken-is, w.last-is) (more, any_takes_same c.args.set t i no c.loop-no.taken.items none c.loop-no.invariant.1, last_same c.args.set t i no c.loop-no.last.items none c.loop-no.invariant.2))
     ]
 

@@ -1,6 +1,6 @@
 use Rattle.std.proofs.Common.{sym, subst, arith}
 use Rattle.std.specs.Prelude.{◌+◌}
-use Rattle.chunk_join.specs.TickSteps.{AreStepsBefore}
+use Rattle.step_trace.specs.TickSteps.{AreStepsBefore}
 use Rattle.chunk_join.proofs.TickSearches.{come_stop, all_steps}
 use Rattle.chunk_join.proofs.tick_steps.steps_through.Goals as goal
 

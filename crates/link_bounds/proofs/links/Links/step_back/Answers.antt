@@ -3,7 +3,7 @@ use Rattle.std.proofs.lemmas.List.{length-set, get_or_read}
 use Rattle.std.proofs.lemmas.Option.{same_Some}
 use Rattle.step_trace.specs.declared.steps.Step.{Step}
 use Rattle.suffix_staircase.proofs.LongestGaps.{member_range}
-use Rattle.suffix_staircase.proofs.MissNumbers.{IsLastMissOf-from_numbers, last_miss_bound}
+use Rattle.suffix_staircase.proofs.MissNumbers.{IsLastMissOf-from_numbers}
 use Rattle.link_bounds.specs.Evidence.{noted, without_evidence}
 use Rattle.link_bounds.specs.Links.{IsMessageOn}
 use Rattle.link_bounds.specs.KnownMisses.{place_of}
@@ -16,9 +16,6 @@ use Rattle.link_bounds.proofs.links.Links.step_back.Goals as goal
 
 pub returns-in_default : goal.returns-in_default
 returns-in_default c = KnowsLinks-pass c.args.set c.args.trace.now c.args.no c.args.self.now c.requires.low c.in_default.ensures c.requires.known
-
-pub tick_of-requires : goal.tick_of-requires
-tick_of-requires c = last_miss_bound c.args.set c.args.trace.now c.args.no c.args.missed c.requires.missed
 
 pub returns : goal.returns
 returns c =
@@ -40,7 +37,7 @@ returns c =
     let slot : c.index.result.now ≡ get_or bounds at None = get_or_read bounds at c.index.result.now place (rw c.place_of-place.ensures at c.index.ensures) None in
     let bound : c.unwrap_or-bound.result ≡ unwrap_or (get_or bounds at None) without_evidence =
     c.unwrap_or-bound.ensures ∙ ap (λ (b : LeastBound Miss). unwrap_or c.index.result.now b) c.without_evidence.ensures ∙ ap (λ (o : Option (LeastBound Miss)). unwrap_or o without_evidence) slot in
-    let span : c.saturating_sub-long.result ≡ tick_of t c.args.missed - tick_of t c.args.no = omega (arith, c.saturating_sub-long.ensures, c.tick_of.ensures.value, c.tick.ensures.value) in
+    let span : c.saturating_sub-long.result ≡ tick_of t c.args.missed - tick_of t c.args.no = omega (arith, c.saturating_sub-long.ensures, c.tick_at.ensures.value, c.tick.ensures.value) in
     let miss : Miss = record { sent = c.args.no; missed = c.args.missed } in
     let new : c.note.new.self ≡ noted (unwrap_or (get_or bounds at None) without_evidence) miss (tick_of t c.args.missed - tick_of t c.args.no) =
     c.note.ensures ∙ ap (λ (b : LeastBound Miss). noted b miss c.saturating_sub-long.result) bound ∙ ap (λ (n : ℕ). noted (unwrap_or (get_or bounds at None) without_evidence) miss n) span in

@@ -1,9 +1,10 @@
 use Rattle.std.proofs.Common.{ℕ, ◌≡◌, ◌-◌, IsTrue, refl, sym, ap, subst, ◌∙◌, arith}
+use Rattle.step_trace.proofs.StepPositions.{same_step}
 use Rattle.suffix_staircase.proofs.Common.{Step, has_proc, tick_of, Level, with_miss}
 use Rattle.suffix_staircase.proofs.MissBounds.{KnowsMissesAfter-other, MissesLowered, MissesLowered-with_miss}
-use Rattle.suffix_staircase.proofs.MissNumbers.{IsLastMissOf-from_numbers, last_miss_bound}
+use Rattle.suffix_staircase.proofs.MissNumbers.{IsLastMissOf-from_numbers}
 use Rattle.suffix_staircase.proofs.NextSteps.{AreNextTicks-other}
-use Rattle.suffix_staircase.proofs.ReceivesLowered.{KnowsReceives-other, same_step}
+use Rattle.suffix_staircase.proofs.ReceivesLowered.{KnowsReceives-other}
 use Rattle.suffix_staircase.proofs.backward_pass.Pass.step_back.Goals as goal
 use Rattle.suffix_staircase.proofs.backward_pass.Pass.step_back.Goals.{After-note_miss}
 
@@ -32,9 +33,6 @@ step_back-requires-clause-member c =
     let same = same_step c.args.trace.now.steps c.args.no x c.step_of.result.now at c.step_of.ensures.step in
     subst (λ (s : Step). IsTrue (has_proc set s.proc)) (sym same) (sym c.contains.ensures ∙ c.if-not-contains.false)
 
-pub tick_of-requires : goal.tick_of-requires
-tick_of-requires c = last_miss_bound c.args.self.now.set c.args.trace.now c.args.no c.step_back-missed.result c.step_back-missed.ensures.missed
-
 -- one step back by the last Receive that misses its message
 lowered : (c : After-note_miss) → MissesLowered c.args.self.now.set c.args.trace.now (c.args.no - 1) c.args.self.now.level c.note_miss.new.level
 lowered c =
@@ -42,7 +40,7 @@ lowered c =
     let level = c.args.self.now.level in
     let missed = c.step_back-missed.result in
     let last = IsLastMissOf-from_numbers c.args.self.now.set t (record { steps = c.step_back-missed.ensures.sound; time = c.requires.timed }) c.args.no missed c.step_back-missed.ensures.missed in
-    let long : c.saturating_sub-long.result ≡ tick_of t missed - tick_of t c.args.no = omega (arith, c.saturating_sub-long.ensures, c.tick_of.ensures.value, c.requires.tick) in
+    let long : c.saturating_sub-long.result ≡ tick_of t missed - tick_of t c.args.no = omega (arith, c.saturating_sub-long.ensures, c.tick_at.ensures.value, c.requires.tick) in
     let is = c.note_miss.ensures ∙ ap (λ (n : ℕ). with_miss level (record { sent = c.args.no; missed = missed }) n) long in
     subst (λ (l : Level). MissesLowered c.args.self.now.set t (c.args.no - 1) level l) (sym is)
     (MissesLowered-with_miss c.args.self.now.set t c.args.no missed level c.requires.low c.requires.known.misses last)

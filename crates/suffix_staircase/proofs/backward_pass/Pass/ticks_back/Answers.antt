@@ -18,7 +18,7 @@ lowered c =
     let next : c.loop-g.g ≡ g + 1 = omega (arith, c.loop-g-test.true) in
     TickLowered-with_gap c.args.self.now.set c.args.trace.now c.args.done c.args.high g c.loop-g.self c.tick_back.new.self c.loop-g.builder
     c.requires.timed c.requires.within c.requires.done c.requires.idle
-    (omega (arith, c.loop-g-test.true, c.tick_of-tick.ensures.value))
+    (omega (arith, c.loop-g-test.true, c.tick_at-tick.ensures.value))
     (omega (arith, c.loop-g.invariant.high, c.loop-g-test.true)) (rw next at c.loop-g.invariant.known)
     (record { set = c.tick_back.ensures.set; receives = c.tick_back.ensures.receives; next_steps = c.tick_back.ensures.next_steps })
     (c.tick_back.ensures.kept ∙ c.tick_back.ensures.level)
@@ -33,7 +33,7 @@ lower-requires-clause-falling c = rw c.tick_back.ensures.kept at (lowered c).fal
 pub loop-g-preserved : goal.loop-g-preserved
 loop-g-preserved c =
     record {
-      low = omega (arith, c.loop-g-test.true, c.tick_of-tick.ensures.value);
+      low = omega (arith, c.loop-g-test.true, c.tick_at-tick.ensures.value);
       high = omega (arith, c.loop-g.invariant.high);
       known = subst (λ (levels : List Level). KnowsTicksFrom c.args.self.now.set c.args.trace.now c.args.done (c.loop-g.g - 1) c.tick_back.new.self levels)
           (ap (λ (l : Level). l ∷ c.loop-g.builder) c.tick_back.ensures.kept ∙ sym c.in_ok-lower.ensures.ok) (lowered (goal.at.loop-g-preserved c).After-tick_back).known;
@@ -41,5 +41,5 @@ loop-g-preserved c =
 
 pub returns : goal.returns
 returns c =
-    let first : c.loop-g.g ≡ tick_of c.args.trace.now c.args.done + 1 = omega (arith, c.loop-g.invariant.low, c.tick_of-tick.ensures.value, c.loop-g-test.false) in
-    record { known = rw first at c.loop-g.invariant.known; tick = c.tick_of-tick.ensures.value }
+    let first : c.loop-g.g ≡ tick_of c.args.trace.now c.args.done + 1 = omega (arith, c.loop-g.invariant.low, c.tick_at-tick.ensures.value, c.loop-g-test.false) in
+    record { known = rw first at c.loop-g.invariant.known; tick = c.tick_at-tick.ensures.value }

@@ -1,8 +1,9 @@
 use Rattle.std.proofs.Common.{◌∙◌, arith, sym}
+use Rattle.step_trace.proofs.StepPositions.{ids_bound, with_act}
 use Rattle.suffix_staircase.proofs.ReceivesLowered.{KnowsReceives-send, KnowsReceives-other}
 use Rattle.suffix_staircase.proofs.ReceiveNotes.{KnowsReceives-receive}
 use Rattle.suffix_staircase.proofs.LastMisses.{IsLastMissByNumber-from_known}
-use Rattle.suffix_staircase.proofs.ReceiveBounds.{with_act, dest_bound, ids_bound, first_bound, taker_bound}
+use Rattle.suffix_staircase.proofs.ReceiveBounds.{dest_bound, first_bound, taker_bound}
 use Rattle.suffix_staircase.proofs.receives.Receives.step_back.Goals as goal
 
 pub last_missed-requires-clause-to : goal.last_missed-requires-clause-to
@@ -19,8 +20,7 @@ last_missed-requires-clause-taken c = taker_bound c.args.set c.args.trace.now c.
 
 pub note-requires-clause-ids : goal.note-requires-clause-ids
 note-requires-clause-ids c = rw c.as_slice.ensures
-    (ids_bound c.args.trace.now.config c.args.trace.now.steps c.args.no c.step_of-step.result.now.proc c.in-Receive.ids
-    c.args.self.now.links.items c.in-Receive.ends c.step_of-step.ensures.sound
+    (ids_bound c.args.trace.now.config c.args.trace.now.steps c.args.no _ c.args.self.now.links.items c.step_of-step.ensures.sound
     (with_act c.args.trace.now.steps c.args.no c.step_of-step.result.now _ c.step_of-step.ensures.step
     c.in-Receive.is) c.requires.known.links_long)
 

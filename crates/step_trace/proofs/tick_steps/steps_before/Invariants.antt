@@ -1,6 +1,6 @@
 use Rattle.std.proofs.Common.{◌-◌}
-use Rattle.chunk_join.proofs.TickSearches.{IsSearched}
-use Rattle.chunk_join.proofs.tick_steps.steps_before.Given as goal
+use Rattle.step_trace.proofs.TickSearches.{IsSearched}
+use Rattle.step_trace.proofs.tick_steps.steps_before.Given as goal
 
 abbrev pub invariant-loop-low : goal.invariant-loop-low
 invariant-loop-low l = IsSearched l.trace l.tick l.low l.high

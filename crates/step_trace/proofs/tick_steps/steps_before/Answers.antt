@@ -1,6 +1,6 @@
 use Rattle.std.proofs.Common.{◌+◌, ◌-◌, ◌/◌, ◌<◌, arith}
-use Rattle.chunk_join.proofs.TickSearches.{searched_up, searched_down}
-use Rattle.chunk_join.proofs.tick_steps.steps_before.Goals as goal
+use Rattle.step_trace.proofs.TickSearches.{searched_up, searched_down}
+use Rattle.step_trace.proofs.tick_steps.steps_before.Goals as goal
 
 pub loop-low-preserved-then-tick : goal.loop-low-preserved-then-tick
 loop-low-preserved-then-tick c =

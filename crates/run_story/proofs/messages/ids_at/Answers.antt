@@ -1,6 +1,0 @@
-use Rattle.std.proofs.Common.{sym}
-use Rattle.run_story.proofs.StepFacts.{ids_earlier}
-use Rattle.run_story.proofs.messages.ids_at.Goals as goal
-
-pub returns-in-Some-clause-earlier : goal.returns-in-Some-clause-earlier
-returns-in-Some-clause-earlier c = rw c.ids.ensures (ids_earlier c.args.trace.now.config c.args.trace.now.steps c.args.no c.in-Some.step.now c.in-Some.ensures.sound (sym c.in-Some.ensures.value))
