@@ -16,7 +16,7 @@ use Rattle.clock_offsets.specs.MovedClocks.{moved_event}
 use Rattle.event_log.specs.declared.reading.TheConstants.{MAX_EVENTS}
 use Rattle.event_log.specs.declared.times.TimeKind.{TimeKind}
 use Rattle.event_log.specs.Events.{seen}
-use Rattle.event_log.specs.Imports.{event_place, IsBehindCycle}
+use Rattle.event_log.specs.EventRefusals.{event_place, IsBehindCycle}
 use Rattle.event_log.specs.SoundLogs.{IsSound, IsWithin}
 use Rattle.event_log.proofs.EventPlaces.{fault-within}
 use Rattle.event_log.proofs.LogCycles.{fault-behind}

@@ -13,7 +13,7 @@ use Rattle.timed_events.specs.Checks.{processor_at, second_refusal, was_received
 use Rattle.step_trace.specs.declared.traces.TheConstants.{MAX_TICKS}
 use Rattle.timed_events.specs.Times.{end_time, greatest_time, last_tick, time_ticks, times_refusal}
 use Rattle.timed_events.specs.Spreads.{IsAfterTimes, IsCausalRefusal, IsSpreadRefusal, IsTimedRefusal}
-use Rattle.event_log.specs.Imports.{event_place}
+use Rattle.event_log.specs.EventRefusals.{event_place}
 
 -- a reason, if there is one, names the event at this place
 abbrev Names : ℕ → Option EventError → Type 0

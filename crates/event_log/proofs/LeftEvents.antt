@@ -13,7 +13,7 @@ use Rattle.timed_events.proofs.SpreadTraces.{meant-processors}
 use Rattle.event_log.specs.declared.logs.NamedEvents.{NamedEvents}
 use Rattle.event_log.specs.declared.reading.TheConstants.{MAX_EVENTS}
 use Rattle.event_log.specs.Events.{Seen, SeenAct, Sends, Receives, seen, seen_act}
-use Rattle.event_log.specs.Imports.{AreLeftBy}
+use Rattle.event_log.specs.TakenEvents.{AreLeftBy}
 use Rattle.event_log.specs.Logs.{seen_log}
 use Rattle.event_log.specs.LostSends.{AreLeft, is_lost, is_send, left_act, left_before, left_event, left_places, new_places, renumbered_at, sends_at}
 use Rattle.event_log.specs.SoundLogs.{IsSound, IsWithin, SendsWithin}

@@ -13,7 +13,7 @@ use Rattle.timed_events.specs.Checks.{message_faults, message_refusal, messages_
 use Rattle.timed_events.specs.Checks.{processor_at, second_refusal, was_received}
 use Rattle.timed_events.specs.Times.{end_time, greatest_time, last_tick, time_ticks, times_refusal}
 use Rattle.timed_events.specs.Spreads.{IsAfterTimes, IsTimedRefusal}
-use Rattle.event_log.specs.Imports.{IsBehindCycle}
+use Rattle.event_log.specs.EventRefusals.{IsBehindCycle}
 
 -- a reason, if there is one, is no cycle
 abbrev NoCycle : Option EventError → Type 0

@@ -9,7 +9,9 @@ use Rattle.trace_text.specs.declared.byte_loops.TheConstants.{MAX_TEXT_BYTES}
 use Rattle.event_log.specs.declared.options.Options.{Options}
 use Rattle.event_log.specs.declared.refusals.LogError.{LogError}
 use Rattle.event_log.specs.declared.refusals.LogError.TheVariants.{TooLarge, Memory}
-use Rattle.event_log.specs.Imports.{IsAlignRefusal, IsLogRefusal, IsRead, IsReadRefusal, IsUnaligned, IsUnalignedFor, IsUnfit, IsUntimed}
+use Rattle.event_log.specs.Alignments.{IsAlignRefusal, IsUnalignedFor}
+use Rattle.event_log.specs.Imports.{IsLogRefusal, IsUnaligned, IsUnfit, IsUntimed}
+use Rattle.event_log.specs.ReadLogs.{IsRead, IsReadRefusal}
 use Rattle.event_log.specs.Logs.{SeenLog}
 use Rattle.event_log.specs.Naming.{is_memory}
 

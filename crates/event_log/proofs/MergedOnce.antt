@@ -17,7 +17,7 @@ use Rattle.event_log.specs.Events.{Seen, SeenAct, Sends, Receives, seen, seen_ac
 use Rattle.event_log.specs.LostSends.{left_message}
 use Rattle.merged_receives.specs.Merges.{is_joined, is_merged, is_part, is_receive, is_send_between, parts_of, receives_at, sends_at, staying_before, staying_places}
 use Rattle.merged_receives.proofs.OneMerge.{order-once}
-use Rattle.event_log.specs.Imports.{AreMergedBy, AreTaken, first_places, log_parts}
+use Rattle.event_log.specs.TakenEvents.{AreMergedBy, AreTaken, first_places, log_parts}
 use Rattle.event_log.specs.Merges.{AreJoined, joined_at, joined_event, joined_messages, receiving}
 use Rattle.event_log.proofs.JoinedEvents.{joined-is}
 use Rattle.event_log.proofs.LeftEvents.{left-once, maps-same, seen_send, sends-seen, somes-same}

@@ -24,7 +24,12 @@ use Rattle.event_log.specs.declared.times.TimeUnit.{TimeUnit}
 use Rattle.event_log.specs.Alignments.{AreAligned}
 use Rattle.event_log.specs.Columns.{columns_of}
 use Rattle.event_log.specs.Events.{seen}
-use Rattle.event_log.specs.Imports.{IsImportOf, IsMadeOfLog, IsRead, clock_in, kept_count, limit_in, moved_in, removed_by}
+use Rattle.event_log.specs.IdleLimits.{limit_in}
+use Rattle.event_log.specs.Imports.{IsImportOf, IsMadeOfLog}
+use Rattle.event_log.specs.LogPlaces.{moved_in}
+use Rattle.event_log.specs.ReadLogs.{IsRead}
+use Rattle.event_log.specs.TakenEvents.{kept_count, removed_by}
+use Rattle.event_log.specs.TickClocks.{clock_in}
 use Rattle.event_log.specs.LogRecords.{Said, accepted, are_messages, are_nodes_by, bad_node_by, is_node, moment_as, name_in, said_by, said_of, verb_of}
 use Rattle.event_log.specs.Logs.{SeenLog, resolved_log}
 use Rattle.event_log.specs.Names.{has_name}

@@ -12,7 +12,9 @@ use Rattle.timed_events.specs.Checks.{messages_at}
 use Rattle.merged_receives.specs.MergeWalks.{AreParts}
 use Rattle.event_log.specs.declared.reading.TheConstants.{MAX_EVENTS}
 use Rattle.event_log.specs.declared.refusals.LogError.{LogError}
-use Rattle.event_log.specs.Imports.{IsErrorUnlessMemory, IsPlacedErrorUnlessMemory, event_place, hop_in, place_in, reason_in, source_in, source_of}
+use Rattle.event_log.specs.EventRefusals.{IsErrorUnlessMemory, event_place}
+use Rattle.event_log.specs.LeftRefusals.{IsPlacedErrorUnlessMemory}
+use Rattle.event_log.specs.LogPlaces.{hop_in, place_in, reason_in, source_in, source_of}
 
 -- a reason other than a cycle is reported by the place of its event
 pub placed-error : (text : List ℕ) (nodes : List (List ℕ)) (events left : List Event) (places : List ℕ)

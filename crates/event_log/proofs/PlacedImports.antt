@@ -11,9 +11,12 @@ use Rattle.event_log.specs.declared.imports.Import.{Import}
 use Rattle.event_log.specs.declared.options.Options.{Options}
 use Rattle.event_log.specs.declared.refusals.LogError.{LogError}
 use Rattle.event_log.specs.Alignments.{AreAligned}
-use Rattle.event_log.specs.Imports.{AreEventsOf, AreTaken, IsEmptied, IsIdleErrorUnlessMemory, IsLogRefusal}
-use Rattle.event_log.specs.Imports.{IsPlacedErrorUnlessMemory, IsPlacedImport, IsPlacedOfLog, IsUnmadeFor}
-use Rattle.event_log.specs.Imports.{IsUnmadeOfLog, IsUnmadeUnlessMemory, IsUnmergedOf, limit_in}
+use Rattle.event_log.specs.EventRefusals.{IsIdleErrorUnlessMemory}
+use Rattle.event_log.specs.IdleLimits.{limit_in}
+use Rattle.event_log.specs.Imports.{AreEventsOf, IsLogRefusal, IsPlacedImport, IsPlacedOfLog, IsUnmadeOfLog, IsUnmadeUnlessMemory}
+use Rattle.event_log.specs.LeftRefusals.{IsPlacedErrorUnlessMemory}
+use Rattle.event_log.specs.LogTraces.{IsUnmadeFor}
+use Rattle.event_log.specs.TakenEvents.{AreTaken, IsEmptied, IsUnmergedOf}
 use Rattle.event_log.specs.Logs.{SeenLog}
 use Rattle.event_log.specs.Naming.{is_memory}
 use Rattle.event_log.proofs.LogRefusals.{untimed-refusal}

@@ -16,7 +16,7 @@ use Rattle.timed_events.proofs.OneIdle.{IsIdleTimed-unique}
 use Rattle.timed_events.proofs.OneSpread.{IsTimed-unique}
 use Rattle.event_log.specs.declared.imports.IdleReceives.{IdleReceives}
 use Rattle.event_log.specs.Events.{seen}
-use Rattle.event_log.specs.Imports.{IsMadeBy}
+use Rattle.event_log.specs.LogTraces.{IsMadeBy}
 use Rattle.event_log.proofs.SeenEvents.{lasts, lengths, own-ticks, passed, processors, ticks-same, timed-as-seen, traces}
 
 has-event : (xs ys : List Event) → map seen xs ≡ map seen ys → (ticks : List ℕ) (p y : ℕ) → HasEventIn xs ticks p y → HasEventIn ys ticks p y

@@ -13,7 +13,8 @@ use Rattle.timed_events.proofs.OneSpread.{steps-placed}
 use Rattle.step_trace.specs.Traces.{Recorded}
 use Rattle.event_log.specs.declared.imports.Import.{Import}
 use Rattle.event_log.specs.declared.options.Options.{Options}
-use Rattle.event_log.specs.Imports.{ArePlacedBy, IsPlacedImport}
+use Rattle.event_log.specs.Imports.{IsPlacedImport}
+use Rattle.event_log.specs.LogTraces.{ArePlacedBy}
 use Rattle.event_log.specs.StepTables.{IsTableOf, table_text}
 
 -- there is one for each step

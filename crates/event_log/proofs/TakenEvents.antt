@@ -21,7 +21,8 @@ use Rattle.event_log.specs.declared.reading.TheConstants.{MAX_EVENTS}
 use Rattle.event_log.specs.declared.refusals.LogError.{LogError}
 use Rattle.event_log.specs.declared.refusals.LogError.TheVariants.{NoEvents}
 use Rattle.event_log.specs.Events.{Seen, seen, seen_act}
-use Rattle.event_log.specs.Imports.{AreLeftBy, AreMergedBy, AreTaken, IsEmptied, IsTimesError, IsUnmergedOf, first_places, log_parts, log_place}
+use Rattle.event_log.specs.LogPlaces.{log_place}
+use Rattle.event_log.specs.TakenEvents.{AreLeftBy, AreMergedBy, AreTaken, IsEmptied, IsTimesError, IsUnmergedOf, first_places, log_parts}
 use Rattle.event_log.specs.Logs.{seen_log}
 use Rattle.event_log.specs.LostSends.{AreLeft, left_places, new_places}
 use Rattle.event_log.specs.MergedLogs.{AreMergedIn, ArePartsWithin}

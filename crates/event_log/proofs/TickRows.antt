@@ -10,7 +10,7 @@ use Rattle.event_log.specs.declared.times.TimeKind.{TimeKind}
 use Rattle.event_log.specs.declared.times.TimeKind.TheVariants as kind
 use Rattle.event_log.specs.declared.times.TimeUnit.{TimeUnit}
 use Rattle.event_log.specs.declared.times.TimeUnit.TheVariants as unit
-use Rattle.event_log.specs.Imports.{units_in}
+use Rattle.event_log.specs.TickClocks.{units_in}
 use Rattle.event_log.specs.Times.{nanoseconds_in}
 use Rattle.event_log.specs.TickRows.{far_before, is_far, is_told, told_before, tick_width}
 

@@ -22,10 +22,13 @@ use Rattle.event_log.specs.declared.tick_rows.TickRow.{TickRow}
 use Rattle.event_log.specs.declared.times.TimeKind.{TimeKind}
 use Rattle.event_log.specs.Alignments.{AreAligned}
 use Rattle.event_log.specs.Events.{seen}
-use Rattle.event_log.specs.Imports.{AreEventsOf, AreLeftBy, AreTaken, IsIdleErrorUnlessMemory, IsLeftErrorOf}
-use Rattle.event_log.specs.Imports.{IsLogRefusal, IsPlacedErrorUnlessMemory, IsRead, IsReadRefusal}
-use Rattle.event_log.specs.Imports.{IsUnmadeUnlessMemory, clock_in, kept_count, moved_in, removed_by, units_in}
-use Rattle.event_log.specs.Imports.{until_in}
+use Rattle.event_log.specs.EventRefusals.{IsIdleErrorUnlessMemory}
+use Rattle.event_log.specs.Imports.{AreEventsOf, IsLogRefusal, IsUnmadeUnlessMemory}
+use Rattle.event_log.specs.LeftRefusals.{IsLeftErrorOf, IsPlacedErrorUnlessMemory}
+use Rattle.event_log.specs.LogPlaces.{moved_in}
+use Rattle.event_log.specs.ReadLogs.{IsRead, IsReadRefusal}
+use Rattle.event_log.specs.TakenEvents.{AreLeftBy, AreTaken, kept_count, removed_by}
+use Rattle.event_log.specs.TickClocks.{clock_in, units_in, until_in}
 use Rattle.event_log.specs.Logs.{SeenLog}
 use Rattle.event_log.specs.Naming.{is_memory}
 use Rattle.event_log.specs.TickRows.{AreNumbersOf, IsPlacedBy, IsPlacingOf, IsRowOf, IsRowRefusal, clock_of, log_length, told_widths}

@@ -11,7 +11,8 @@ use Rattle.timed_events.proofs.SpreadTraces.{meant-processors}
 use Rattle.event_log.specs.declared.logs.NamedEvents.{NamedEvents}
 use Rattle.event_log.specs.declared.reading.TheConstants.{MAX_EVENTS}
 use Rattle.event_log.specs.Events.{seen}
-use Rattle.event_log.specs.Imports.{IsBehindCycle, IsUnmadeFor, idle_place}
+use Rattle.event_log.specs.EventRefusals.{IsBehindCycle, idle_place}
+use Rattle.event_log.specs.LogTraces.{IsUnmadeFor}
 use Rattle.event_log.specs.Logs.{seen_log}
 use Rattle.event_log.specs.SoundLogs.{IsSound}
 use Rattle.event_log.proofs.EventPlaces.{place-within}

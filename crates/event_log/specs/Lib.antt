@@ -32,3 +32,10 @@ pub mod ClockLines
 pub mod StepTables
 pub mod TickRows
 pub mod TickTables
+pub mod TickClocks
+pub mod IdleLimits
+pub mod EventRefusals
+pub mod ReadLogs
+pub mod LogPlaces
+pub mod TakenEvents
+pub mod LeftRefusals

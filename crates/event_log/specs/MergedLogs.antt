@@ -3,7 +3,7 @@ use Rattle.std.specs.Prelude.{ℕ, ◌≡◌, ◌<◌, List, Option, Some, None,
 use Rattle.timed_events.specs.declared.events.Clock.{Clock}
 use Rattle.timed_events.specs.declared.events.Event.{Event}
 use Rattle.merged_receives.specs.MergeWalks.{AreParts}
-use Rattle.event_log.specs.Imports.{log_place}
+use Rattle.event_log.specs.LogPlaces.{log_place}
 use Rattle.event_log.specs.Merges.{AreJoined}
 
 -- the events at these places are among so many

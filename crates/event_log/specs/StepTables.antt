@@ -16,7 +16,9 @@ use Rattle.trace_text.specs.Records.{field_of, records_of_text}
 use Rattle.trace_text.specs.RecordWriting.{our_writer}
 use Rattle.event_log.specs.declared.imports.Import.{Import}
 use Rattle.event_log.specs.declared.options.Options.{Options}
-use Rattle.event_log.specs.Imports.{ArePlacedBy, IsImportOf, log_place}
+use Rattle.event_log.specs.Imports.{IsImportOf}
+use Rattle.event_log.specs.LogPlaces.{log_place}
+use Rattle.event_log.specs.LogTraces.{ArePlacedBy}
 use Rattle.event_log.specs.ToldNames.{message_place, node_name}
 
 -- the names of the columns

@@ -17,7 +17,7 @@ use Rattle.event_log.specs.declared.tick_rows.TheConstants.{WIDTHS}
 use Rattle.event_log.specs.declared.tick_rows.TickRow.{TickRow}
 use Rattle.event_log.specs.declared.times.TimeKind.{TimeKind}
 use Rattle.event_log.specs.declared.times.TimeKind.TheVariants as kind
-use Rattle.event_log.specs.Imports.{units_in}
+use Rattle.event_log.specs.TickClocks.{units_in}
 
 -- 1, 2 and 5 times the powers of ten, in rising order, counted from 0
 abbrev pub leading_digit : ℕ → ℕ

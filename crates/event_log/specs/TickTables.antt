@@ -14,7 +14,10 @@ use Rattle.event_log.specs.declared.times.TimeKind.{TimeKind}
 use Rattle.event_log.specs.declared.times.Width.TheVariants.{Units}
 use Rattle.event_log.specs.Alignments.{AreAligned}
 use Rattle.event_log.specs.Events.{seen}
-use Rattle.event_log.specs.Imports.{AreLeftBy, IsImportOf, IsLogRefusal, IsRead, IsUnmadeUnlessMemory, until_in}
+use Rattle.event_log.specs.Imports.{IsImportOf, IsLogRefusal, IsUnmadeUnlessMemory}
+use Rattle.event_log.specs.ReadLogs.{IsRead}
+use Rattle.event_log.specs.TakenEvents.{AreLeftBy}
+use Rattle.event_log.specs.TickClocks.{until_in}
 use Rattle.event_log.specs.Logs.{SeenLog}
 use Rattle.event_log.specs.TickRows.{AreNumbersOf, IsRowOf, clock_of, log_length, told_widths}
 

@@ -6,7 +6,7 @@ ghost use Rattle.timed_events.specs.Checks.{first_fault};
 ghost use Rattle.clock_offsets.specs.ClockCycles.{IsClockCycle};
 ghost use Rattle.clock_offsets.specs.EventNeeds.{AreClockOffsets, AreInOrder};
 ghost use Rattle.event_log.specs.Alignments.{latest_in, AreAligned};
-ghost use Rattle.event_log.specs.Imports.{HaveNoOffsets, IsAlignRefusal};
+ghost use Rattle.event_log.specs.Alignments.{HaveNoOffsets, IsAlignRefusal};
 ghost use Rattle.event_log.specs.Logs.{seen_log};
 ghost use Rattle.event_log.specs.Naming.{is_memory};
 ghost use Rattle.event_log.specs.SoundLogs.{IsSound};

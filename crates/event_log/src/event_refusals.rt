@@ -2,8 +2,8 @@
 
 ghost use Rattle.std.specs.Prelude.{◌≡◌, ◌<◌, ◌≤◌, ◌+◌, ℕ, None, IfOk, length, slice_index_or};
 ghost use Rattle.timed_events.specs.Checks.{messages_at, processor_at, AreOfProcessors};
-ghost use Rattle.event_log.specs.Imports.{event_place, receiver_at, receiver_of, IsBehindCycle};
-ghost use Rattle.event_log.specs.Imports.{IsCycleError, IsErrorOf, IsErrorUnlessMemory};
+ghost use Rattle.event_log.specs.EventRefusals.{event_place, receiver_at, receiver_of, IsBehindCycle, IsCycleError};
+ghost use Rattle.event_log.specs.EventRefusals.{IsErrorOf, IsErrorUnlessMemory};
 ghost use Rattle.event_log.specs.ToldNames.{node_name};
 
 use crate::hop_lines::hop_lines;

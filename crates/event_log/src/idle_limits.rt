@@ -1,7 +1,7 @@
 //! How many ticks the silences that get a receive of nothing have at most.
 
 ghost use Rattle.std.specs.Prelude.{◌≡◌, ◌<◌};
-ghost use Rattle.event_log.specs.Imports.{idle_in, limit_in};
+ghost use Rattle.event_log.specs.IdleLimits.{idle_in, limit_in};
 
 use crate::imports::units_in;
 use crate::options::Options;

@@ -4,7 +4,8 @@ ghost use Rattle.std.specs.Prelude.{◌≡◌, ℕ, List, Result};
 ghost use Rattle.event_log.specs.declared.imports.Import.{Import};
 ghost use Rattle.event_log.specs.declared.options.Options.{Options};
 ghost use Rattle.event_log.specs.declared.refusals.LogError.{LogError};
-ghost use Rattle.event_log.specs.Imports.{IsImportOf, IsRead};
+ghost use Rattle.event_log.specs.Imports.{IsImportOf};
+ghost use Rattle.event_log.specs.ReadLogs.{IsRead};
 ghost use Rattle.event_log.specs.Logs.{SeenLog};
 ghost use Rattle.event_log.specs.SentLaws.{AreFound};
 

@@ -4,7 +4,7 @@ ghost use Rattle.std.specs.Prelude.{◌≡◌, ◌<◌, ◌^◌, ℕ, [], IfOk, 
 ghost use Rattle.std.specs.Prelude.{map, option_map, slice_index, slice_index_or};
 ghost use Rattle.timed_events.specs.declared.cause_cycles.Hop.{Hop};
 ghost use Rattle.merged_receives.specs.MergeWalks.{AreParts};
-ghost use Rattle.event_log.specs.Imports.{hop_in, log_place, moved_in, place_in, reason_in, source_in, source_of};
+ghost use Rattle.event_log.specs.LogPlaces.{hop_in, log_place, moved_in, place_in, reason_in, source_in, source_of};
 ghost use Rattle.event_log.specs.MergedLogs.{ArePartsWithin};
 
 use merged_receives::Parts;

@@ -3,7 +3,7 @@
 
 ghost use Rattle.std.specs.Prelude.{◌≡◌, ◌<◌, ◌≤◌, IfErr, IfOk, None, Some, length};
 ghost use Rattle.timed_events.specs.Checks.{AreMeant};
-ghost use Rattle.event_log.specs.Imports.{ArePlacedBy, IsMadeBy, IsUnmadeFor};
+ghost use Rattle.event_log.specs.LogTraces.{ArePlacedBy, IsMadeBy, IsUnmadeFor};
 ghost use Rattle.event_log.specs.LogTraces.{HavePassed};
 
 use crate::imports::IdleReceives;

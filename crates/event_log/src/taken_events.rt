@@ -4,7 +4,8 @@ ghost use Rattle.std.specs.Prelude.{◌≡◌, ◌<◌, ◌≤◌, ◌⊎◌, �
 ghost use Rattle.std.specs.Prelude.{Some, ⊤, false, length, map, option_map, slice_index, true};
 ghost use Rattle.timed_events.specs.Checks.{AreOfProcessors, IsEventRefusal};
 ghost use Rattle.timed_events.specs.Times.{times_refusal};
-ghost use Rattle.event_log.specs.Imports.{AreTaken, IsEmptied, IsTimesError, IsUnmergedOf, kept_count, log_place};
+ghost use Rattle.event_log.specs.LogPlaces.{log_place};
+ghost use Rattle.event_log.specs.TakenEvents.{AreTaken, IsEmptied, IsTimesError, IsUnmergedOf, kept_count};
 ghost use Rattle.event_log.specs.Logs.{seen_log};
 ghost use Rattle.event_log.specs.LostSends.{AreLeft, left_places};
 ghost use Rattle.event_log.specs.MergedLogs.{AreMergedIn, ArePartsWithin};

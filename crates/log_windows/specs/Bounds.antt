@@ -5,7 +5,7 @@ use Rattle.event_log.specs.declared.refusals.LogError.{LogError}
 use Rattle.event_log.specs.declared.refusals.LogError.TheVariants.{FromUnfit}
 use Rattle.event_log.specs.declared.times.LogEnd.{LogEnd}
 use Rattle.event_log.specs.declared.times.TimeKind.{TimeKind}
-use Rattle.event_log.specs.Imports.{end_in, until_in}
+use Rattle.event_log.specs.TickClocks.{end_in, until_in}
 use Rattle.log_windows.specs.declared.bounds.Bounds.{Bounds}
 use Rattle.log_windows.specs.declared.bounds.Times.{Times}
 

@@ -1,7 +1,7 @@
 //! A window of a log, as its times are counted.
 
 ghost use Rattle.std.specs.Prelude.{◌≡◌};
-ghost use Rattle.event_log.specs.Imports.{until_in};
+ghost use Rattle.event_log.specs.TickClocks.{until_in};
 ghost use Rattle.log_windows.specs.Bounds.{bounds_in, bounds_of, first_in, is_within, kind_of, settled_by, times_by};
 
 use event_log::{LogEnd, LogError, TimeKind, end_in};

@@ -1,6 +1,6 @@
 use Rattle.std.proofs.Common.{subst, sym, ap, ◌∙◌}
 use Rattle.timed_events.specs.declared.idle_traces.IdleError.TheVariants as filled
-use Rattle.event_log.specs.Imports.{IsBehindCycle}
+use Rattle.event_log.specs.EventRefusals.{IsBehindCycle}
 use Rattle.event_log.proofs.imports.log_error.Goals as goal
 
 pub error_of-requires-clause-behind : goal.error_of-requires-clause-behind

@@ -1,6 +1,6 @@
 use Rattle.std.proofs.Common.{sym, subst}
 use Rattle.timed_events.specs.Checks.{AreMeant}
-use Rattle.event_log.specs.Imports.{IsUnmadeFor}
+use Rattle.event_log.specs.LogTraces.{IsUnmadeFor}
 use Rattle.event_log.proofs.UnmadeLogs.{few-events, meant-events, processors-events, some-events, unmade-behind, unmade-place}
 use Rattle.event_log.proofs.imports.passed_log.Goals as goal
 

@@ -4,7 +4,8 @@ use Rattle.timed_events.specs.declared.events.Clock.{Clock}
 use Rattle.std.proofs.lemmas.Result.{err_from_is_err_and}
 use Rattle.timed_events.specs.Lateness.{lateness_of}
 use Rattle.event_log.specs.declared.options.Options.{Options}
-use Rattle.event_log.specs.Imports.{IsAlignRefusal, IsRead}
+use Rattle.event_log.specs.Alignments.{IsAlignRefusal}
+use Rattle.event_log.specs.ReadLogs.{IsRead}
 use Rattle.event_log.specs.Logs.{SeenLog, seen_log}
 use Rattle.event_log.proofs.LogRefusals.{large-text, unaligned-refusal, unfit-refusal}
 use Rattle.event_log.proofs.Outcomes.{err-weaker, ok-both}

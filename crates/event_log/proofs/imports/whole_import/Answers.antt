@@ -4,7 +4,7 @@ use mir.Syntax.{w128}
 use Rattle.std.proofs.lemmas.Int.{to_z-of_z}
 use Rattle.timed_events.specs.Checks.{AreMeant}
 use Rattle.timed_events.specs.Times.{least_time}
-use Rattle.event_log.specs.Imports.{ArePlacedBy, IsMadeBy}
+use Rattle.event_log.specs.LogTraces.{ArePlacedBy, IsMadeBy}
 use Rattle.event_log.proofs.TakenEvents.{whole-taken}
 use Rattle.event_log.proofs.UnmadeLogs.{meant-events, some-events}
 use Rattle.event_log.proofs.imports.whole_import.Goals as goal

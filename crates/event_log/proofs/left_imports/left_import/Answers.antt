@@ -8,7 +8,10 @@ use Rattle.timed_events.specs.Checks.{AreMeant}
 use Rattle.timed_events.specs.Times.{least_time}
 use Rattle.step_trace.specs.declared.traces.TheConstants.{MAX_STEPS}
 use Rattle.timed_events.specs.declared.events.Event.{Event}
-use Rattle.event_log.specs.Imports.{ArePlacedBy, IsAlignedLogOf, IsMadeBy, IsPlacedErrorUnlessMemory, IsUnmadeFor, removed_by}
+use Rattle.event_log.specs.Imports.{IsAlignedLogOf}
+use Rattle.event_log.specs.LeftRefusals.{IsPlacedErrorUnlessMemory}
+use Rattle.event_log.specs.LogTraces.{ArePlacedBy, IsMadeBy, IsUnmadeFor}
+use Rattle.event_log.specs.TakenEvents.{removed_by}
 use Rattle.event_log.specs.MergedLogs.{ArePartsWithin}
 use Rattle.event_log.proofs.OneLog.{aligned-log-once}
 use Rattle.event_log.proofs.PlacedImports.{left-unmade, untaken-unmade}

@@ -3,7 +3,8 @@ use Rattle.timed_events.specs.declared.events.Event.{Event}
 use Rattle.timed_events.specs.declared.events.EventError.{EventError}
 use Rattle.timed_events.specs.Checks.{AreOfProcessors}
 use Rattle.event_log.specs.declared.reading.TheConstants.{MAX_EVENTS}
-use Rattle.event_log.specs.Imports.{IsErrorUnlessMemory, event_place, reason_in}
+use Rattle.event_log.specs.EventRefusals.{IsErrorUnlessMemory, event_place}
+use Rattle.event_log.specs.LogPlaces.{reason_in}
 use Rattle.event_log.specs.MergedLogs.{ArePartsWithin}
 use Rattle.event_log.proofs.PlacedErrors.{no-cycle, reason-within}
 use Rattle.event_log.proofs.TakenEvents.{within-parts}

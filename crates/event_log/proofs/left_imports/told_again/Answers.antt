@@ -1,6 +1,6 @@
 use Rattle.std.proofs.Common.{ℕ, List, subst}
 use Rattle.timed_events.specs.declared.events.Event.{Event}
-use Rattle.event_log.specs.Imports.{IsPlacedErrorUnlessMemory}
+use Rattle.event_log.specs.LeftRefusals.{IsPlacedErrorUnlessMemory}
 use Rattle.event_log.proofs.OneLog.{aligned-log-once}
 use Rattle.event_log.proofs.left_imports.told_again.Goals as goal
 

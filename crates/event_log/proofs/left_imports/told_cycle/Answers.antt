@@ -8,7 +8,7 @@ use Rattle.timed_events.proofs.CausalOrders.{unplaceable-none}
 use Rattle.event_log.specs.declared.reading.TheConstants.{MAX_EVENTS}
 use Rattle.event_log.specs.declared.refusals.LogError.TheVariants.{Cycle}
 use Rattle.event_log.specs.HopLines.{hop_lines}
-use Rattle.event_log.specs.Imports.{hop_in, place_in}
+use Rattle.event_log.specs.LogPlaces.{hop_in, place_in}
 use Rattle.event_log.proofs.PlacedErrors.{hops-within}
 use Rattle.event_log.proofs.left_imports.told_cycle.Goals as goal
 

@@ -1,5 +1,5 @@
 use Rattle.std.proofs.Common.{◌≡◌, map, take}
-use Rattle.event_log.specs.Imports.{hop_in}
+use Rattle.event_log.specs.LogPlaces.{hop_in}
 use Rattle.event_log.proofs.log_places.hops_in.Given as goal
 
 -- the hops so far

@@ -1,6 +1,6 @@
 use Rattle.std.proofs.Common.{ℕ, ◌<◌, ◌∙◌, List, length, sym, ap, subst}
 use Rattle.std.specs.Prelude.{slice_index}
-use Rattle.event_log.specs.Imports.{source_of}
+use Rattle.event_log.specs.LogPlaces.{source_of}
 use Rattle.event_log.proofs.PlacedErrors.{part-inside}
 use Rattle.event_log.proofs.log_places.source_at.Goals as goal
 

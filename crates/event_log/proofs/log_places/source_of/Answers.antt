@@ -6,7 +6,7 @@ use Rattle.std.proofs.lemmas.List.{at_drop_all, at_drop_more}
 use Rattle.std.proofs.lemmas.Option.{slice_get_read}
 use Rattle.timed_events.specs.declared.events.Event.{Event}
 use Rattle.timed_events.specs.Checks.{messages_at, received_in}
-use Rattle.event_log.specs.Imports.{source_of}
+use Rattle.event_log.specs.LogPlaces.{source_of}
 use Rattle.event_log.proofs.log_places.source_of.Goals as goal
 
 -- the next event of a part has the message, or the events behind it have it

@@ -1,5 +1,5 @@
 use Rattle.std.proofs.Common.{◌≡◌, drop}
-use Rattle.event_log.specs.Imports.{source_of}
+use Rattle.event_log.specs.LogPlaces.{source_of}
 use Rattle.event_log.proofs.log_places.source_of.Given as goal
 
 -- the events so far have not this message

@@ -1,7 +1,7 @@
 use Rattle.std.proofs.Common.{ℕ, ◌≡◌, ◌∙◌, ◌<◌, ◌⊎◌, Bool, true, false, List, Option, Some, None, IfOk, length, refl, sym, ap, subst, arith}
 use Rattle.std.specs.Prelude.{IfErr, MatchBool, ⊤}
 use Rattle.std.proofs.lemmas.Result.{err_from_is_err_and}
-use Rattle.event_log.specs.Imports.{AreLeftBy, AreTaken, IsEmptied, IsUnmergedOf, kept_count}
+use Rattle.event_log.specs.TakenEvents.{AreLeftBy, AreTaken, IsEmptied, IsUnmergedOf, kept_count}
 use Rattle.event_log.specs.Naming.{is_memory}
 use Rattle.event_log.proofs.LeftEvents.{few-left, left-long, processors-left}
 use Rattle.event_log.proofs.Outcomes.{err-weaker, ok-both}
