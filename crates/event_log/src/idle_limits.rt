@@ -3,7 +3,7 @@
 ghost use Rattle.std.specs.Prelude.{◌≡◌, ◌<◌};
 ghost use Rattle.event_log.specs.IdleLimits.{idle_in, limit_in};
 
-use crate::imports::units_in;
+use crate::tick_clocks::units_in;
 use crate::options::Options;
 use crate::refusals::LogError;
 use crate::times::{TimeKind, Width};

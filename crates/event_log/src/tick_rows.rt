@@ -8,7 +8,7 @@ ghost use Rattle.timed_events.specs.Times.{greatest_time, times_refusal};
 ghost use Rattle.event_log.specs.TickRows.{AreNumbersOf, IsPlacedBy, IsRowOf, IsRowRefusal, clock_of, far_count};
 ghost use Rattle.event_log.specs.TickRows.{is_far, is_told, log_length, tick_nanoseconds, tick_width, told_widths};
 
-use crate::imports::units_in;
+use crate::tick_clocks::units_in;
 use crate::step_tables::tick_of;
 use crate::times::TimeKind;
 use std::alloc::{AllocError, Global};

@@ -7,7 +7,8 @@ ghost use Rattle.event_log.specs.SoundLogs.{IsSound};
 ghost use Rattle.event_log.specs.TickTables.{AreLogRows, IsLogRowRefusal, IsTickRefusal, IsTickTable};
 
 use crate::alignments::aligned_log;
-use crate::imports::{events_by, log_error, until_for};
+use crate::imports::{events_by, log_error};
+use crate::tick_clocks::until_for;
 use crate::left_imports::told_again;
 use crate::logs::NamedEvents;
 use crate::options::Options;
