@@ -2,17 +2,19 @@
 
 ghost use Rattle.std.specs.Prelude.{◌≡◌, ◌<◌, ◌≤◌, ◌+◌, ℕ, None, IfOk, length, slice_index_or};
 ghost use Rattle.timed_events.specs.Checks.{messages_at, processor_at, AreOfProcessors};
-ghost use Rattle.event_log.specs.EventRefusals.{event_place, receiver_at, receiver_of, IsBehindCycle, IsCycleError};
-ghost use Rattle.event_log.specs.EventRefusals.{IsErrorOf, IsErrorUnlessMemory};
+ghost use Rattle.event_log.specs.EventRefusals.{event_place, receiver_at, receiver_of, IsBehindCycle};
+ghost use Rattle.event_log.specs.EventRefusals.{IsCycleError, IsErrorOf, IsErrorUnlessMemory};
+ghost use Rattle.event_log.specs.EventRefusals.{IsIdleErrorUnlessMemory, idle_place};
 ghost use Rattle.event_log.specs.ToldNames.{node_name};
 
 use crate::hop_lines::hop_lines;
+use crate::logs::NamedEvents;
 use crate::message_names::message_name;
 use crate::names::{Name, NameSet};
 use crate::reading::MAX_EVENTS;
 use crate::refusals::LogError;
 use std::alloc::{AllocError, Global};
-use timed_events::{Event, EventAct, EventError, cycle_of_causes};
+use timed_events::{Event, EventAct, EventError, IdleError, cycle_of_causes};
 
 /// The refusal of a log for a reason against its events, or Memory.
 ///
@@ -34,6 +36,23 @@ pub(crate) fn error_of(
     match told_error(alloc, text, nodes, events, why) {
         Ok(error) => error,
         Err(_) => LogError::Memory,
+    }
+}
+
+/// The refusal of a log for a reason against its events, or Memory.
+///
+/// Asks for the same as `error_of`.
+pub(crate) fn log_error(alloc: Global, text: &[u8], log: &NamedEvents, why: IdleError) -> LogError
+    requires place { idle_place why < MAX_EVENTS }
+    requires few { length log.now.events.items ≤ MAX_EVENTS }
+    requires processors { AreOfProcessors log.now.events.items }
+    requires behind { (i : ℕ) → why ≡ IdleError.Events (EventError.Cycle i)
+        → IsBehindCycle log.now.events.items i }
+    ensures { IsIdleErrorUnlessMemory text.now log.now.nodes log.now.events.items why result }
+{
+    match why {
+        IdleError::Events(why) => error_of(alloc, text, &log.nodes, log.events.as_slice(), why),
+        IdleError::TooManySteps => LogError::TooManySteps,
     }
 }
 

@@ -3,9 +3,9 @@
 ghost use Rattle.std.specs.Prelude.{◌≡◌, ◌<◌};
 ghost use Rattle.event_log.specs.IdleLimits.{idle_in, limit_in};
 
-use crate::tick_clocks::units_in;
 use crate::options::Options;
 use crate::refusals::LogError;
+use crate::tick_clocks::units_in;
 use crate::times::{TimeKind, Width};
 use timed_events::Clock;
 

@@ -1,40 +1,32 @@
 //! Logs read as traces.
 
-ghost use Rattle.std.specs.Prelude.{◌≡◌, ◌^◌, ◌<◌, ◌≤◌, ℕ, [], Err, Ok, false, IfErr, IfOk, None, length};
-ghost use Rattle.std.specs.Prelude.{unwrap_or};
+ghost use Rattle.std.specs.Prelude.{◌≡◌, ◌^◌, ◌<◌, ◌≤◌, Err, false, IfErr, IfOk, None, length};
 ghost use Rattle.std.specs.Cow.{cow_slice_items};
-ghost use Rattle.timed_events.specs.Checks.{AreOfProcessors};
 ghost use Rattle.timed_events.specs.Lateness.{lateness_of};
-ghost use Rattle.event_log.specs.EventRefusals.{IsBehindCycle, IsIdleErrorUnlessMemory, idle_place};
 ghost use Rattle.event_log.specs.Imports.{IsImportOf, IsLogRefusal, IsPlacedImport, IsPlacedOfLog};
 ghost use Rattle.event_log.specs.Imports.{IsUnmadeUnlessMemory};
-ghost use Rattle.event_log.specs.ReadLogs.{IsRead, IsReadRefusal};
 ghost use Rattle.event_log.specs.Given.{AreGiven};
-ghost use Rattle.event_log.specs.LogTraces.{HavePassed};
 ghost use Rattle.event_log.specs.Logs.{seen_log};
 ghost use Rattle.event_log.specs.SoundLogs.{IsSound};
 
 use crate::alignments::{AlignedLog, aligned_log};
-use crate::event_refusals::error_of;
 use crate::idle_limits::limit_for;
 use crate::left_imports::left_import;
 use crate::log_places::LogPlaces;
-use crate::log_traces::{LogTrace, PassedEvents, TraceOptions, passed_events, trace_of_passed};
-use crate::logs::{NamedEvents, events_of_log};
+use crate::log_traces::{LogTrace, TraceOptions, trace_of_passed};
 use crate::names::NameSet;
 use crate::options::Options;
-use crate::reading::MAX_EVENTS;
+use crate::passed_logs::lateness_in;
+use crate::read_logs::events_by;
 use crate::refusals::LogError;
 use crate::tick_clocks::clock_for;
 use crate::workers::Workers;
 use clock_offsets::Offsets;
 use merged_receives::Parts;
-use std::thread;
-use std::alloc::{AllocError, Global};
+use std::alloc::Global;
 use std::borrow::CowSlice;
-use std::thread::Threads;
 use step_trace::Trace;
-use timed_events::{Clock, Event, EventError, IdleError, Lateness, Moved, lateness_of, least_time};
+use timed_events::{Clock, Event, Lateness, Moved, lateness_of, least_time};
 use trace_text::MAX_TEXT_BYTES;
 
 /// A log read as a trace.
@@ -196,69 +188,6 @@ fn whole_import<W: Workers>(
     Ok(import_of(aligned, made, lateness, logged, first, how.clock))
 }
 
-/// How many messages of a log are late, which another thread finds out, if it can be started; and whether its events
-/// make a trace.
-pub(crate) fn both_by_two<T: Threads>(
-    rt: &T,
-    alloc: Global,
-    text: &[u8],
-    log: &NamedEvents,
-    how: TraceOptions,
-) -> (Result<Lateness, LogError>, Result<PassedEvents, LogError>)
-    requires sound { IsSound (seen_log log.now) }
-    requires width { 0 < how.clock.width }
-    ensures lateness { IfOk result.0 (λ l. l ≡ lateness_of log.now.events.items) }
-    ensures memory { IfErr result.0 (λ why. why ≡ LogError.Memory) }
-    ensures passed { IfOk result.1
-        (HavePassed how.limit how.spread (length log.now.nodes) log.now.events.items how.clock) }
-    ensures refused { IfErr result.1
-        (IsUnmadeUnlessMemory false false how.limit how.spread text.now log.now.nodes
-        log.now.events.items how.clock) }
-{
-    thread::join(
-        rt,
-        move || -> Result<Lateness, LogError>
-            requires { IsSound (seen_log log.now) }
-            ensures lateness { IfOk result (λ l. l ≡ lateness_of log.entry.now.events.items) }
-            ensures memory { IfErr result (λ why. why ≡ LogError.Memory) }
-        { lateness_in(alloc, log) },
-        move || -> Result<PassedEvents, LogError>
-            requires sound { IsSound (seen_log log.now) }
-            requires width { 0 < how.clock.width }
-            ensures passed { IfOk result
-                (HavePassed how.limit how.spread (length log.entry.now.nodes)
-                log.entry.now.events.items how.clock) }
-            ensures refused { IfErr result
-                (IsUnmadeUnlessMemory false false how.limit how.spread text.entry.now
-                log.entry.now.nodes log.entry.now.events.items how.clock) }
-        { passed_log(alloc, text, log, how) },
-    )
-}
-
-/// Tests whether the events of a log make a trace.
-///
-/// Refuses the first reason against them, or Memory.
-pub(crate) fn passed_log(
-    alloc: Global,
-    text: &[u8],
-    log: &NamedEvents,
-    how: TraceOptions,
-) -> Result<PassedEvents, LogError>
-    requires sound { IsSound (seen_log log.now) }
-    requires width { 0 < how.clock.width }
-    ensures passed { IfOk result
-        (HavePassed how.limit how.spread (length log.now.nodes) log.now.events.items how.clock) }
-    ensures refused { IfErr result
-        (IsUnmadeUnlessMemory false false how.limit how.spread text.now log.now.nodes
-        log.now.events.items how.clock) }
-{
-    let n = log.nodes.len() as u64;
-    match passed_events(alloc, n, log.events.as_slice(), how) {
-        Ok(passed) => Ok(passed),
-        Err(why) => Err(log_error(alloc, text, log, why)),
-    }
-}
-
 /// The import of an aligned log, of its trace and its late messages, by a clock. So many events are in the log, the
 /// first of them at a time.
 fn import_of(
@@ -314,68 +243,5 @@ fn import_of(
         first,
         clock,
         places,
-    }
-}
-
-/// The refusal of a log for a reason against its events, or Memory.
-///
-/// Asks for the same as `error_of`.
-pub(crate) fn log_error(alloc: Global, text: &[u8], log: &NamedEvents, why: IdleError) -> LogError
-    requires place { idle_place why < MAX_EVENTS }
-    requires few { length log.now.events.items ≤ MAX_EVENTS }
-    requires processors { AreOfProcessors log.now.events.items }
-    requires behind { (i : ℕ) → why ≡ IdleError.Events (EventError.Cycle i)
-        → IsBehindCycle log.now.events.items i }
-    ensures { IsIdleErrorUnlessMemory text.now log.now.nodes log.now.events.items why result }
-{
-    match why {
-        IdleError::Events(why) => error_of(alloc, text, &log.nodes, log.events.as_slice(), why),
-        IdleError::TooManySteps => LogError::TooManySteps,
-    }
-}
-
-/// The events that a log records; if nodes are listed, its nodes are listed ones.
-pub(crate) fn events_by<W: Workers>(
-    alloc: Global,
-    workers: &W,
-    text: &[u8],
-    options: &Options,
-) -> Result<NamedEvents, LogError>
-    ensures read { IfOk result (λ log. IsRead options.now text.now (Ok (seen_log log))) }
-    ensures sound { IfOk result (λ log. IsSound (seen_log log)) }
-    ensures refused { IfErr result (IsReadRefusal options.now text.now) }
-{
-    let Ok(nodes) = numbered_first(alloc, options) else {
-        return Err(LogError::Memory);
-    };
-    events_of_log(
-        alloc,
-        workers,
-        text,
-        options.unit,
-        options.nodes.as_ref(),
-        nodes,
-    )
-}
-
-/// The nodes that are numbered before those that the log names.
-fn numbered_first(alloc: Global, options: &Options) -> Result<NameSet, AllocError>
-    ensures { IfOk result (λ nodes. nodes ≡ unwrap_or options.now.nodes []) }
-{
-    match &options.nodes {
-        Some(nodes) => nodes.copy(),
-        None => Ok(NameSet::new(alloc)),
-    }
-}
-
-/// How many messages of a log are received no later than they are sent.
-pub(crate) fn lateness_in(alloc: Global, log: &NamedEvents) -> Result<Lateness, LogError>
-    requires sound { IsSound (seen_log log.now) }
-    ensures lateness { IfOk result (λ l. l ≡ lateness_of log.now.events.items) }
-    ensures refused { IfErr result (λ why. why ≡ LogError.Memory) }
-{
-    match lateness_of(alloc, log.events.as_slice()) {
-        Ok(lateness) => Ok(lateness),
-        Err(_) => Err(LogError::Memory),
     }
 }

@@ -8,8 +8,8 @@ ghost use Rattle.timed_events.specs.Times.{greatest_time, times_refusal};
 ghost use Rattle.event_log.specs.TickRows.{AreNumbersOf, IsPlacedBy, IsRowOf, IsRowRefusal, clock_of, far_count};
 ghost use Rattle.event_log.specs.TickRows.{is_far, is_told, log_length, tick_nanoseconds, tick_width, told_widths};
 
-use crate::tick_clocks::units_in;
 use crate::step_tables::tick_of;
+use crate::tick_clocks::units_in;
 use crate::times::TimeKind;
 use std::alloc::{AllocError, Global};
 use step_trace::{MAX_PROCESSORS, MAX_STEPS, MIN_PROCESSORS, Trace};

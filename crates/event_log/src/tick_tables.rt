@@ -7,13 +7,14 @@ ghost use Rattle.event_log.specs.SoundLogs.{IsSound};
 ghost use Rattle.event_log.specs.TickTables.{AreLogRows, IsLogRowRefusal, IsTickRefusal, IsTickTable};
 
 use crate::alignments::aligned_log;
-use crate::imports::{events_by, log_error};
-use crate::tick_clocks::until_for;
-use crate::left_imports::told_again;
+use crate::event_refusals::log_error;
+use crate::left_refusals::told_again;
 use crate::logs::NamedEvents;
 use crate::options::Options;
+use crate::read_logs::events_by;
 use crate::refusals::LogError;
 use crate::taken_events::taken_events;
+use crate::tick_clocks::until_for;
 use crate::tick_rows::{TickRow, clock_of, tick_rows};
 use crate::times::TimeKind;
 use crate::workers::OneThread;

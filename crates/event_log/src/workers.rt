@@ -10,10 +10,10 @@ ghost use Rattle.event_log.specs.PackedEvents.{ArePlaced, IsWithin};
 ghost use Rattle.event_log.specs.PlainLines.{LeadsOn};
 ghost use Rattle.event_log.specs.SoundLogs.{IsSound};
 
-use crate::imports::{both_by_two, lateness_in, passed_log};
 use crate::log_traces::{PassedEvents, TraceOptions};
 use crate::logs::NamedEvents;
 use crate::packed_events::PackedEvent;
+use crate::passed_logs::{both_by_two, lateness_in, passed_log};
 use crate::placed_events::{place_all, place_by_two};
 use crate::read_lines::{read_by_one, read_by_two};
 use crate::reading::Reading;

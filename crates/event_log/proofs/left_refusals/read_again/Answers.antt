@@ -1,6 +1,6 @@
 use Rattle.std.proofs.Common.{refl}
 use Rattle.event_log.specs.Logs.{seen_log}
-use Rattle.event_log.proofs.left_imports.read_again.Goals as goal
+use Rattle.event_log.proofs.left_refusals.read_again.Goals as goal
 
 pub returns-clause-again : goal.returns-clause-again
 returns-clause-again g c = record {

@@ -9,7 +9,7 @@ use Rattle.event_log.specs.MergedLogs.{ArePartsWithin}
 use Rattle.event_log.proofs.PlacedErrors.{no-cycle, reason-within}
 use Rattle.event_log.proofs.TakenEvents.{within-parts}
 use Rattle.event_log.proofs.UnmadeLogs.{few-events, processors-events}
-use Rattle.event_log.proofs.left_imports.placed_error.Goals as goal
+use Rattle.event_log.proofs.left_refusals.placed_error.Goals as goal
 
 pub reason_in-why-requires : goal.reason_in-why-requires
 reason_in-why-requires c = subst (λ (events : List Event). ArePartsWithin c.args.left.now.parts (length events)) (sym c.as_slice.ensures.value) c.requires.parts

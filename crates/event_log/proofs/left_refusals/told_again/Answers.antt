@@ -2,7 +2,7 @@ use Rattle.std.proofs.Common.{ℕ, List, subst}
 use Rattle.timed_events.specs.declared.events.Event.{Event}
 use Rattle.event_log.specs.LeftRefusals.{IsPlacedErrorUnlessMemory}
 use Rattle.event_log.proofs.OneLog.{aligned-log-once}
-use Rattle.event_log.proofs.left_imports.told_again.Goals as goal
+use Rattle.event_log.proofs.left_refusals.told_again.Goals as goal
 
 pub left_error-requires-clause-parts : goal.left_error-requires-clause-parts
 left_error-requires-clause-parts g c = c.requires.parts c.in-Ok.log.nodes c.in-Ok.log.events.items c.in-Ok.ensures.again

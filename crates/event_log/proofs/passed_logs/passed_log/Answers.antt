@@ -2,7 +2,7 @@ use Rattle.std.proofs.Common.{sym, subst}
 use Rattle.timed_events.specs.Checks.{AreMeant}
 use Rattle.event_log.specs.LogTraces.{IsUnmadeFor}
 use Rattle.event_log.proofs.UnmadeLogs.{few-events, meant-events, processors-events, some-events, unmade-behind, unmade-place}
-use Rattle.event_log.proofs.imports.passed_log.Goals as goal
+use Rattle.event_log.proofs.passed_logs.passed_log.Goals as goal
 
 pub passed_events-requires-clause-meant : goal.passed_events-requires-clause-meant
 passed_events-requires-clause-meant c =

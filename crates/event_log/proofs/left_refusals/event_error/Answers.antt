@@ -1,5 +1,5 @@
 use Rattle.event_log.proofs.PlacedErrors.{placed-error}
-use Rattle.event_log.proofs.left_imports.event_error.Goals as goal
+use Rattle.event_log.proofs.left_refusals.event_error.Goals as goal
 
 pub cycle_error-requires-clause-behind : goal.cycle_error-requires-clause-behind
 cycle_error-requires-clause-behind c = c.requires.behind c.in-Cycle.event c.in-Cycle.is

@@ -10,7 +10,7 @@ use Rattle.event_log.specs.declared.refusals.LogError.TheVariants.{Cycle}
 use Rattle.event_log.specs.HopLines.{hop_lines}
 use Rattle.event_log.specs.LogPlaces.{hop_in, place_in}
 use Rattle.event_log.proofs.PlacedErrors.{hops-within}
-use Rattle.event_log.proofs.left_imports.told_cycle.Goals as goal
+use Rattle.event_log.proofs.left_refusals.told_cycle.Goals as goal
 
 pub hop_lines-requires : goal.hop_lines-requires
 hop_lines-requires c =
