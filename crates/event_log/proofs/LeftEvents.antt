@@ -8,14 +8,14 @@ use Rattle.std.proofs.lemmas.List.Elements.{All-cons, All-nil}
 use Rattle.timed_events.specs.declared.events.Event.{Event}
 use Rattle.timed_events.specs.declared.events.EventAct.{EventAct}
 use Rattle.timed_events.specs.declared.events.EventAct.TheVariants as act
-use Rattle.timed_events.specs.Checks.{AreMeant, AreOfProcessors}
+use Rattle.timed_events.specs.Checks.{AreMeant, AreOfProcessors, is_send, sends_at}
 use Rattle.timed_events.proofs.SpreadTraces.{meant-processors}
 use Rattle.event_log.specs.declared.logs.NamedEvents.{NamedEvents}
 use Rattle.event_log.specs.declared.reading.TheConstants.{MAX_EVENTS}
 use Rattle.event_log.specs.Events.{Seen, SeenAct, Sends, Receives, seen, seen_act}
 use Rattle.event_log.specs.TakenEvents.{AreLeftBy}
 use Rattle.event_log.specs.Logs.{seen_log}
-use Rattle.event_log.specs.LostSends.{AreLeft, is_lost, is_send, left_act, left_before, left_event, left_places, new_places, renumbered_at, sends_at}
+use Rattle.event_log.specs.LostSends.{AreLeft, is_lost, left_act, left_before, left_event, left_places, new_places, renumbered_at}
 use Rattle.event_log.specs.SoundLogs.{IsSound, IsWithin, SendsWithin}
 use Rattle.event_log.proofs.LostSends.{left-few}
 use Rattle.event_log.proofs.MeantEvents.{are-meant, within-at}

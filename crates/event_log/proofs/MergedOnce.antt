@@ -10,12 +10,12 @@ use Rattle.timed_events.specs.declared.events.Event.{Event}
 use Rattle.timed_events.specs.declared.events.EventAct.{EventAct}
 use Rattle.timed_events.specs.declared.events.EventAct.TheVariants as act
 use Rattle.timed_events.specs.Causes.{IsTimeOrder}
-use Rattle.timed_events.specs.Checks.{messages_at}
+use Rattle.timed_events.specs.Checks.{messages_at, sends_at}
 use Rattle.timed_events.specs.Firsts.{any_below}
 use Rattle.timed_events.specs.Times.{time_ticks}
 use Rattle.event_log.specs.Events.{Seen, SeenAct, Sends, Receives, seen, seen_act}
 use Rattle.event_log.specs.LostSends.{left_message}
-use Rattle.merged_receives.specs.Merges.{is_joined, is_merged, is_part, is_receive, is_send_between, parts_of, receives_at, sends_at, staying_before, staying_places}
+use Rattle.merged_receives.specs.Merges.{is_joined, is_merged, is_part, is_receive, is_send_between, parts_of, receives_at, staying_before, staying_places}
 use Rattle.merged_receives.proofs.OneMerge.{order-once}
 use Rattle.event_log.specs.TakenEvents.{AreMergedBy, AreTaken, first_places, log_parts}
 use Rattle.event_log.specs.Merges.{AreJoined, joined_at, joined_event, joined_messages, receiving}

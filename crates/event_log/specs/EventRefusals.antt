@@ -3,10 +3,9 @@ use Rattle.std.specs.Prelude.{ℕ, ◌≡◌, ◌+◌, List, None, slice_get, sl
 use Rattle.std.specs.Option.{option_map_or}
 use Rattle.timed_events.specs.declared.cause_cycles.Hop.{Hop}
 use Rattle.timed_events.specs.declared.events.Event.{Event}
-use Rattle.timed_events.specs.declared.events.EventAct.{EventAct}
-use Rattle.timed_events.specs.declared.events.EventAct.TheVariants as act
 use Rattle.timed_events.specs.declared.events.EventError.{EventError}
 use Rattle.timed_events.specs.declared.events.EventError.TheVariants as refused
+use Rattle.timed_events.specs.Briefs.{sent_to}
 use Rattle.timed_events.specs.Causes.{IsFirstUnplaceable}
 use Rattle.timed_events.specs.Checks.{first_fault, processor_at, messages_at}
 use Rattle.timed_events.specs.CauseCycles.{BeginsAtLeast, IsCauseCycle}
@@ -20,12 +19,7 @@ use Rattle.event_log.specs.HopLines.{hop_lines}
 use Rattle.event_log.specs.Naming.{is_memory}
 use Rattle.event_log.specs.ToldNames.{message_name, node_name}
 
--- the processor to which an event sends; 0 in a receive
-abbrev pub sent_to : EventAct → ℕ
-sent_to (act.Send to) = to
-sent_to (act.Receive messages) = 0
-
--- the same of the event at a place
+-- the processor to which the event at a place sends; 0 if it doesn't
 abbrev pub receiver_at : List Event → ℕ → ℕ
 receiver_at events s = option_map_or (λ e. sent_to e.act) (slice_get events s) 0
 

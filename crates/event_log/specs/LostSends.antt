@@ -1,24 +1,15 @@
 -- The events of a log but the sends of messages that no record receives.
-use Rattle.std.specs.Prelude.{ℕ, ◌≡◌, ◌==◌, ◌&&◌, not, Bool, true, false, List, length, map, Option, Some, slice_get}
+use Rattle.std.specs.Prelude.{ℕ, ◌≡◌, ◌==◌, ◌&&◌, not, Bool, List, length, map, Option, option_map, Some, slice_get}
 use Rattle.std.specs.List.{filter, list_any, range_with_len}
-use Rattle.std.specs.Option.{option_and_then, option_map_or}
-use Rattle.std.specs.Prelude.{option_map}
+use Rattle.std.specs.Option.{option_and_then}
 use Rattle.timed_events.specs.declared.events.Event.{Event}
-use Rattle.timed_events.specs.declared.events.EventAct.{EventAct}
-use Rattle.timed_events.specs.declared.events.EventAct.TheVariants as act
+use Rattle.timed_events.specs.Checks.{sends_at}
 use Rattle.timed_events.specs.Received.{hops_of}
 use Rattle.event_log.specs.Events.{Seen, SeenAct, Sends, Receives, seen}
 
 -- whether some event received the message of event s
 abbrev pub is_received : List Event → ℕ → Bool
 is_received events s = list_any (λ hop. hop.message == s) (hops_of events)
-
-abbrev pub is_send : EventAct → Bool
-is_send (act.Send to) = true
-is_send (act.Receive messages) = false
-
-abbrev pub sends_at : List Event → ℕ → Bool
-sends_at events s = option_map_or (λ e. is_send e.act) (slice_get events s) false
 
 -- whether event s sends a message that no event received
 abbrev pub is_lost : List Event → ℕ → Bool

@@ -5,10 +5,10 @@ use Rattle.std.proofs.lemmas.Bool.{and_from, and_parts, cases_eq, cases_lt, eq-e
 use Rattle.std.proofs.lemmas.Int.{ints}
 use Rattle.timed_events.specs.declared.events.Event.{Event}
 use Rattle.timed_events.specs.Causes.{is_earlier}
-use Rattle.timed_events.specs.Checks.{processor_at, time_at}
+use Rattle.timed_events.specs.Checks.{processor_at, time_at, sends_at}
 use Rattle.timed_events.specs.Firsts.{any_below}
 use Rattle.timed_events.proofs.EarlierEvents.{earlier-other}
-use Rattle.merged_receives.specs.Merges.{is_joined, is_merged, is_part, is_send_between, receives_at, sends_at}
+use Rattle.merged_receives.specs.Merges.{is_joined, is_merged, is_part, is_send_between, receives_at}
 use Rattle.merged_receives.specs.MergeWalks.{IsHead}
 
 -- no test below a number passes

@@ -9,10 +9,10 @@ use Rattle.timed_events.specs.declared.events.EventAct.{EventAct}
 use Rattle.timed_events.specs.declared.events.EventAct.TheVariants as act
 use Rattle.timed_events.specs.Causes.{IsTimeOrder, is_earlier}
 use Rattle.timed_events.specs.CausalWalks.{index_at}
-use Rattle.timed_events.specs.Checks.{AreOfProcessors, processor_at}
+use Rattle.timed_events.specs.Checks.{AreOfProcessors, processor_at, is_send, sends_at}
 use Rattle.timed_events.proofs.SortedEvents.{place-found}
 use Rattle.timed_events.proofs.TimeOrders.{before-in_order, differ-in_order, found-before, inside-order}
-use Rattle.merged_receives.specs.Merges.{is_joined, is_receive, is_merged, is_send, is_send_between, receives_at, sends_at}
+use Rattle.merged_receives.specs.Merges.{is_joined, is_receive, is_merged, is_send_between, receives_at}
 use Rattle.merged_receives.specs.MergeWalks.{AreHeadsOf, AreRising, IsHead, head_by}
 use Rattle.merged_receives.proofs.JoinedReceives.{IsJoined, between-is, is-between, is-joined, joined-is, none-unmerged, part-joined, part-self}
 

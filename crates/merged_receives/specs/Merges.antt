@@ -8,21 +8,13 @@ use Rattle.timed_events.specs.declared.events.Event.{Event}
 use Rattle.timed_events.specs.declared.events.EventAct.{EventAct}
 use Rattle.timed_events.specs.declared.events.EventAct.TheVariants as act
 use Rattle.timed_events.specs.Causes.{IsTimeOrder, is_earlier}
-use Rattle.timed_events.specs.Checks.{processor_at}
+use Rattle.timed_events.specs.Checks.{processor_at, sends_at}
 use Rattle.timed_events.specs.Firsts.{any_below}
 use Rattle.timed_events.specs.Times.{time_ticks, times_refusal}
 
 abbrev pub is_receive : EventAct → Bool
 is_receive (act.Send to) = false
 is_receive (act.Receive messages) = true
-
-abbrev pub is_send : EventAct → Bool
-is_send (act.Send to) = true
-is_send (act.Receive messages) = false
-
--- whether event i sends
-abbrev pub sends_at : List Event → ℕ → Bool
-sends_at events i = option_map_or (λ e. is_send e.act) (slice_get events i) false
 
 -- whether event i receives, possibly nothing
 abbrev pub receives_at : List Event → ℕ → Bool

@@ -1,10 +1,10 @@
 -- What makes events a trace: each message is received by the one to whom it was sent, once, in a later tick. No
 -- processor has two events in a tick (own).
-use Rattle.std.specs.Prelude.{ℕ, ◌≡◌, ◌+◌, ◌*◌, ◌-◌, ◌≤◌, ◌<◌, List, [], length, take, Option, Some, None, Bool, false}
+use Rattle.std.specs.Prelude.{ℕ, ◌≡◌, ◌+◌, ◌*◌, ◌-◌, ◌≤◌, ◌<◌, List, [], length, take, Option, Some, None, Bool}
 use Rattle.std.specs.Prelude.{◌==◌, ◌||◌, ◌&&◌, not, nat_lt, int_lt, pos, slice_get, slice_index_or, if◌then◌else◌, ℤ}
 use Rattle.std.specs.List.{list_any}
 use Rattle.std.specs.Option.{option_or, option_map_or}
-use Rattle.std.specs.Prelude.{option_map}
+use Rattle.std.specs.Prelude.{option_map, true, false}
 use Rattle.step_trace.specs.declared.configurations.TheConstants.{MAX_PROCESSORS}
 use Rattle.timed_events.specs.declared.events.Event.{Event}
 use Rattle.timed_events.specs.declared.events.EventAct.{EventAct}
@@ -20,6 +20,11 @@ use Rattle.timed_events.specs.Firsts.{first_of, any_below}
 abbrev pub sends_to : EventAct → ℕ → Bool
 sends_to (Send to) p = to == p
 sends_to (Receive messages) p = false
+
+-- whether it is a Send
+abbrev pub is_send : EventAct → Bool
+is_send (Send to) = true
+is_send (Receive messages) = false
 
 -- the messages that it receives
 abbrev pub received_in : EventAct → List (Option ℕ)
@@ -40,6 +45,10 @@ messages_at events i = option_map_or (λ e. received_in e.act) (slice_get events
 
 abbrev pub time_at : List Event → ℕ → ℤ
 time_at events i = option_map_or (λ e. e.time) (slice_get events i) (pos 0)
+
+-- whether event i sends
+abbrev pub sends_at : List Event → ℕ → Bool
+sends_at events i = option_map_or (λ e. is_send e.act) (slice_get events i) false
 
 -- whether event s is a Send to p
 abbrev pub is_for : List Event → ℕ → ℕ → Bool
