@@ -6,12 +6,12 @@ ghost use Rattle.std.specs.List.{list_any};
 ghost use Rattle.timed_events.specs.Checks.{is_message, time_at};
 ghost use Rattle.clock_offsets.specs.ClockCycles.{IsClockCycle, IsClockHop};
 
-use crate::needs::{clock_at, needs_among, time_at};
+use crate::needs::{clock_at, needs_among};
 use crate::offsets::{CLOCKS, by_way_of, is_ahead};
 use crate::refusals::OffsetError;
 use std::alloc::{AllocError, Global};
 use step_trace::MAX_STEPS;
-use timed_events::{Event, Hop, hops_of};
+use timed_events::{Event, Hop, hops_of, time_at};
 
 /// A message on its way from one clock to another.
 #[derive(Clone, Copy, Debug, PartialEq, Eq)]

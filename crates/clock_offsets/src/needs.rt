@@ -1,7 +1,6 @@
 //! What the messages of events need of the clocks of their processors.
 
 ghost use Rattle.std.specs.Prelude.{◌≡◌, ◌<◌, ◌≤◌, ◌-◌, ℕ, IfErr, IfOk, OnOk, Some, length};
-ghost use Rattle.timed_events.specs.Checks.{time_at};
 ghost use Rattle.clock_offsets.specs.ClockOffsets.{greater};
 ghost use Rattle.clock_offsets.specs.EventNeeds.{clock_at, need_of, with_need, AreNeedsAmong};
 ghost use Rattle.clock_offsets.specs.Matrices.{needs_at, IsWant};
@@ -9,7 +8,7 @@ ghost use Rattle.clock_offsets.specs.Matrices.{needs_at, IsWant};
 use crate::offsets::CLOCKS;
 use crate::refusals::OffsetError;
 use std::alloc::Global;
-use timed_events::{Event, Hop};
+use timed_events::{Event, Hop, time_at};
 
 /// The greatest need that any of these messages has, for each two clocks: row after row, what the second needs of the
 /// first.
@@ -82,16 +81,6 @@ pub(crate) fn clock_at(events: &[Event], place: usize) -> usize
 {
     match events.get(place) {
         Some(event) => event.processor.saturating_sub(1) as usize,
-        None => 0,
-    }
-}
-
-/// The time of the event at a place; 0 if there is none.
-pub(crate) fn time_at(events: &[Event], place: usize) -> i128
-    ensures { result ≡ time_at events.now place }
-{
-    match events.get(place) {
-        Some(event) => event.time,
         None => 0,
     }
 }
