@@ -1,16 +1,17 @@
 //! What makes events a trace, tested event by event.
 
-ghost use Rattle.std.specs.Prelude.{◌≡◌, ◌<◌, ◌≤◌, ◌+◌, ◌||◌, ◌↔◌, ℕ, None, Some, false, length, map, IfOk, OnOk};
+ghost use Rattle.std.specs.Prelude.{◌≡◌, ◌<◌, ◌+◌, ◌||◌, ◌↔◌, ℕ, None, Some, false, length, map, IfOk, OnOk};
 ghost use Rattle.std.specs.Prelude.{OnErr, MatchResult, IsTrue, IsSome, is_some, nat_eq, slice_get, slice_index_or};
 ghost use Rattle.std.specs.Prelude.{All};
 ghost use Rattle.std.specs.HashSet.{contains};
 ghost use Rattle.timed_events.specs.Briefs.{brief_of};
-ghost use Rattle.timed_events.specs.Checks.{is_for, received_before, messages_at, message_refusal, messages_refusal};
+ghost use Rattle.timed_events.specs.Checks.{received_before, messages_at, message_refusal, messages_refusal};
 ghost use Rattle.timed_events.specs.Checks.{late_hint, apart_hint, moment_at, earlier_at, second_refusal};
 ghost use Rattle.timed_events.specs.Checks.{events_refusal, AreOfProcessors, AreMeant, IsMeantAt, IsEventRefusal};
 
 use crate::briefs::{Brief, briefs_of};
 use crate::events::{Event, EventAct, EventError, Hint};
+use crate::message_checks::sent_by;
 use std::alloc::Global;
 use std::collections::HashSet;
 use step_trace::MAX_PROCESSORS;
@@ -114,25 +115,7 @@ fn sent_before(
         message ≡ None) (λ why. message_refusal events.now ticks.now
         (λ s. slice_index_or taken.now s false) place k message ≡ Some why) }
 {
-    let Some(sent) = message else {
-        return Err(EventError::NeverSent {
-            event: place,
-            message: k,
-        });
-    };
-    let sent = sent as usize;
-    if !is_sent_to(events, briefs, sent, events[place].processor) {
-        return Err(EventError::WrongReceiver {
-            event: place,
-            message: k,
-        });
-    }
-    if taken[sent] {
-        return Err(EventError::ReceivedBefore {
-            event: place,
-            message: k,
-        });
-    }
+    let sent = sent_by(events, briefs, place, k, message, taken)?;
     if ticks[sent] < ticks[place] {
         return Ok(sent);
     }
@@ -142,20 +125,6 @@ fn sent_before(
         message: k,
         hint,
     })
-}
-
-/// Whether the event at `place` is a Send to this processor, by the briefs of the events, which are read by the clauses
-/// alone.
-pub(crate) fn is_sent_to(events: &[Event], briefs: &[Brief], place: usize, processor: u64) -> bool
-    requires briefs { briefs.now ≡ map brief_of events.now }
-    requires processor { (1 ≤ processor) × (processor ≤ MAX_PROCESSORS) }
-    ensures value { result ≡ is_for events.now place processor }
-    ensures inside { IsTrue result → place < length events.now }
-{
-    match briefs.get(place) {
-        Some(brief) => u64::from(brief.to) == processor,
-        None => false,
-    }
 }
 
 /// What would help against a receive no later than its Send: nothing does if a processor receives its own message
