@@ -70,8 +70,8 @@ impl LogPlaces {
     }
 }
 
-/// The place in the log of the event at a place among those that are at these places.
-pub(crate) fn place_in(places: &[u32], place: usize) -> u32
+/// The place in the log of the event at a place among those that are at these places; 0 if there is none.
+pub fn place_in(places: &[u32], place: usize) -> u32
     ensures { result ≡ place_in places.now place }
 {
     match places.get(place) {
@@ -81,7 +81,7 @@ pub(crate) fn place_in(places: &[u32], place: usize) -> u32
 }
 
 /// How far events moved, by the place of the farthest in the log.
-pub(crate) fn moved_in(places: &[u32], moved: Moved) -> Moved
+pub fn moved_in(places: &[u32], moved: Moved) -> Moved
     ensures { result ≡ moved_in (Some places.now) moved }
 {
     let farthest = match moved.farthest {

@@ -83,7 +83,7 @@ pub(crate) fn told_of<'a, F: Fields>(
 }
 
 /// The time that a field gives: of the kind of the times, if that is settled.
-fn moment_as(kind: Option<TimeKind>, field: &[u8]) -> Option<Moment>
+pub fn moment_as(kind: Option<TimeKind>, field: &[u8]) -> Option<Moment>
     ensures { result ≡ moment_as kind field.now }
 {
     match kind {

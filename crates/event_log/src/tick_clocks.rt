@@ -70,7 +70,7 @@ fn above_zero(units: u128) -> Result<u128, LogError>
 }
 
 /// When a log with times of this kind ends, if that is given.
-pub(crate) fn until_for(kind: TimeKind, until: Option<LogEnd>) -> Result<Option<i128>, LogError>
+pub fn until_for(kind: TimeKind, until: Option<LogEnd>) -> Result<Option<i128>, LogError>
     ensures { result ≡ until_in kind until }
 {
     let Some(end) = until else {

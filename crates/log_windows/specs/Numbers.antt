@@ -1,5 +1,5 @@
 -- What is told about a window, by the records of the whole log.
-use Rattle.std.specs.Prelude.{ℕ, ◌+◌, ◌-◌, List, map, option_map, slice_index_or}
+use Rattle.std.specs.Prelude.{ℕ, ◌+◌, ◌-◌, List, map, option_map, Some}
 use Rattle.event_log.specs.declared.cycle_lines.CycleLine.{CycleLine}
 use Rattle.event_log.specs.declared.cycle_lines.CycleLine.TheVariants as line
 use Rattle.event_log.specs.declared.imports.Import.{Import}
@@ -10,11 +10,7 @@ use Rattle.event_log.specs.declared.refusals.LogError.TheVariants.{ReceivedBefor
 use Rattle.event_log.specs.declared.refusals.LogError.TheVariants.{NoOffsets}
 use Rattle.timed_events.specs.declared.lateness.LateMessage.{LateMessage}
 use Rattle.timed_events.specs.declared.lateness.Lateness.{Lateness}
-use Rattle.timed_events.specs.declared.spread_traces.Moved.{Moved}
-
--- the place in the log of the event at a place of the window
-abbrev pub place_in : List ℕ → ℕ → ℕ
-place_in places i = slice_index_or places i 0
+use Rattle.event_log.specs.LogPlaces.{moved_in, place_in}
 
 -- the number in the log of the record of the window that has this number; an event at place i is in record i + 2
 abbrev pub number_in : List ℕ → ℕ → ℕ
@@ -50,11 +46,6 @@ refusal_in places (Cycle n lines) = Cycle (number_in places n) (lines_in places 
 refusal_in places (NoOffsets lines) = NoOffsets (lines_in places lines)
 refusal_in places why = why
 
--- how far events moved, by the place of the farthest in the log
-abbrev pub moved_in : List ℕ → Moved → Moved
-moved_in places moved =
-    record { events = moved.events; ticks = moved.ticks; farthest = option_map (place_in places) moved.farthest }
-
 -- a late message by the places of its events in the log
 abbrev pub late_in : List ℕ → LateMessage → LateMessage
 late_in places late =
@@ -67,4 +58,4 @@ lateness_in places lateness =
 -- an import of the window by the records of the log
 abbrev pub import_in : List ℕ → Import → Import
 import_in places import =
-    record import { moved = moved_in places import.moved; lateness = lateness_in places import.lateness }
+    record import { moved = moved_in (Some places) import.moved; lateness = lateness_in places import.lateness }

@@ -1,10 +1,9 @@
 //! A window of a log, as its times are counted.
 
 ghost use Rattle.std.specs.Prelude.{◌≡◌};
-ghost use Rattle.event_log.specs.TickClocks.{until_in};
 ghost use Rattle.log_windows.specs.Bounds.{bounds_in, bounds_of, first_in, is_within, kind_of, settled_by, times_by};
 
-use event_log::{LogEnd, LogError, TimeKind, end_in};
+use event_log::{LogEnd, LogError, TimeKind, end_in, until_for};
 
 /// A window, as the times of a log are counted.
 #[derive(Clone, Copy)]
@@ -65,7 +64,7 @@ fn bounds_in(kind: TimeKind, from: LogEnd, until: Option<LogEnd>) -> Result<Boun
     ensures { result ≡ bounds_in kind from until }
 {
     let first = first_in(kind, from)?;
-    let last = last_in(kind, until)?;
+    let last = until_for(kind, until)?;
     bounds_of(first, last)
 }
 
@@ -76,16 +75,6 @@ fn first_in(kind: TimeKind, from: LogEnd) -> Result<i128, LogError>
     match end_in(kind, from) {
         Ok(first) => Ok(first),
         Err(_) => Err(LogError::FromUnfit),
-    }
-}
-
-/// The last time of a window, if it has one.
-fn last_in(kind: TimeKind, until: Option<LogEnd>) -> Result<Option<i128>, LogError>
-    ensures { result ≡ until_in kind until }
-{
-    match until {
-        None => Ok(None),
-        Some(until) => Ok(Some(end_in(kind, until)?)),
     }
 }
 

@@ -7,29 +7,19 @@ ghost use Rattle.event_log.specs.Naming.{is_memory};
 ghost use Rattle.trace_text.specs.Records.{ReachesUnless};
 ghost use Rattle.trace_text.specs.RecordWriting.{our_writer};
 ghost use Rattle.log_windows.specs.Numbers.{import_in, late_in, lateness_in, line_in, lines_in};
-ghost use Rattle.log_windows.specs.Numbers.{moved_in, number_in, place_in, refusal_in};
+ghost use Rattle.log_windows.specs.Numbers.{number_in, refusal_in};
 ghost use Rattle.log_windows.specs.NumberedRows.{numbered_row, table_in};
 
 use crate::rows::{push_row, with_field};
 use csv::ByteRecord;
-use event_log::{CycleLine, CycleLines, Import, LogError, TakeRows, take_rows};
+use event_log::{CycleLine, CycleLines, Import, LogError, TakeRows, moved_in, place_in, take_rows};
 use std::alloc::{AllocError, Global};
 use std::marker::Model;
-use timed_events::{LateMessage, Lateness, Moved};
+use timed_events::{LateMessage, Lateness};
 use trace_text::records::{field, number};
 
 /// Where the table of steps has the number of a record.
 const RECORD_COLUMN: usize = 3;
-
-/// The place in the log of the event at a place of the window.
-fn place_in(places: &[u32], place: usize) -> u32
-    ensures { result ≡ place_in places.now place }
-{
-    match places.get(place) {
-        Some(place) => *place,
-        None => 0,
-    }
-}
 
 /// The number in the log of the record of the window that has this number.
 fn number_in(places: &[u32], number: u64) -> u64
@@ -130,21 +120,6 @@ pub(crate) fn import_in(places: &[u32], import: Import) -> Import
         idle,
         lost,
         merged,
-    }
-}
-
-/// How far events moved, by the place of the farthest in the log.
-fn moved_in(places: &[u32], moved: Moved) -> Moved
-    ensures { result ≡ moved_in places.now moved }
-{
-    let farthest = match moved.farthest {
-        Some(place) => Some(place_in(places, place) as usize),
-        None => None,
-    };
-    Moved {
-        events: moved.events,
-        ticks: moved.ticks,
-        farthest,
     }
 }
 

@@ -3,7 +3,6 @@
 ghost use Rattle.std.specs.Prelude.{◌≡◌, ◌++◌, ◌+◌, IfOk, IfErr, OnOk};
 ghost use Rattle.csv.specs.Records.{fields_of};
 ghost use Rattle.csv.specs.Writing.{row_text};
-ghost use Rattle.event_log.specs.LogRecords.{moment_as};
 ghost use Rattle.event_log.specs.Naming.{is_memory};
 ghost use Rattle.trace_text.specs.Records.{ReachesUnless};
 ghost use Rattle.trace_text.specs.RecordWriting.{our_writer};
@@ -16,7 +15,7 @@ use crate::rows::{push_row, with_field};
 use csv::ByteRecord;
 use event_log::{
     Columns, LogEnd, LogError, Moment, NameSet, TakeRows, TimeKind, TimeUnit, columns_of,
-    moment_in, read_moment, settled,
+    moment_as, settled,
 };
 use std::alloc::{AllocError, Global};
 use std::marker::Model;
@@ -328,14 +327,4 @@ pub(crate) fn key_of(alloc: Global, name: &[u8], node: &[u8]) -> Result<Vec<u8>,
     key.push(b' ')?;
     key.extend_from_slice(node)?;
     Ok(key)
-}
-
-/// The time that a field gives: of the kind of the times, if that is settled.
-fn moment_as(kind: Option<TimeKind>, field: &[u8]) -> Option<Moment>
-    ensures { result ≡ moment_as kind field.now }
-{
-    match kind {
-        None => read_moment(field),
-        Some(kind) => moment_in(kind, field),
-    }
 }
