@@ -57,7 +57,7 @@ pub use imports::{IdleReceives, Import, read_log};
 pub use laws::log_laws;
 pub use log_places::{moved_in, place_in};
 pub use logs::{NamedEvents, events_of_log};
-pub use names::{Name, NameSet, are_message_names};
+pub use names::{AddedName, Name, NameSet, are_message_names};
 pub use option_texts::{OptionTexts, read_options};
 pub use options::{OptionError, Options};
 pub use reading::MAX_EVENTS;

@@ -123,6 +123,15 @@ pub fn are_message_names(field: &[u8]) -> bool
     true
 }
 
+/// A name that is in a set.
+#[derive(Clone, Copy, Debug)]
+pub struct AddedName {
+    /// Its place.
+    pub place: usize,
+    /// Whether it wasn't there before.
+    pub is_new: bool,
+}
+
 /// Different names, in the order in which they came. A name's place is its position, from 0.
 #[derive(Drop)]
 pub struct NameSet {
@@ -180,16 +189,19 @@ impl NameSet {
         Ok(NameSet { names })
     }
 
-    /// Puts a name last, unless it is there, and gives its place and whether it is new.
-    pub fn add(&mut self, alloc: Global, name: &[u8]) -> Result<(usize, bool), AllocError>
+    /// Puts a name last, unless it is there.
+    pub fn add(&mut self, alloc: Global, name: &[u8]) -> Result<AddedName, AllocError>
         ensures names { OnOk result (self.new ≡ with_name self.old name.now) }
-        ensures place { IfOk result (λ r. r.0 ≡ position_or_len (bytes_eq name.now) self.old) }
-        ensures added { IfOk result (λ r. r.1 ≡ not (has_name self.old name.now)) }
-        ensures within { IfOk result (λ r. r.0 < length self.new) }
+        ensures place { IfOk result (λ a. a.place ≡ position_or_len (bytes_eq name.now) self.old) }
+        ensures added { IfOk result (λ a. a.is_new ≡ not (has_name self.old name.now)) }
+        ensures within { IfOk result (λ a. a.place < length self.new) }
         ensures kept { OnErr result (self.new ≡ self.old) }
     {
         if let Some(place) = self.place_of(name) {
-            return Ok((place, false));
+            return Ok(AddedName {
+                place,
+                is_new: false,
+            });
         }
         self.add_new(alloc, name)
     }
@@ -200,15 +212,18 @@ impl NameSet {
         alloc: Global,
         name: &[u8],
         guess: usize,
-    ) -> Result<(usize, bool), AllocError>
+    ) -> Result<AddedName, AllocError>
         ensures names { OnOk result (self.new ≡ with_name self.old name.now) }
-        ensures place { IfOk result (λ r. r.0 ≡ position_or_len (bytes_eq name.now) self.old) }
-        ensures added { IfOk result (λ r. r.1 ≡ not (has_name self.old name.now)) }
-        ensures within { IfOk result (λ r. r.0 < length self.new) }
+        ensures place { IfOk result (λ a. a.place ≡ position_or_len (bytes_eq name.now) self.old) }
+        ensures added { IfOk result (λ a. a.is_new ≡ not (has_name self.old name.now)) }
+        ensures within { IfOk result (λ a. a.place < length self.new) }
         ensures kept { OnErr result (self.new ≡ self.old) }
     {
         if self.is_at(guess, name) {
-            return Ok((guess, false));
+            return Ok(AddedName {
+                place: guess,
+                is_new: false,
+            });
         }
         self.add(alloc, name)
     }
@@ -224,15 +239,11 @@ impl NameSet {
     }
 
     /// The same for a name that is most likely new: it is looked up once, after it was copied.
-    pub(crate) fn add_new(
-        &mut self,
-        alloc: Global,
-        name: &[u8],
-    ) -> Result<(usize, bool), AllocError>
+    pub(crate) fn add_new(&mut self, alloc: Global, name: &[u8]) -> Result<AddedName, AllocError>
         ensures names { OnOk result (self.new ≡ with_name self.old name.now) }
-        ensures place { IfOk result (λ r. r.0 ≡ position_or_len (bytes_eq name.now) self.old) }
-        ensures added { IfOk result (λ r. r.1 ≡ not (has_name self.old name.now)) }
-        ensures within { IfOk result (λ r. r.0 < length self.new) }
+        ensures place { IfOk result (λ a. a.place ≡ position_or_len (bytes_eq name.now) self.old) }
+        ensures added { IfOk result (λ a. a.is_new ≡ not (has_name self.old name.now)) }
+        ensures within { IfOk result (λ a. a.place < length self.new) }
         ensures kept { OnErr result (self.new ≡ self.old) }
     {
         let key = NameKey::new(alloc, name)?;
@@ -240,22 +251,25 @@ impl NameSet {
     }
 }
 
-/// Puts a name last, unless it is there, and gives its place and whether it is new.
+/// Puts a name last, unless it is there.
 fn insert(
     names: &mut IndexSet<NameKey<'static>>,
     key: NameKey<'static>,
-) -> Result<(usize, bool), AllocError>
+) -> Result<AddedName, AllocError>
     ensures names { OnOk result
         (names_in names.new ≡ with_name (names_in names.old) (name_of key.entry)) }
     ensures place { IfOk result
-        (λ r. r.0 ≡ position_or_len (bytes_eq (name_of key.entry)) (names_in names.old)) }
+        (λ a. a.place ≡ position_or_len (bytes_eq (name_of key.entry)) (names_in names.old)) }
     ensures added { IfOk result
-        (λ r. r.1 ≡ not (has_name (names_in names.old) (name_of key.entry))) }
-    ensures within { IfOk result (λ r. r.0 < length (names_in names.new)) }
+        (λ a. a.is_new ≡ not (has_name (names_in names.old) (name_of key.entry))) }
+    ensures within { IfOk result (λ a. a.place < length (names_in names.new)) }
     ensures kept { OnErr result (names_in names.new ≡ names_in names.old) }
 {
     let Ok(added) = names.insert_full(key) else {
         return Err(AllocError);
     };
-    Ok(added)
+    Ok(AddedName {
+        place: added.0,
+        is_new: added.1,
+    })
 }

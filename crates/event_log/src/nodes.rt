@@ -5,7 +5,7 @@ ghost use Rattle.std.specs.List.{position_or_len};
 ghost use Rattle.std.specs.Str.{bytes_eq};
 ghost use Rattle.event_log.specs.Names.{with_name};
 
-use crate::names::NameSet;
+use crate::names::{AddedName, NameSet};
 use std::alloc::{AllocError, Global};
 use std::marker::Model;
 
@@ -63,7 +63,7 @@ impl Nodes {
     {
         let slot = slot_of(name) as usize;
         let guess = self.found[slot] as usize;
-        let (place, _) = self.names.add_near(alloc, name, guess)?;
+        let AddedName { place, .. } = self.names.add_near(alloc, name, guess)?;
         self.found[slot] = (place % SLOTS) as u8;
         Ok(place)
     }

@@ -7,7 +7,7 @@ ghost use Rattle.event_log.specs.Options.{HasBadUntil, IsIdleIn, IsNodeFault, Is
 ghost use Rattle.event_log.specs.Options.{IsUntilIn, IsWidthIn, is_next_node, parts_between_commas, told_options};
 ghost use Rattle.event_log.specs.Times.{nanoseconds_of};
 
-use crate::names::{MAX_NODES, NameSet, is_node_name};
+use crate::names::{AddedName, MAX_NODES, NameSet, is_node_name};
 use crate::options::{OptionError, Options};
 use crate::results::both;
 use crate::times::{LogEnd, TimeUnit, Width, read_end, read_unit, read_width};
@@ -43,13 +43,13 @@ pub fn read_options(alloc: Global, given: &OptionTexts<'_>) -> Result<Options, O
 {
     let nodes = listed_nodes(alloc, given.nodes);
     let times = told_times(given.unit, given.tick, given.until, given.idle);
-    let (nodes, (unit, width, until, idle)) = both(nodes, times)?;
+    let (nodes, told) = both(nodes, times)?;
     Ok(Options {
         nodes,
-        unit,
-        width,
-        until,
-        idle,
+        unit: told.unit,
+        width: told.width,
+        until: told.until,
+        idle: told.idle,
         spread: given.spread,
         align: given.align,
         drop_lost: given.drop_lost,
@@ -71,6 +71,15 @@ fn listed_nodes(alloc: Global, text: Option<&str>) -> Result<Option<NameSet>, Op
     Ok(Some(nodes))
 }
 
+/// What texts say about the times of a log, as `Options` has it.
+#[derive(Clone, Copy)]
+struct ToldTimes {
+    unit: Option<TimeUnit>,
+    width: Width,
+    until: Option<LogEnd>,
+    idle: Option<Width>,
+}
+
 /// The unit of the times, the length of a tick, the end of the log and the longest time without an event that texts
 /// give.
 ///
@@ -80,12 +89,12 @@ fn told_times(
     tick: Option<&str>,
     until: Option<&str>,
     idle: Option<&str>,
-) -> Result<(Option<TimeUnit>, Width, Option<LogEnd>, Option<Width>), OptionError>
-    ensures unit { IfOk result (λ t. IsUnitIn (option_map (λ t. t.now) unit.entry) t.0) }
-    ensures width { IfOk result (λ t. IsWidthIn (option_map (λ t. t.now) tick.entry) t.1) }
-    ensures short { IfOk result (λ t. nanoseconds_of t.1 < 2 ^ 94) }
-    ensures until { IfOk result (λ t. IsUntilIn (option_map (λ t. t.now) until.entry) t.2) }
-    ensures idle { IfOk result (λ t. IsIdleIn (option_map (λ t. t.now) idle.entry) t.3) }
+) -> Result<ToldTimes, OptionError>
+    ensures unit { IfOk result (λ t. IsUnitIn (option_map (λ t. t.now) unit.entry) t.unit) }
+    ensures width { IfOk result (λ t. IsWidthIn (option_map (λ t. t.now) tick.entry) t.width) }
+    ensures short { IfOk result (λ t. nanoseconds_of t.width < 2 ^ 94) }
+    ensures until { IfOk result (λ t. IsUntilIn (option_map (λ t. t.now) until.entry) t.until) }
+    ensures idle { IfOk result (λ t. IsIdleIn (option_map (λ t. t.now) idle.entry) t.idle) }
     ensures refused { IfErr result
         (IsTimeFault (option_map (λ t. t.now) unit.entry) (option_map (λ t. t.now) tick.entry)
         (option_map (λ t. t.now) until.entry) (option_map (λ t. t.now) idle.entry)) }
@@ -102,7 +111,12 @@ fn told_times(
     let Some(idle) = told_idle(idle) else {
         return Err(OptionError::Idle);
     };
-    Ok((unit, width, until, idle))
+    Ok(ToldTimes {
+        unit,
+        width,
+        until,
+        idle,
+    })
 }
 
 /// The unit that a text names, if there is one.
@@ -187,7 +201,7 @@ fn list_node(alloc: Global, nodes: &mut NameSet, name: &[u8]) -> Result<(), Opti
     if nodes.len() >= MAX_NODES {
         return Err(OptionError::Nodes);
     }
-    let Ok((_, is_new)) = nodes.add(alloc, name) else {
+    let Ok(AddedName { is_new, .. }) = nodes.add(alloc, name) else {
         return Err(OptionError::Memory);
     };
     if !is_new {

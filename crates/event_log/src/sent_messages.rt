@@ -4,7 +4,7 @@ ghost use Rattle.std.specs.Prelude.{◌≡◌, IfOk, OnOk, if◌then◌else◌, 
 ghost use Rattle.event_log.specs.Names.{has_name};
 ghost use Rattle.event_log.specs.SentMessages.{Sent, copy_of, none_sent, place_for, place_in, with_copy, with_first};
 
-use crate::names::NameSet;
+use crate::names::{AddedName, NameSet};
 use std::alloc::{AllocError, Global};
 use std::marker::Model;
 
@@ -61,8 +61,8 @@ impl SentMessages {
             (λ is_first. self.new
             ≡ (if is_first then with_first place name.now self.old else self.old)) }
     {
-        let (_, is_first) = self.names.add_new(alloc, name)?;
-        if !is_first {
+        let AddedName { is_new, .. } = self.names.add_new(alloc, name)?;
+        if !is_new {
             return Ok(false);
         }
         self.firsts.push(place)?;
