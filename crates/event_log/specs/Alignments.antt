@@ -1,4 +1,4 @@
--- Logs whose clocks are aligned.
+-- Logs whose clocks are aligned, and why they aren't.
 use Rattle.std.specs.Prelude.{ℕ, ◌*◌, ◌≡◌, ℤ, pos, Bool, true, false, List, map, Option, Some, None, ◌⊎◌, IfSome}
 use Rattle.std.specs.Prelude.{MatchBool, ⊤}
 use Rattle.timed_events.specs.declared.events.Event.{Event}

@@ -1,4 +1,4 @@
--- Events of a log that have passed all tests.
+-- Events of a log that have passed all tests, and the trace that is made of them.
 use Rattle.std.specs.Prelude.{ℕ, List, Bool, Option, Some, None, ◌≡◌}
 use Rattle.timed_events.specs.declared.events.Event.{Event}
 use Rattle.timed_events.specs.declared.events.Clock.{Clock}
