@@ -1,19 +1,8 @@
--- Where csv's reader is in a text.
+-- Places of a text between two records.
 use Rattle.std.specs.Prelude.{ℕ, ◌≡◌, ◌≤◌, ◌<◌, ◌+◌, List, length, get_or, take}
 use Rattle.csv.specs.declared.parser.State.{State}
 use Rattle.csv.specs.declared.parser.State.TheVariants as st
 use Rattle.shared_reading.specs.Seams.{IsClosed}
-use Rattle.log_windows.specs.declared.seams.Place.{Place}
-use Rattle.log_windows.specs.declared.seams.Place.TheVariants as place
-
--- the state of csv's machine in a place
-abbrev pub state_of : Place → State
-state_of place.StartRecord = st.StartRecord
-state_of place.StartField = st.StartField
-state_of place.InField = st.InField
-state_of place.InQuotes = st.InQuoted
-state_of place.AfterQuote = st.AfterQuote
-state_of place.AfterReturn = st.AfterCr
 
 -- the last place between two records, if the next one is in this state
 abbrev pub seam_by : State → ℕ → ℕ → ℕ

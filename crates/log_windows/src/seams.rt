@@ -1,26 +1,12 @@
 //! Where a text lies between two records, by csv's default reader.
 
 ghost use Rattle.std.specs.Prelude.{◌≡◌, ◌≤◌, false, length, take};
-ghost use Rattle.csv.specs.Machine.{step};
-ghost use Rattle.csv.specs.Reading.{default_config};
+ghost use Rattle.trace_text.specs.CsvPlaces.{state_of};
 ghost use Rattle.shared_reading.specs.Seams.{IsClosed, has_quote};
-ghost use Rattle.log_windows.specs.Places.{EndsNone, seam_by, state_of};
+ghost use Rattle.log_windows.specs.Places.{EndsNone, seam_by};
 
 use memchr::{memchr, memrchr};
-
-/// Where csv's reader is in a text.
-#[derive(Clone, Copy)]
-pub(crate) enum Place {
-    /// Before a record: at the start of a text, or after a line.
-    StartRecord,
-    StartField,
-    InField,
-    InQuotes,
-    /// After a quote within quotes: it ends them, unless another quote follows.
-    AfterQuote,
-    /// After a carriage return that ended a record.
-    AfterReturn,
-}
+use trace_text::csv_places::Place;
 
 /// How many bytes come before the last place between two records, if the text begins at such a place. A carriage return
 /// may end a record behind it, but no line feed.
@@ -56,7 +42,7 @@ fn quoted_seam_len(text: &[u8]) -> usize
     let mut place = Place::StartRecord;
     let mut seam = 0;
     for i in 0..text.len() {
-        place = after(place, text[i]);
+        place = place.after(text[i]);
         seam = seam_by(place, seam, i + 1);
     }
     seam
@@ -69,22 +55,5 @@ fn seam_by(place: Place, seam: usize, next: usize) -> usize
     match place {
         Place::StartRecord => next,
         _ => seam,
-    }
-}
-
-/// Where the reader is after one more byte.
-fn after(place: Place, byte: u8) -> Place
-    ensures { state_of result ≡ (step default_config (state_of place) byte).0 }
-{
-    match (place, byte) {
-        (Place::StartRecord | Place::AfterReturn, b'\r' | b'\n') => Place::StartRecord,
-        (Place::StartRecord | Place::AfterReturn | Place::StartField, b'"') => Place::InQuotes,
-        (Place::InQuotes, b'"') => Place::AfterQuote,
-        (Place::InQuotes, _) => Place::InQuotes,
-        (Place::AfterQuote, b'"') => Place::InQuotes,
-        (_, b',') => Place::StartField,
-        (_, b'\r') => Place::AfterReturn,
-        (_, b'\n') => Place::StartRecord,
-        _ => Place::InField,
     }
 }

@@ -6,6 +6,7 @@ pub mod RecordWriting
 pub mod TextWriting
 pub mod TraceTexts
 pub mod TextRefusals
+pub mod CsvPlaces
 pub mod RecordLimits
 pub mod LongRefusals
 pub mod JudgedIds

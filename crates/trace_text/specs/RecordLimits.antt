@@ -3,26 +3,14 @@ use Rattle.std.specs.Prelude.{ℕ, ◌≡◌, ◌<◌, ◌+◌, List, [], ◌∷
 use Rattle.csv.specs.Machine.{step}
 use Rattle.csv.specs.Reading.{default_config}
 use Rattle.csv.specs.declared.parser.State.{State}
-use Rattle.csv.specs.declared.parser.State.TheVariants as st
 use Rattle.csv.specs.declared.parser.Action.{Action}
 use Rattle.csv.specs.declared.parser.Action.TheVariants as act
-use Rattle.trace_text.specs.declared.record_limits.Place.{Place}
-use Rattle.trace_text.specs.declared.record_limits.Place.TheVariants as place
 use Rattle.trace_text.specs.declared.record_limits.TheConstants.{MAX_FIELDS}
 
 -- a record that begins with more fields than there may be is refused alike, for any fields after them
 abbrev pub RefusesLong : {S E : Type 0} → (S → List (List ℕ) → Result S E) → Type 0
 RefusesLong {S} {E} next = (s : S) (front : List (List ℕ)) → MAX_FIELDS < length front
     → (e : E) × ((more : List (List ℕ)) → next s (front ++ more) ≡ Err e)
-
--- the state of csv's machine in a place
-abbrev pub state_of : Place → State
-state_of place.StartRecord = st.StartRecord
-state_of place.StartField = st.StartField
-state_of place.InField = st.InField
-state_of place.InQuotes = st.InQuoted
-state_of place.AfterQuote = st.AfterQuote
-state_of place.AfterReturn = st.AfterCr
 
 -- how many fields of a record are whole after one more action
 abbrev pub count_after : Action → ℕ → ℕ

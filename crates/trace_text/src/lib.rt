@@ -5,6 +5,7 @@
 
 mod byte_loops;
 mod counting;
+pub mod csv_places;
 pub mod failing_devices;
 pub mod reading;
 mod record_limits;

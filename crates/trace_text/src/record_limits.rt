@@ -5,8 +5,10 @@ ghost use Rattle.std.specs.Prelude.{◌≡◌, ◌≤◌, ◌⊎◌, take, drop,
 ghost use Rattle.csv.specs.Machine.{step};
 ghost use Rattle.csv.specs.Reading.{default_config, strip_bom};
 ghost use Rattle.csv.specs.declared.parser.State.TheVariants as st;
-ghost use Rattle.trace_text.specs.RecordLimits.{count_after, front_from, state_of};
+ghost use Rattle.trace_text.specs.CsvPlaces.{state_of};
+ghost use Rattle.trace_text.specs.RecordLimits.{count_after, front_from};
 
+use crate::csv_places::Place;
 use memchr::memchr;
 use step_trace::MAX_PROCESSORS;
 
@@ -19,32 +21,11 @@ const PAGE_BYTES: usize = 65_536;
 /// csv's reader goes past it at the start of a text.
 const BYTE_ORDER_MARK: [u8; 3] = [0xEF, 0xBB, 0xBF];
 
-/// Where csv's reader is in a text.
-#[derive(Clone, Copy)]
-enum Place {
-    StartRecord,
-    StartField,
-    InField,
-    InQuotes,
-    // After a quote within quotes: it ends them, unless another quote follows.
-    AfterQuote,
-    // After a carriage return that ended a record.
-    AfterReturn,
-}
-
 /// A place, and how many fields of its record are whole.
 #[derive(Clone, Copy)]
 struct Progress {
     place: Place,
     fields: usize,
-}
-
-impl Progress {
-    fn at(self, place: Place) -> Progress
-        ensures { result ≡ record self { place = place } }
-    {
-        Progress { place, ..self }
-    }
 }
 
 /// How many bytes of a text have to be read: all, or those up to the end of the first field that is one too many in its
@@ -117,26 +98,13 @@ fn after(progress: Progress, byte: u8) -> Progress
     ensures fields { result.fields ≡ count_after
         (step default_config (state_of progress.place) byte).1 progress.fields }
 {
-    match (progress.place, byte) {
-        (Place::StartRecord | Place::AfterReturn, b'\r' | b'\n') => progress.at(Place::StartRecord),
-        (Place::StartRecord | Place::AfterReturn | Place::StartField, b'"') => progress.at(
-            Place::InQuotes,
-        ),
-        (Place::InQuotes, b'"') => progress.at(Place::AfterQuote),
-        (Place::InQuotes, _) => progress,
-        (Place::AfterQuote, b'"') => progress.at(Place::InQuotes),
-        (_, b',') => Progress {
-            place: Place::StartField,
-            fields: progress.fields + 1,
-        },
-        (_, b'\r') => Progress {
-            place: Place::AfterReturn,
-            fields: 0,
-        },
-        (_, b'\n') => Progress {
-            place: Place::StartRecord,
-            fields: 0,
-        },
-        _ => progress.at(Place::InField),
-    }
+    let place = progress.place.after(byte);
+    let fields = match (progress.place, place) {
+        (_, Place::StartField) => progress.fields + 1,
+        // Blank lines end no record.
+        (Place::StartRecord | Place::AfterReturn, Place::StartRecord) => progress.fields,
+        (_, Place::StartRecord | Place::AfterReturn) => 0,
+        _ => progress.fields,
+    };
+    Progress { place, fields }
 }

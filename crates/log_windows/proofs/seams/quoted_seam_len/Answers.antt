@@ -1,7 +1,7 @@
 use Rattle.std.proofs.Common.{◌+◌, refl, arith}
 use Rattle.csv.specs.declared.parser.State.TheVariants as st
+use Rattle.trace_text.specs.CsvPlaces.{state_of}
 use Rattle.shared_reading.specs.Seams.{state_after}
-use Rattle.log_windows.specs.Places.{state_of}
 use Rattle.log_windows.proofs.SeamPlaces.{after-more, closed-by, none-by, within-by}
 use Rattle.log_windows.proofs.seams.quoted_seam_len.Goals as goal
 

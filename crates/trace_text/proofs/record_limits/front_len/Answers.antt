@@ -1,6 +1,7 @@
 use Rattle.std.proofs.Common.{◌≡◌, ◌∙◌, [], ◌∷◌, get_or, take, length, sym, arith, append_assoc, append-nil}
 use Rattle.std.proofs.lemmas.List.{take_more, drop_all}
-use Rattle.trace_text.specs.RecordLimits.{front_from, state_of}
+use Rattle.trace_text.specs.CsvPlaces.{state_of}
+use Rattle.trace_text.specs.RecordLimits.{front_from}
 use Rattle.trace_text.proofs.TextFronts.{front-byte, front-ends}
 use Rattle.trace_text.proofs.record_limits.front_len.Goals as goal
 

@@ -1,7 +1,8 @@
 use Rattle.std.proofs.Common.{◌≡◌, ◌≤◌, ◌++◌, take, drop}
 use Rattle.csv.specs.declared.parser.State.TheVariants as st
 use Rattle.trace_text.specs.declared.record_limits.TheConstants.{MAX_FIELDS}
-use Rattle.trace_text.specs.RecordLimits.{front_from, state_of}
+use Rattle.trace_text.specs.CsvPlaces.{state_of}
+use Rattle.trace_text.specs.RecordLimits.{front_from}
 use Rattle.trace_text.proofs.record_limits.front_len.Given as goal
 
 -- no field is one too many so far, and the front goes on with the bytes that are left
