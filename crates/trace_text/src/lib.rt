@@ -22,4 +22,4 @@ pub use counting::Counting;
 pub use reading::read_trace;
 pub use record_limits::MAX_FIELDS;
 pub use refusals::{TextError, WriteError};
-pub use writing::{trace_text_2_by_four, trace_text_2_of, write_trace, write_trace_2};
+pub use writing::{trace_text_2_by_four, trace_text_2_of, write_trace};

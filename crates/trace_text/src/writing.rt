@@ -52,29 +52,10 @@ pub fn write_trace<W: Write>(
     ensures stands { StandsFor (trace_text trace.now) trace.now }
     ensures short { length (trace_text trace.now) < MAX_TEXT_BYTES }
 {
-    write_version(alloc, version_of(trace), trace, writer)
-}
-
-/// Writes the text of a trace in version 2, and flushes. Refusals as of `write_trace`.
-pub fn write_trace_2<W: Write>(
-    alloc: Global,
-    trace: &Trace,
-    writer: &mut Counting<W>,
-) -> Result<(), WriteError>
-    ensures whole { OnOk result (Wrote W.contents writer.old writer.new (trace_text_2 trace.now)) }
-    ensures flushed { OnOk result (IsTrue (is_flushed writer.new)) }
-    ensures faultless { OnOk result (WasFaultless writer.old writer.new) }
-    ensures part { IfErr result
-        (WrotePart W.contents writer.old writer.new (trace_text_2 trace.now)) }
-    ensures cause { IfErr result (λ e. IsWriteCause e writer.old writer.new) }
-    ensures sound { IsTextTrace trace.now }
-    ensures stands { StandsFor (trace_text_2 trace.now) trace.now }
-    ensures short { length (trace_text_2 trace.now) < MAX_TEXT_BYTES }
-{
-    match trace_text_2_of(alloc, trace) {
-        Ok(text) => write_text(&text, writer),
-        Err(_) => Err(WriteError::Memory),
-    }
+    let Ok(text) = trace_text_of(alloc, version_of(trace), trace) else {
+        return Err(WriteError::Memory);
+    };
+    write_text(&text, writer)
 }
 
 /// The text of a trace in version 2.
@@ -205,28 +186,6 @@ fn steps_text(
     let mut text = Vec::new(alloc);
     push_steps(&mut text, version, trace, from, to)?;
     Ok(text)
-}
-
-/// Writes the text of a trace in a version.
-fn write_version<W: Write>(
-    alloc: Global,
-    version: Version,
-    trace: &Trace,
-    writer: &mut Counting<W>,
-) -> Result<(), WriteError>
-    ensures whole { OnOk result
-        (Wrote W.contents writer.old writer.new (version_text version trace.now)) }
-    ensures flushed { OnOk result (IsTrue (is_flushed writer.new)) }
-    ensures faultless { OnOk result (WasFaultless writer.old writer.new) }
-    ensures part { IfErr result
-        (WrotePart W.contents writer.old writer.new (version_text version trace.now)) }
-    ensures cause { IfErr result (λ e. IsWriteCause e writer.old writer.new) }
-    ensures sound { IsTextTrace trace.now }
-{
-    let Ok(text) = trace_text_of(alloc, version, trace) else {
-        return Err(WriteError::Memory);
-    };
-    write_text(&text, writer)
 }
 
 /// The text of a trace in a version.
