@@ -12,6 +12,7 @@ passed, M failed'.
 import argparse
 import contextlib
 import dataclasses
+import errno
 import glob
 import os
 import re
@@ -157,8 +158,9 @@ def print_answer(status, output, told):
     try:
         while output:
             output = output[os.write(1, output) :]
-    except OSError:
-        os.write(2, b"synchrony: cannot write\n")
+    except OSError as why:
+        trouble = b"no space left" if why.errno == errno.ENOSPC else b"cannot be written"
+        os.write(2, b"synchrony: cannot write\nsynchrony: standard output: %b\n" % trouble)
         return 6
     return status
 

@@ -13,7 +13,7 @@ use Rattle.command_faults.specs.declared.faults.PictureOption.TheVariants as opt
 use Rattle.command_faults.specs.declared.faults.ListedField.{ListedField}
 use Rattle.command_faults.specs.declared.faults.ListedField.TheVariants as field
 use Rattle.command_faults.specs.Hints.{certificate_hint, decisions_hint, due_hint, file_hint, formula_hint}
-use Rattle.command_faults.specs.Hints.{listed_hint, picture_hint, run_list_hint, table_hint, trace_hint}
+use Rattle.command_faults.specs.Hints.{listed_hint, output_hint, picture_hint, run_list_hint, table_hint, trace_hint}
 use Rattle.command_faults.specs.LogFaultLines.{help_line, import_hint, import_option_words, length_hint, log_lead}
 use Rattle.command_faults.specs.OutsideLines.{member_line, report_option_words, set_option_words, tick_line}
 
@@ -51,6 +51,7 @@ fault_line fault.Memory = codes "synchrony: out of memory"
 fault_line fault.Read = codes "synchrony: cannot read"
 fault_line (fault.Unread file trouble) = codes "synchrony: cannot read" ++ file_hint (string_bytes file) trouble
 fault_line (fault.Write written) = codes "synchrony: cannot write"
+fault_line (fault.Unwritten trouble) = codes "synchrony: cannot write" ++ output_hint trouble
 fault_line (fault.NotARun number due) = codes "synchrony: not a run: step " ++ (decimal number ++ due_hint due)
 fault_line fault.Threads = codes "synchrony: worker not started or held"
 fault_line (fault.Picture option) = codes "synchrony: bad " ++ (option_words option ++ picture_hint option)

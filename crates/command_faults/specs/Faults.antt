@@ -56,6 +56,7 @@ status_of fault.Memory = 5
 status_of fault.Read = 6
 status_of (fault.Unread file trouble) = 6
 status_of (fault.Write written) = 6
+status_of (fault.Unwritten trouble) = 6
 status_of (fault.NotARun number due) = 7
 status_of fault.Threads = 8
 status_of (fault.Picture option) = 2

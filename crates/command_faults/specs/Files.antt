@@ -1,10 +1,14 @@
--- The faults of files that can't be opened or read, by the kinds of the errors.
+-- The faults of files that can't be opened or read, and of standard output that can't be written, by the kinds of the
+-- errors.
 use Rattle.std.specs.Prelude.{String}
 use Rattle.std.specs.declared.alloc.Global.{Global}
 use Rattle.std.specs.declared.io.ErrorKind.{ErrorKind}
 use Rattle.std.specs.declared.io.ErrorKind.TheVariants.{IsADirectory, NotFound, OutOfMemory, PermissionDenied}
+use Rattle.std.specs.declared.io.ErrorKind.TheVariants.{FileTooLarge, QuotaExceeded, StorageFull}
 use Rattle.command_faults.specs.declared.files.FileTrouble.{FileTrouble}
 use Rattle.command_faults.specs.declared.files.FileTrouble.TheVariants as trouble
+use Rattle.command_faults.specs.declared.files.OutputTrouble.{OutputTrouble}
+use Rattle.command_faults.specs.declared.files.OutputTrouble.TheVariants as output_trouble
 use Rattle.command_faults.specs.declared.faults.Fault.{Fault}
 use Rattle.command_faults.specs.declared.faults.Fault.TheVariants as fault
 
@@ -29,3 +33,15 @@ reading_trouble kind = trouble.Unread
 abbrev pub fault_of_reading : Fault → String Global → ErrorKind → Fault
 fault_of_reading fault.Read file kind = fault.Unread file (reading_trouble kind)
 fault_of_reading w file kind = w
+
+-- why standard output can't be written
+abbrev pub writing_trouble : ErrorKind → OutputTrouble
+writing_trouble StorageFull = output_trouble.NoSpace
+writing_trouble QuotaExceeded = output_trouble.QuotaExceeded
+writing_trouble FileTooLarge = output_trouble.FileTooLarge
+writing_trouble kind = output_trouble.Unwritten
+
+-- a failed write with its reason; any other fault unchanged
+abbrev pub fault_of_writing : Fault → ErrorKind → Fault
+fault_of_writing (fault.Write written) kind = fault.Unwritten (writing_trouble kind)
+fault_of_writing w kind = w

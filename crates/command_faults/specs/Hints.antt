@@ -19,6 +19,8 @@ use Rattle.decision_claims.specs.declared.readings.BadFormula.{BadFormula}
 use Rattle.decision_claims.specs.declared.readings.BadFormula.TheVariants as unread
 use Rattle.command_faults.specs.declared.files.FileTrouble.{FileTrouble}
 use Rattle.command_faults.specs.declared.files.FileTrouble.TheVariants as trouble
+use Rattle.command_faults.specs.declared.files.OutputTrouble.{OutputTrouble}
+use Rattle.command_faults.specs.declared.files.OutputTrouble.TheVariants as output_trouble
 use Rattle.command_faults.specs.declared.faults.PictureOption.{PictureOption}
 use Rattle.command_faults.specs.declared.faults.PictureOption.TheVariants as option
 use Rattle.command_faults.specs.declared.faults.ListedField.{ListedField}
@@ -39,6 +41,13 @@ trouble_words trouble.Unread = codes "cannot be read"
 -- which file wasn't read, as the command line has it, and why
 abbrev pub file_hint : List ℕ → FileTrouble → List ℕ
 file_hint file trouble = hint (file ++ (codes ": " ++ trouble_words trouble))
+
+-- why standard output wasn't written
+abbrev pub output_hint : OutputTrouble → List ℕ
+output_hint output_trouble.NoSpace = hint (codes "standard output: no space left")
+output_hint output_trouble.QuotaExceeded = hint (codes "standard output: disk quota exceeded")
+output_hint output_trouble.FileTooLarge = hint (codes "standard output: file too large")
+output_hint output_trouble.Unwritten = hint (codes "standard output: cannot be written")
 
 -- what a trace begins with, for a text that doesn't begin as one
 abbrev pub trace_hint : TextError → List ℕ

@@ -5,8 +5,8 @@ ghost use Rattle.command_faults.specs.FaultLines.{fault_line, ended_line};
 
 use crate::faults::{Fault, ListedField, PictureOption};
 use crate::hints::{
-    CertificateHint, DecisionsHint, DueHint, FileHint, FormulaHint, ListedHint, PictureHint,
-    RunListHint, TableHint, TraceHint,
+    CertificateHint, DecisionsHint, DueHint, FileHint, FormulaHint, ListedHint, OutputHint,
+    PictureHint, RunListHint, TableHint, TraceHint,
 };
 use crate::log_fault_lines::{HelpLine, ImportHint, LengthHint, LogLead};
 use crate::outside_lines::{MemberLine, TickLine};
@@ -66,6 +66,9 @@ impl fmt::Display for Fault {
                 )
             }
             Fault::Write(_) => f.write_str("synchrony: cannot write"),
+            Fault::Unwritten(trouble) => {
+                write!(f, "synchrony: cannot write{}", OutputHint(*trouble))
+            }
             Fault::NotARun(no, due) => {
                 write!(f, "synchrony: not a run: step {no}{}", DueHint(*due))
             }

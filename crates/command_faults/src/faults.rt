@@ -3,7 +3,7 @@
 ghost use Rattle.std.specs.Prelude.{◌≡◌};
 ghost use Rattle.command_faults.specs.Faults.{status_of};
 
-use crate::files::FileTrouble;
+use crate::files::{FileTrouble, OutputTrouble};
 use decision_claims::{BadFormula, FormulaError};
 use event_log::{LogError, OptionError};
 use front::ReportError;
@@ -43,6 +43,8 @@ pub enum Fault {
     Unread(String, FileTrouble),
     /// The output can't be written; so many bytes of it went out before.
     Write(u64),
+    /// Standard output can't be written, for this reason.
+    Unwritten(OutputTrouble),
     /// The trace is no run of the algorithm: the first step that is none of a run has this number. With what its
     /// processor had to do, if that is known.
     NotARun(u64, Option<Due>),
@@ -314,6 +316,7 @@ pub fn status(fault: &Fault) -> u8
         Fault::Runs(_) | Fault::Listed(_) => 4,
         Fault::Memory => 5,
         Fault::Read | Fault::Unread(..) | Fault::Write(_) => 6,
+        Fault::Unwritten(_) => 6,
         Fault::NotARun(..) => 7,
         Fault::Threads => 8,
     }

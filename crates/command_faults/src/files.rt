@@ -1,8 +1,9 @@
-//! Files that can't be opened or read.
+//! Files that can't be opened or read, and standard output that can't be written.
 
 ghost use Rattle.std.specs.Prelude.{◌≡◌};
 ghost use Rattle.std.specs.IoError.{error_kind};
 ghost use Rattle.command_faults.specs.Files.{fault_of_opening, fault_of_reading, opening_trouble, reading_trouble};
+ghost use Rattle.command_faults.specs.Files.{fault_of_writing, writing_trouble};
 
 use crate::faults::Fault;
 use std::io;
@@ -20,6 +21,19 @@ pub enum FileTrouble {
     Unopened,
     /// It was opened, and can't be read, for another reason.
     Unread,
+}
+
+/// Why standard output can't be written.
+#[derive(Clone, Copy, Debug, PartialEq, Eq)]
+pub enum OutputTrouble {
+    /// No space is left where it goes.
+    NoSpace,
+    /// The files of this user may have no more bytes.
+    QuotaExceeded,
+    /// The file may have no more bytes.
+    FileTooLarge,
+    /// It can't be written, for another reason.
+    Unwritten,
 }
 
 /// The fault of a file that can't be opened.
@@ -63,5 +77,28 @@ fn reading_trouble(kind: io::ErrorKind) -> FileTrouble
     match kind {
         io::ErrorKind::IsADirectory => FileTrouble::IsADirectory,
         _ => FileTrouble::Unread,
+    }
+}
+
+/// The same fault, with its reason if it is a failed write to standard output: the write answered an error of this
+/// kind.
+pub fn unwritten(fault: Fault, kind: io::ErrorKind) -> Fault
+    ensures { result ≡ fault_of_writing fault kind }
+{
+    match fault {
+        Fault::Write(_) => Fault::Unwritten(writing_trouble(kind)),
+        fault => fault,
+    }
+}
+
+/// Why standard output can't be written, by the kind of the error.
+fn writing_trouble(kind: io::ErrorKind) -> OutputTrouble
+    ensures { result ≡ writing_trouble kind }
+{
+    match kind {
+        io::ErrorKind::StorageFull => OutputTrouble::NoSpace,
+        io::ErrorKind::QuotaExceeded => OutputTrouble::QuotaExceeded,
+        io::ErrorKind::FileTooLarge => OutputTrouble::FileTooLarge,
+        _ => OutputTrouble::Unwritten,
     }
 }

@@ -4,7 +4,7 @@
 ghost use Rattle.std.specs.Prelude.{◌≡◌, ◌+◌, ◌-◌, ◌^◌, min};
 
 use crate::faults::{ListedField, PictureOption};
-use crate::files::FileTrouble;
+use crate::files::{FileTrouble, OutputTrouble};
 use decision_claims::BadFormula;
 use front::ReportError;
 use judged_runs::{DecisionsError, RunListError};
@@ -41,6 +41,26 @@ impl fmt::Display for FileTrouble {
             FileTrouble::IsADirectory => "is a directory",
             FileTrouble::Unopened => "cannot be opened",
             FileTrouble::Unread => "cannot be read",
+        })
+    }
+}
+
+/// Why standard output wasn't written.
+#[derive(Clone, Copy)]
+pub(crate) struct OutputHint(pub(crate) OutputTrouble);
+
+impl fmt::Display for OutputHint {
+    ghost use Rattle.std.specs.Prelude.{Some};
+    ghost use Rattle.command_faults.specs.Hints.{output_hint};
+
+    ghost output = { λ hint. Some (output_hint hint.0) };
+
+    fn fmt<W: fmt::Write>(&self, f: &mut fmt::Formatter<W>) -> fmt::Result {
+        f.write_str(match self.0 {
+            OutputTrouble::NoSpace => "\nsynchrony: standard output: no space left",
+            OutputTrouble::QuotaExceeded => "\nsynchrony: standard output: disk quota exceeded",
+            OutputTrouble::FileTooLarge => "\nsynchrony: standard output: file too large",
+            OutputTrouble::Unwritten => "\nsynchrony: standard output: cannot be written",
         })
     }
 }

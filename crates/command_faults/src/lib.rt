@@ -16,6 +16,6 @@ pub use faults::{
     Fault, ImportOption, ListedField, MemberOutside, PictureOption, ReportOption, SetOption,
     TickOutside, status,
 };
-pub use files::{FileTrouble, unopened, unread};
+pub use files::{FileTrouble, OutputTrouble, unopened, unread, unwritten};
 pub use printing::{print, print_notes, tell};
 pub use sets::correct_set;

@@ -1,2 +1,2 @@
 pub mod LineFaults
-pub mod ClosedPipes
+pub mod Stops

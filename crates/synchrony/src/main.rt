@@ -278,7 +278,7 @@ fn check(rt: &HostRuntime, job: CheckJob) -> Result<u8, Fault> {
     match judged {
         Ok(verdict) => Ok(verdict_status(verdict)),
         // (a fault that isn't a failed read of the one is unchanged, and is then looked at for the other)
-        Err(fault) => stopped(output.is_closed(), claimed.named(trace.named(fault))),
+        Err(fault) => stopped(output.failure(), claimed.named(trace.named(fault))),
     }
 }
 
@@ -297,7 +297,7 @@ fn judge(rt: &HostRuntime, job: JudgeJob) -> Result<u8, Fault> {
     );
     match judged {
         Ok(verdict) => Ok(judgement_status(verdict)),
-        Err(fault) => stopped(output.is_closed(), trace.named(fault)),
+        Err(fault) => stopped(output.failure(), trace.named(fault)),
     }
 }
 

@@ -1,9 +1,9 @@
-//! What a command writes to, which may be a pipe that nobody reads any more.
+//! What a command writes to. It may be a pipe that nobody reads any more, or a disk that is full.
 
 ghost use Rattle.std.specs.Prelude.{◌≡◌};
-ghost use Rattle.synchrony.specs.ClosedPipes.{stopped};
+ghost use Rattle.synchrony.specs.Stops.{stopped, stopped_write};
 
-use command_faults::Fault;
+use command_faults::{Fault, unwritten};
 use std::io;
 use std::io::Write;
 
@@ -15,7 +15,8 @@ pub const CLOSED_PIPE: u8 = 141;
 #[derive(Drop)]
 pub(crate) struct Output<W> {
     writer: W,
-    is_closed: bool,
+    /// The kind of the error that the last failed write or flush answered.
+    failure: Option<io::ErrorKind>,
 }
 
 impl<W> Output<W> {
@@ -23,7 +24,7 @@ impl<W> Output<W> {
     pub(crate) fn new(writer: W) -> Self {
         Output {
             writer,
-            is_closed: false,
+            failure: None,
         }
     }
 
@@ -31,31 +32,35 @@ impl<W> Output<W> {
     pub(crate) fn ended(&self, job: Result<(), Fault>) -> Result<u8, Fault> {
         match job {
             Ok(()) => Ok(0),
-            Err(fault) => stopped(self.is_closed, fault),
+            Err(fault) => stopped(self.failure, fault),
         }
     }
 
-    /// Whether it was found to be a pipe that nobody reads any more.
-    pub(crate) fn is_closed(&self) -> bool {
-        self.is_closed
-    }
-
-    /// Notes that the pipe is closed, if an error says so.
-    fn note(&mut self, error: &io::Error) {
-        if matches!(error.kind(), io::ErrorKind::BrokenPipe) {
-            self.is_closed = true;
-        }
+    /// The kind of the error that the last failed write or flush answered.
+    pub(crate) fn failure(&self) -> Option<io::ErrorKind> {
+        self.failure
     }
 }
 
-/// How a job ends that stopped for a fault: without a word if it is a failed write to a pipe that nobody reads any
-/// more.
-pub fn stopped(is_closed: bool, fault: Fault) -> Result<u8, Fault>
-    ensures { result ≡ stopped is_closed fault }
+/// How a job ends that stopped for a fault, if the last write that failed answered an error of this kind. A failed
+/// write has the reason that the error gives; to a pipe that nobody reads any more it ends the job without a word.
+pub fn stopped(failure: Option<io::ErrorKind>, fault: Fault) -> Result<u8, Fault>
+    ensures { result ≡ stopped failure fault }
 {
     match fault {
-        Fault::Write(_) if is_closed => Ok(CLOSED_PIPE),
+        Fault::Write(written) => stopped_write(failure, written),
         fault => Err(fault),
+    }
+}
+
+/// The same for a failed write, before which so many bytes went out.
+fn stopped_write(failure: Option<io::ErrorKind>, written: u64) -> Result<u8, Fault>
+    ensures { result ≡ stopped_write failure written }
+{
+    match failure {
+        None => Err(Fault::Write(written)),
+        Some(io::ErrorKind::BrokenPipe) => Ok(CLOSED_PIPE),
+        Some(kind) => Err(unwritten(Fault::Write(written), kind)),
     }
 }
 
@@ -64,7 +69,7 @@ impl<W: Write> Write for Output<W> {
         match self.writer.write(buf) {
             Ok(count) => Ok(count),
             Err(error) => {
-                self.note(&error);
+                self.failure = Some(error.kind());
                 Err(error)
             }
         }
@@ -74,7 +79,7 @@ impl<W: Write> Write for Output<W> {
         match self.writer.flush() {
             Ok(()) => Ok(()),
             Err(error) => {
-                self.note(&error);
+                self.failure = Some(error.kind());
                 Err(error)
             }
         }

@@ -27,7 +27,7 @@ pub(crate) fn judge_runs(rt: &HostRuntime, job: RunsJob) -> Result<u8, Fault> {
     let told = tell_runs(rt, &job.judging, &runs, &mut Counting::new(&mut output));
     match told {
         Ok(status) => Ok(status),
-        Err(fault) => stopped(output.is_closed(), fault),
+        Err(fault) => stopped(output.failure(), fault),
     }
 }
 
