@@ -84,6 +84,8 @@ abbrev pub run_list_hint : RunListError → List ℕ
 run_list_hint unlisted.BadHeader = hint (codes "a list of runs begins with trace,decisions,correct,start")
 run_list_hint (unlisted.BadFields number) =
     hint (codes "a record has four fields, and quotes around one with commas, as \"1,2\"; record 1 is the one after the header")
+run_list_hint unlisted.NoRuns =
+    hint (codes "after the header a list has a record for each run, such as run.trace,run.decisions,\"1,2\",1")
 run_list_hint e = []
 
 -- where the table of a trace comes from

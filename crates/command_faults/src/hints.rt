@@ -149,6 +149,9 @@ impl fmt::Display for RunListHint<'_> {
             RunListError::BadFields(_) => f.write_str(
                 "\nsynchrony: a record has four fields, and quotes around one with commas, as \"1,2\"; record 1 is the one after the header",
             ),
+            RunListError::NoRuns => f.write_str(
+                "\nsynchrony: after the header a list has a record for each run, such as run.trace,run.decisions,\"1,2\",1",
+            ),
             _ => f.write_str(""),
         }
     }

@@ -26,4 +26,5 @@ run_list_error_text unlisted.TooLarge = codes "text too large"
 run_list_error_text unlisted.BadHeader = codes "bad header"
 run_list_error_text unlisted.TooMany = codes "too many records"
 run_list_error_text (unlisted.BadFields number) = in_record number (codes "bad fields")
+run_list_error_text unlisted.NoRuns = codes "no runs"
 run_list_error_text unlisted.Memory = codes "out of memory"

@@ -11,7 +11,7 @@ use Rattle.trace_text.specs.Records as texts
 use Rattle.judged_runs.specs.declared.run_lists.TheConstants.{MAX_RUNS}
 use Rattle.judged_runs.specs.declared.refusals.RunListError.{RunListError}
 use Rattle.judged_runs.specs.declared.refusals.RunListError.TheVariants.{TooLarge, BadHeader, TooMany}
-use Rattle.judged_runs.specs.declared.refusals.RunListError.TheVariants.{BadFields, Memory}
+use Rattle.judged_runs.specs.declared.refusals.RunListError.TheVariants.{BadFields, Memory, NoRuns}
 use Rattle.judged_runs.specs.Listed.{Listed, SoFar}
 
 -- whether the record has the names of the columns: trace, decisions, correct, start
@@ -48,10 +48,14 @@ runs_after (Some runs) fields = with_run runs (run_of (length runs + 1) fields)
 abbrev pub next_runs : SoFar → List (List ℕ) → Result SoFar RunListError
 next_runs s fields = texts.◌>>=◌ (runs_after s.runs fields) (λ more. Ok (record { runs = more }))
 
--- there has to be a header
+-- these runs, if there are any
+abbrev pub some_runs : List Listed → Result (List Listed) RunListError
+some_runs runs = if length runs == 0 then Err NoRuns else Ok runs
+
+-- there has to be a header, and a run after it
 abbrev pub at_end : Option (List Listed) → Result (List Listed) RunListError
 at_end None = Err BadHeader
-at_end (Some runs) = Ok runs
+at_end (Some runs) = some_runs runs
 
 abbrev pub runs_at_end : SoFar → Result (List Listed) RunListError
 runs_at_end s = at_end s.runs

@@ -39,6 +39,7 @@ impl fmt::Display for RunListError {
             RunListError::BadHeader => f.write_str("bad header"),
             RunListError::TooMany => f.write_str("too many records"),
             RunListError::BadFields(record) => write!(f, "record {record}: bad fields"),
+            RunListError::NoRuns => f.write_str("no runs"),
             RunListError::Memory => f.write_str("out of memory"),
         }
     }

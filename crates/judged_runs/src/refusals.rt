@@ -36,6 +36,8 @@ pub enum RunListError {
     TooMany,
     /// The record hasn't four fields.
     BadFields(u64),
+    /// There is no record after the header.
+    NoRuns,
     /// Out of memory.
     Memory,
 }

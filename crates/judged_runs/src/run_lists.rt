@@ -5,7 +5,7 @@ ghost use Rattle.csv.specs.Records.{fields_of};
 ghost use Rattle.trace_text.specs.Records.{ReachesUnless, WantsOnlyWhere, records_of_text};
 ghost use Rattle.judged_runs.specs.RunLists.{Gives, is_header, is_memory, listed, next_runs, record_keeps};
 ghost use Rattle.judged_runs.specs.RunLists.{refuses_long, run_of, runs_at_end, runs_of_records, runs_of_text};
-ghost use Rattle.judged_runs.specs.RunLists.{with_run};
+ghost use Rattle.judged_runs.specs.RunLists.{some_runs, with_run};
 
 use crate::refusals::RunListError;
 use csv::ByteRecord;
@@ -89,9 +89,20 @@ fn runs_at_end(reading: Reading) -> Result<Vec<ListedRun>, RunListError>
         (λ e. runs_at_end reading ≡ Err e) }
 {
     match reading.runs {
-        Some(runs) => Ok(runs),
+        Some(runs) => some_runs(runs),
         None => Err(RunListError::BadHeader),
     }
+}
+
+/// These runs, unless there are none.
+fn some_runs(runs: Vec<ListedRun>) -> Result<Vec<ListedRun>, RunListError>
+    ensures { MatchResult result (λ v. some_runs runs.items ≡ Ok v.items)
+        (λ e. some_runs runs.items ≡ Err e) }
+{
+    if runs.len() == 0 {
+        return Err(RunListError::NoRuns);
+    }
+    Ok(runs)
 }
 
 impl TakeRecords for Reading {
