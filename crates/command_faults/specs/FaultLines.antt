@@ -13,7 +13,8 @@ use Rattle.command_faults.specs.declared.faults.PictureOption.TheVariants as opt
 use Rattle.command_faults.specs.declared.faults.ListedField.{ListedField}
 use Rattle.command_faults.specs.declared.faults.ListedField.TheVariants as field
 use Rattle.command_faults.specs.Hints.{certificate_hint, decisions_hint, due_hint, file_hint, formula_hint}
-use Rattle.command_faults.specs.Hints.{listed_hint, output_hint, picture_hint, run_list_hint, table_hint, trace_hint}
+use Rattle.command_faults.specs.Hints.{listed_hint, output_hint, picture_hint, run_list_hint, swapped_hint, table_hint}
+use Rattle.command_faults.specs.Hints.{trace_hint}
 use Rattle.command_faults.specs.LogFaultLines.{help_line, import_hint, import_option_words, length_hint, log_lead}
 use Rattle.command_faults.specs.OutsideLines.{member_line, report_option_words, set_option_words, tick_line}
 
@@ -39,6 +40,7 @@ fault_line (fault.Command words) = string_bytes words
 fault_line (fault.Set option o) = codes "synchrony: no such processor in "
     ++ (set_option_words option ++ member_line option o)
 fault_line (fault.Trace reason) = codes "synchrony: trace: " ++ (text_error_text reason ++ trace_hint reason)
+fault_line fault.Swapped = codes "synchrony: trace: bad header" ++ swapped_hint
 fault_line (fault.Certificate reason) = codes "synchrony: certificate: "
     ++ (report_error_text reason ++ certificate_hint reason)
 fault_line (fault.Decisions reason) = codes "synchrony: decisions: "

@@ -46,6 +46,7 @@ abbrev pub status_of : Fault → ℕ
 status_of (fault.Command text) = 2
 status_of (fault.Set option o) = 2
 status_of (fault.Trace e) = 3
+status_of fault.Swapped = 3
 status_of (fault.Certificate e) = 4
 status_of (fault.Decisions e) = 4
 status_of (fault.Runs e) = 4

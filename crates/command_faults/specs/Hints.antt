@@ -49,6 +49,10 @@ output_hint output_trouble.QuotaExceeded = hint (codes "standard output: disk qu
 output_hint output_trouble.FileTooLarge = hint (codes "standard output: file too large")
 output_hint output_trouble.Unwritten = hint (codes "standard output: cannot be written")
 
+-- what may be wrong if the decisions begin as a trace, and the trace doesn't
+abbrev pub swapped_hint : List ℕ
+swapped_hint = hint (codes "the decisions begin as a trace: the two files may be swapped, and the trace comes first")
+
 -- what a trace begins with, for a text that doesn't begin as one
 abbrev pub trace_hint : TextError → List ℕ
 trace_hint why.BadHeader = hint (codes "a trace begins with dls-trace; if this is a log, import makes a trace of it")

@@ -1,5 +1,6 @@
 pub mod Faults
 pub mod Files
+pub mod Swaps
 pub mod Hints
 pub mod Outside
 pub mod LogFaultLines

@@ -46,6 +46,9 @@ impl fmt::Display for Fault {
                 write!(f, "synchrony: no such processor in {option}{line}")
             }
             Fault::Trace(why) => { write!(f, "synchrony: trace: {why}{}", TraceHint(why)) }
+            Fault::Swapped => f.write_str(
+                "synchrony: trace: bad header\nsynchrony: the decisions begin as a trace: the two files may be swapped, and the trace comes first",
+            ),
             Fault::Certificate(why) => {
                 write!(f, "synchrony: certificate: {why}{}", CertificateHint(why))
             }

@@ -23,6 +23,8 @@ pub enum Fault {
     Set(SetOption, MemberOutside),
     /// The trace text is refused. `Read` and `Memory` are faults of their own.
     Trace(TextError),
+    /// The trace text has no header of one, and the text of decisions has: the two may be swapped.
+    Swapped,
     /// The certificate is refused. `Read` and `Memory` are faults of their own.
     Certificate(ReportError),
     /// The text of decisions is refused. `Memory` is a fault of its own.
@@ -312,6 +314,7 @@ pub fn status(fault: &Fault) -> u8
         Fault::Log(LogError::TickUnfit | LogError::UntilUnfit | LogError::IdleUnfit) => 2,
         Fault::Log(LogError::FromUnfit) => 2,
         Fault::Trace(_) | Fault::Log(_) | Fault::Table(_) => 3,
+        Fault::Swapped => 3,
         Fault::Certificate(_) | Fault::Decisions(_) => 4,
         Fault::Runs(_) | Fault::Listed(_) => 4,
         Fault::Memory => 5,

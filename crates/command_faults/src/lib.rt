@@ -10,6 +10,7 @@ mod log_fault_lines;
 mod outside_lines;
 mod printing;
 mod sets;
+mod swaps;
 
 pub use fault_lines::{fault_text, told_line};
 pub use faults::{
@@ -19,3 +20,4 @@ pub use faults::{
 pub use files::{FileTrouble, OutputTrouble, unopened, unread, unwritten};
 pub use printing::{print, print_notes, tell};
 pub use sets::correct_set;
+pub use swaps::swapped;

@@ -12,7 +12,7 @@ use crate::inputs::Input;
 use crate::line_faults::refused_line;
 use crate::outputs::{Output, stopped};
 use crate::run_lists::judge_runs;
-use command_faults::{Fault, print, status, tell};
+use command_faults::{Fault, print, status, swapped, tell};
 use command_line::jobs::{CheckJob, DrawJob, ImportJob, JudgeJob, PageJob, ReportJob};
 use command_line::{Job, read_command, refuse_words};
 use command_options::{RunOptions, SimulationOptions, Workers};
@@ -297,7 +297,10 @@ fn judge(rt: &HostRuntime, job: JudgeJob) -> Result<u8, Fault> {
     );
     match judged {
         Ok(verdict) => Ok(judgement_status(verdict)),
-        Err(fault) => stopped(output.failure(), trace.named(fault)),
+        Err(fault) => {
+            let fault = swapped(trace.named(fault), &decisions);
+            stopped(output.failure(), fault)
+        }
     }
 }
 

@@ -2,7 +2,7 @@
 
 use crate::inputs::Input;
 use crate::outputs::{Output, stopped};
-use command_faults::{Fault, ListedField, print};
+use command_faults::{Fault, ListedField, print, swapped};
 use command_line::jobs::RunsJob;
 use command_options::Judging;
 use judged_runs::{ListedRun, Outcome, Verdict, outcomes_status, summary_text};
@@ -93,7 +93,7 @@ fn judged(
         &mut Counting::new(&mut trace),
         &mut Counting::new(text),
     );
-    judged.map_err(|fault| trace.named(fault))
+    judged.map_err(|fault| swapped(trace.named(fault), &decisions))
 }
 
 /// The text of the decisions of a run; an empty one if they are those of the replay.
