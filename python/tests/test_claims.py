@@ -159,7 +159,7 @@ def test_runs_without_decisions_are_judged_by_their_replay():
     seven = (EXAMPLES / "decides-seven.trace").read_bytes()
     found = sy.judge_runs([sy.Case("seven", seven, correct=[1]), sy.Case("late", seven, None, [1], start=3), sy.Case("none", ONE_MISS)], "15", workers=1)
     assert [it.verdict for it in found.rows[:2]] == [sy.judge(seven, correct=[1], within="15", start=it, replay=True) for it in (None, 3)]
-    assert found.rows[2].error == "not a run: step 1; processor 1 had to send to processor 1; a run is a trace that run or simulate printed; judge takes what another system decided as DECISIONS"
+    assert found.rows[2].error == "not a run: step 1; processor 1 had to send to processor 1; a run is a trace that run or simulate printed, and judge takes what another system decided as DECISIONS"
 
 
 def test_the_list_of_the_examples():

@@ -151,8 +151,8 @@ def test_the_decisions_of_the_replay_are_judged():
 def test_decisions_of_both_or_of_neither_are_refused():
     both = "judge takes either DECISIONS or --replay"
     due = (
-        "not a run: step 1\nprocessor 1 had to send to processor 1\n"
-        "a run is a trace that run or simulate printed; judge takes what another system decided as DECISIONS"
+        "not a run: step 1\nprocessor 1 had to send to processor 1; "
+        "a run is a trace that run or simulate printed, and judge takes what another system decided as DECISIONS"
     )
     for call, words, status in [
         (lambda: sy.judge(ONE_MISS, correct="all", within="1", replay=True), due, 7),

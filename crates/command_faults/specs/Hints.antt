@@ -123,11 +123,11 @@ formula_hint (unread.Sign operand) =
 formula_hint (unread.Depth operand) =
     hint (codes "before operand " ++ (decimal operand ++ codes " of the formula more than 32 parentheses are open"))
 
--- what a processor had to do in place of a step that is none of a run
+-- what a processor had to do in place of a step that is none of a run, and what a run is
 abbrev pub due_words : DueStep → List ℕ
 due_words (SendTo to) = codes "send to processor " ++ decimal to
 due_words (SendFirst to) = codes "send to processor " ++ (decimal to ++ codes " before ending its round")
-due_words Receive = codes "receive: it had nothing left to send in its round"
+due_words Receive = codes "receive, with nothing left to send in its round"
 
 abbrev pub due_hint : Option Due → List ℕ
 due_hint (Some due) = hint
@@ -135,7 +135,7 @@ due_hint (Some due) = hint
     ++ (decimal due.proc
     ++ (codes " had to "
     ++ (due_words due.what
-    ++ hint (codes "a run is a trace that run or simulate printed; judge takes what another system decided as DECISIONS")))))
+    ++ codes "; a run is a trace that run or simulate printed, and judge takes what another system decided as DECISIONS"))))
 due_hint None = []
 
 -- how many names there are

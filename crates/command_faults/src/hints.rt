@@ -247,7 +247,7 @@ impl fmt::Display for DueHint {
         match self.0 {
             Some(due) => write!(
                 f,
-                "\nsynchrony: processor {} had to {}\nsynchrony: a run is a trace that run or simulate printed; judge takes what another system decided as DECISIONS",
+                "\nsynchrony: processor {} had to {}; a run is a trace that run or simulate printed, and judge takes what another system decided as DECISIONS",
                 due.proc,
                 DueWords(due.what)
             ),
@@ -272,7 +272,7 @@ impl fmt::Display for DueWords {
             DueStep::SendFirst(to) => {
                 write!(f, "send to processor {to} before ending its round")
             }
-            DueStep::Receive => f.write_str("receive: it had nothing left to send in its round"),
+            DueStep::Receive => f.write_str("receive, with nothing left to send in its round"),
         }
     }
 }
