@@ -255,13 +255,20 @@ fn put_lost(pen: &mut Pen<'_>, run: &Run<'_>) {
 /// Writes how many of the lost messages the calm has, if it has any and isn't the whole run.
 fn put_lost_in_calm(pen: &mut Pen<'_>, run: &Run<'_>) {
     if run.is_calm() && run.found.calm_place > 0 && run.fates.lost > 0 {
-        pen.put(&[
-            Text(", "),
-            Count(run.fates.lost),
-            Text(" of them sent from "),
-            From(run.found.calm.gst),
-            Text(" on"),
-        ]);
+        pen.text(", ");
+        if run.counts.lost > 1 {
+            put_lost_among(pen, run);
+        }
+        pen.put(&[Text("sent from "), From(run.found.calm.gst), Text(" on")]);
+    }
+}
+
+/// Writes how many of several lost messages the calm has.
+fn put_lost_among(pen: &mut Pen<'_>, run: &Run<'_>) {
+    if run.fates.lost == run.counts.lost {
+        pen.text("all of them ");
+    } else {
+        pen.put(&[Count(run.fates.lost), Text(" of them ")]);
     }
 }
 
