@@ -122,6 +122,11 @@ fn about(run: &Run, bound: u64) -> &'static str {
     }
 }
 
+/// Whether a message of a calm run says anything about Δ: a Receive takes it, or could have missed it.
+pub(crate) fn knows_delta(run: &Run) -> bool {
+    run.fates.is_tested
+}
+
 /// Writes about the messages of a calm run, by their bound, and by whether there is one.
 fn put_arrived(pen: &mut Pen<'_>, run: &Run<'_>, sent: bool) {
     let delta = run.found.calm.delta;

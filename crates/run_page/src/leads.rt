@@ -1,6 +1,6 @@
 //! What a page says after its first sentence: what came before the calm, who is to blame, and what is lost.
 
-use crate::headlines::{as_correct, is_long, put_first_node, silent_at_end, was};
+use crate::headlines::{as_correct, is_long, knows_delta, put_first_node, silent_at_end, was};
 use crate::pens::Pen;
 use crate::pieces::Piece::{Count, From, Late, Many, Message, Node, Silent, Text, Ticks};
 use crate::row_table::put_again;
@@ -210,7 +210,7 @@ fn put_fall(pen: &mut Pen<'_>, run: &Run<'_>, name: &'static str, bound: u64, be
     }
 }
 
-/// Writes for how often the rest of a calm run has room for its bounds.
+/// Writes for how often the rest of a calm run has room for its bounds; for Δ only if something is known of it.
 fn put_room(pen: &mut Pen<'_>, run: &Run<'_>) {
     if !run.is_calm() {
         return;
@@ -224,12 +224,19 @@ fn put_room(pen: &mut Pen<'_>, run: &Run<'_>) {
         }),
         Text(" lasts "),
         Ticks(rest),
-        Text(", which has room for Δ "),
-        Many(rest / found.calm.delta.max(1), "time"),
-        Text(" and for Φ "),
-        Many(rest / found.calm.phi.max(1), "time"),
-        Text(". "),
+        Text(", which has room for "),
     ]);
+    if knows_delta(run) {
+        put_times(pen, "Δ ", rest, found.calm.delta);
+        pen.text(" and for ");
+    }
+    put_times(pen, "Φ ", rest, found.calm.phi);
+    pen.text(". ");
+}
+
+/// Writes how often so many ticks have room for a bound.
+fn put_times(pen: &mut Pen<'_>, name: &'static str, ticks: u64, bound: u64) {
+    pen.put(&[Text(name), Many(ticks / bound.max(1), "time")]);
 }
 
 /// Writes how many messages are lost, if the headline doesn't say it.
