@@ -50,6 +50,11 @@ class Given:
     until: Optional[tuple]
     start: Optional[tuple]
 
+    @property
+    def in_nanoseconds(self):
+        """Whether the words say that times are counted in nanoseconds: --unit, or a duration of --tick."""
+        return self.kind is not None or self.width[1]
+
 
 def read_options(options):
     """What the words of the command line give."""

@@ -50,9 +50,9 @@ def imported(log, options):
         return lines, told + note
     last_tick = last_tick_of(events, width, until)
     told += [] if given.nodes else node_lines(nodes)
-    told += clock_lines(nodes, offset)
+    told += clock_lines(nodes, offset, given.in_nanoseconds)
     told += [lost_line(lost)] if options.drop_lost else []
-    steps, last_tick, notes = placed(events, sends, last_tick, options)
+    steps, last_tick, notes = placed(events, sends, last_tick, options, given.in_nanoseconds)
     told += notes
     if idle is not None:
         filled = idle_receives(steps, nodes, last_tick, idle // width)
@@ -88,14 +88,14 @@ def read_events(log, given):
     return events, kind, window_lines(outside, without_unsent(events)) if has_window else []
 
 
-def placed(events, sends, last_tick, options):
+def placed(events, sends, last_tick, options, in_nanoseconds):
     """The events as steps, the last tick, and the notes on those that are merged or moved."""
     steps, count_merged = merged(events) if options.merge else (events, 0)
     test_steps(steps, sends, options.spread)
     notes = [merged_line(count_merged)] if options.merge else []
     if options.spread:
         moved = spread_out(order_of_causes(steps, sends), sends)
-        notes += [moved_line(len(steps), *moved), *late_lines(events, sends)]
+        notes += [moved_line(len(steps), *moved), *late_lines(events, sends, in_nanoseconds)]
         last_tick = max(last_tick, max(it.tick for it in steps))
     return steps, last_tick, notes
 

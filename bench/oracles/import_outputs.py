@@ -106,7 +106,12 @@ def lost_line(lost):
     return b"%d messages were never received; their sends are left out" % lost
 
 
-def late_lines(events, sends):
+def length_text(length, in_nanoseconds):
+    """A length of time: so many nanoseconds, or else the number alone."""
+    return nanoseconds_text(length) if in_nanoseconds else b"%d" % length
+
+
+def late_lines(events, sends, in_nanoseconds):
     """What is printed about the messages that are received no later than they are sent."""
     late = [(send.time - receive.time, receive, send) for receive, send in receipts(events, sends) if send and receive.time <= send.time]
     if not late:
@@ -114,7 +119,8 @@ def late_lines(events, sends):
     by, receive, send = max(late, key=lambda it: it[0])
     count = b"1 message is received no later than it is sent" if len(late) == 1 else (
         b"%d messages are received no later than they are sent" % len(late))
-    return [count + b", by the clocks; most by %d in record %d, which record %d sends" % (by, receive.record, send.record),
+    most = length_text(by, in_nanoseconds)
+    return [count + b", by the clocks; most by %b in record %d, which record %d sends" % (most, receive.record, send.record),
             b"--align moves the clocks of nodes, and may bring most of them into order"]
 
 
@@ -123,9 +129,9 @@ def node_lines(nodes):
     return [b"processor %d is %b" % (at, name) for at, name in enumerate(nodes, 1)]
 
 
-def clock_lines(nodes, offset):
+def clock_lines(nodes, offset, in_nanoseconds):
     """The notes on the clocks that are moved forward by these offsets."""
-    return [b"the clock of %b moved by %d" % (node, offset[node]) for node in nodes if offset.get(node, 0) > 0]
+    return [b"the clock of %b moved by %b" % (node, length_text(offset[node], in_nanoseconds)) for node in nodes if offset.get(node, 0) > 0]
 
 
 def moved_line(of_all, count, most, first):

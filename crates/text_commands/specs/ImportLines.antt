@@ -1,7 +1,6 @@
 -- What is reported about a log besides its trace: the notes on it.
 use Rattle.std.specs.Prelude.{ℕ, ◌+◌, ◌-◌, List, [], ◌∷◌, ◌++◌, ◌==◌, if◌then◌else◌, length, codes, decimal}
-use Rattle.std.specs.Prelude.{Bool, true, false, Option, Some, None, ℤ, pos, int_lt, slice_index_or}
-use Rattle.std.specs.Fmt.{signed_decimal}
+use Rattle.std.specs.Prelude.{Bool, true, false, Option, Some, None, ℤ, pos, int_lt, slice_index_or, unsigned_abs}
 use Rattle.std.specs.List.{flat_map, range_with_len}
 use Rattle.timed_events.specs.declared.lateness.LateMessage.{LateMessage}
 use Rattle.timed_events.specs.declared.lateness.Lateness.{Lateness}
@@ -11,6 +10,7 @@ use Rattle.event_log.specs.declared.imports.Import.{Import}
 use Rattle.event_log.specs.declared.options.Options.{Options}
 use Rattle.event_log.specs.ToldNames.{node_name}
 use Rattle.event_log.specs.RefusalTexts.{printed}
+use Rattle.text_commands.specs.TimeWords.{are_nanoseconds, time_words}
 
 -- the line that says which node the processor of this number is
 abbrev pub node_line : ℕ → List ℕ → List ℕ
@@ -50,13 +50,13 @@ late_count_words messages =
     if messages == 1 then codes "1 message is received no later than it is sent"
     else decimal messages ++ codes " messages are received no later than they are sent"
 
--- the lines about messages that are received no later than they are sent: how many, by how much the worst, in which
--- record, which record sends it, and what may help
-abbrev pub named_late_lines : ℕ → ℕ → ℕ → ℕ → List ℕ
-named_late_lines messages by number sent =
+-- the lines about messages that are received no later than they are sent: how many, by how much the worst, which is so
+-- many nanoseconds or a number alone, in which record, which record sends it, and what may help
+abbrev pub named_late_lines : Bool → ℕ → ℕ → ℕ → ℕ → List ℕ
+named_late_lines nanoseconds messages by number sent =
     codes "synchrony: "
     ++ (late_count_words messages
-    ++ (codes ", by the clocks; most by " ++ (decimal by ++ (codes " in record " ++ (decimal number
+    ++ (codes ", by the clocks; most by " ++ (time_words nanoseconds by ++ (codes " in record " ++ (decimal number
     ++ (codes ", which record "
     ++ (decimal sent
     ++ (codes " sends" ++ 10
@@ -64,34 +64,37 @@ named_late_lines messages by number sent =
     ++ 10 ∷ [])))))))))
 
 -- the same of so many messages and the worst of them; nothing if there are none
-abbrev pub late_lines : ℕ → Option LateMessage → List ℕ
-late_lines messages None = []
-late_lines messages (Some worst) = named_late_lines messages worst.by (worst.event + 2) (worst.message + 2)
+abbrev pub late_lines : Bool → ℕ → Option LateMessage → List ℕ
+late_lines nanoseconds messages None = []
+late_lines nanoseconds messages (Some worst) =
+    named_late_lines nanoseconds messages worst.by (worst.event + 2) (worst.message + 2)
 
 -- how far events moved, if they might, and then which messages are late
-abbrev pub moved_notes : Bool → ℕ → Moved → Lateness → List ℕ
-moved_notes true count moved lateness = moved_line count moved ++ late_lines lateness.messages lateness.worst
-moved_notes false count moved lateness = []
+abbrev pub moved_notes : Bool → Bool → ℕ → Moved → Lateness → List ℕ
+moved_notes nanoseconds true count moved lateness =
+    moved_line count moved ++ late_lines nanoseconds lateness.messages lateness.worst
+moved_notes nanoseconds false count moved lateness = []
 
--- the line that says by how much the clock of a node moved
-abbrev pub clock_line : List ℕ → ℤ → List ℕ
-clock_line name offset = codes "synchrony: the clock of "
-    ++ (printed name ++ (codes " moved by " ++ (signed_decimal offset ++ 10 ∷ [])))
+-- the line that says by how much the clock of a node moved: so many nanoseconds, or a number alone
+abbrev pub clock_line : Bool → List ℕ → ℕ → List ℕ
+clock_line nanoseconds name offset = codes "synchrony: the clock of "
+    ++ (printed name ++ (codes " moved by " ++ (time_words nanoseconds offset ++ 10 ∷ [])))
 
 -- the same of the node at a place, counted from 0, if its clock moved
-abbrev pub clock_line_at : List (List ℕ) → List ℤ → ℕ → List ℕ
-clock_line_at nodes offsets place =
-    if int_lt (pos 0) (slice_index_or offsets place (pos 0)) then clock_line (slice_index_or nodes place [])
-    (slice_index_or offsets place (pos 0)) else []
+abbrev pub clock_line_at : Bool → List (List ℕ) → List ℤ → ℕ → List ℕ
+clock_line_at nanoseconds nodes offsets place =
+    if int_lt (pos 0) (slice_index_or offsets place (pos 0)) then clock_line nanoseconds (slice_index_or nodes place [])
+    (unsigned_abs (slice_index_or offsets place (pos 0))) else []
 
 -- the lines of so many nodes
-abbrev pub clock_lines : List (List ℕ) → List ℤ → ℕ → List ℕ
-clock_lines nodes offsets count = flat_map (clock_line_at nodes offsets) (range_with_len 0 count)
+abbrev pub clock_lines : Bool → List (List ℕ) → List ℤ → ℕ → List ℕ
+clock_lines nanoseconds nodes offsets count =
+    flat_map (clock_line_at nanoseconds nodes offsets) (range_with_len 0 count)
 
 -- by how much clocks moved, if they were to be aligned
-abbrev pub clock_notes : List (List ℕ) → Option (List ℤ) → List ℕ
-clock_notes nodes None = []
-clock_notes nodes (Some offsets) = clock_lines nodes offsets (length nodes)
+abbrev pub clock_notes : Bool → List (List ℕ) → Option (List ℤ) → List ℕ
+clock_notes nanoseconds nodes None = []
+clock_notes nanoseconds nodes (Some offsets) = clock_lines nanoseconds nodes offsets (length nodes)
 
 -- the line that says how many messages were never received, whose sends are left out
 abbrev pub lost_line : ℕ → List ℕ
@@ -140,8 +143,9 @@ event_count steps (Some idle) = steps - idle.count
 -- the notes on a log that was read as a trace
 abbrev pub notes_of : Options → Import → List ℕ
 notes_of o import = node_notes o.nodes import.nodes
-    ++ (clock_notes import.nodes import.offsets
+    ++ (clock_notes (are_nanoseconds o) import.nodes import.offsets
     ++ (lost_notes import.lost
     ++ (merged_notes import.merged
-    ++ (moved_notes o.spread (event_count (length import.trace.steps) import.idle) import.moved import.lateness
+    ++ (moved_notes (are_nanoseconds o) o.spread (event_count (length import.trace.steps) import.idle) import.moved
+    import.lateness
     ++ idle_notes import.idle))))

@@ -1,3 +1,4 @@
+pub mod TimeWords
 pub mod ImportLines
 pub mod TickLines
 pub mod Serving

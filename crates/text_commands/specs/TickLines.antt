@@ -1,5 +1,5 @@
 -- The table of the lengths of a tick for a log, as text, and the note on it.
-use Rattle.std.specs.Prelude.{ℕ, ◌/◌, ◌%◌, ◌*◌, Bool, false, List, [], ◌∷◌, ◌++◌, ◌==◌, if◌then◌else◌}
+use Rattle.std.specs.Prelude.{ℕ, ◌*◌, Bool, false, List, [], ◌∷◌, ◌++◌, ◌==◌, if◌then◌else◌}
 use Rattle.std.specs.Prelude.{fold, codes, decimal, nat_le, Option, Some, None}
 use Rattle.std.specs.List.{flat_map}
 use Rattle.std.specs.Option.{option_map_or}
@@ -7,14 +7,7 @@ use Rattle.event_log.specs.declared.tick_rows.Placing.{Placing}
 use Rattle.event_log.specs.declared.tick_rows.TickRow.{TickRow}
 use Rattle.event_log.specs.declared.times.TimeKind.{TimeKind}
 use Rattle.event_log.specs.TickRows.{tick_nanoseconds}
-
--- so many nanoseconds, in the greatest unit of which they are a whole number
-unfoldable pub scaled_words : ℕ → List ℕ
-scaled_words n =
-    if n % 1000000000 == 0 then decimal (n / 1000000000) ++ codes "s"
-    else if n % 1000000 == 0 then decimal (n / 1000000) ++ codes "ms"
-    else if n % 1000 == 0 then decimal (n / 1000) ++ codes "us"
-    else decimal n ++ codes "ns"
+use Rattle.text_commands.specs.TimeWords.{scaled_words}
 
 -- a length of a tick, as --tick takes it: in nanoseconds, unless times are whole numbers of no unit
 abbrev pub length_words : ℕ → Option ℕ → List ℕ

@@ -3,11 +3,13 @@
 ghost use Rattle.std.specs.Prelude.{◌≡◌, [], IfOk, Some, length, slice_index_or, string_bytes};
 ghost use Rattle.text_commands.specs.ImportLines.{clock_line_at, clock_lines, clock_notes, event_count};
 ghost use Rattle.text_commands.specs.ImportLines.{late_lines, moved_notes, node_lines, notes_of};
+ghost use Rattle.text_commands.specs.TimeWords.{are_nanoseconds};
 
 use crate::idle_lines::{event_count, idle_notes};
 use crate::lost_lines::lost_notes;
 use crate::merged_lines::merged_notes;
 use crate::tick_words::Ticks;
+use crate::time_words::{TimeWords, are_nanoseconds};
 use clock_offsets::Offsets;
 use event_log::{Import, NameSet, Options, printed};
 use std::alloc::{AllocError, Global};
@@ -31,13 +33,14 @@ pub(crate) fn notes_text(
         Some(_) => String::new(alloc),
         None => node_lines(alloc, &import.nodes)?,
     };
-    let clocks = clock_notes(alloc, &import.nodes, &import.offsets)?;
+    let is_nanoseconds = are_nanoseconds(options);
+    let clocks = clock_notes(alloc, is_nanoseconds, &import.nodes, &import.offsets)?;
     notes.push_str(clocks.as_str())?;
     let lost = lost_notes(alloc, import.lost)?;
     notes.push_str(lost.as_str())?;
     let merged = merged_notes(alloc, import.merged)?;
     notes.push_str(merged.as_str())?;
-    let moved = moved_notes(alloc, options.spread, import)?;
+    let moved = moved_notes(alloc, is_nanoseconds, options.spread, import)?;
     notes.push_str(moved.as_str())?;
     let idle = idle_notes(alloc, import.idle)?;
     notes.push_str(idle.as_str())?;
@@ -45,9 +48,14 @@ pub(crate) fn notes_text(
 }
 
 /// How far events moved, if they might, and then which messages are late.
-fn moved_notes(alloc: Global, spread: bool, import: &Import) -> Result<String, AllocError>
+fn moved_notes(
+    alloc: Global,
+    is_nanoseconds: bool,
+    spread: bool,
+    import: &Import,
+) -> Result<String, AllocError>
     ensures { IfOk result
-        (λ text. string_bytes text ≡ moved_notes spread
+        (λ text. string_bytes text ≡ moved_notes is_nanoseconds spread
         (event_count (length import.now.trace.steps) import.now.idle) import.now.moved
         import.now.lateness) }
 {
@@ -59,7 +67,7 @@ fn moved_notes(alloc: Global, spread: bool, import: &Import) -> Result<String, A
         }
         .to_string(alloc)?;
         notes.push_str(line.as_str())?;
-        let late = late_lines(alloc, import.lateness)?;
+        let late = late_lines(alloc, is_nanoseconds, import.lateness)?;
         notes.push_str(late.as_str())?;
     }
     Ok(notes)
@@ -68,25 +76,33 @@ fn moved_notes(alloc: Global, spread: bool, import: &Import) -> Result<String, A
 /// By how much clocks moved, if they were to be aligned.
 fn clock_notes(
     alloc: Global,
+    is_nanoseconds: bool,
     nodes: &NameSet,
     offsets: &Option<Offsets>,
 ) -> Result<String, AllocError>
-    ensures { IfOk result (λ text. string_bytes text ≡ clock_notes nodes.now offsets.now) }
+    ensures { IfOk result
+        (λ text. string_bytes text ≡ clock_notes is_nanoseconds nodes.now offsets.now) }
 {
     match offsets {
         None => Ok(String::new(alloc)),
-        Some(offsets) => clock_lines(alloc, nodes, offsets),
+        Some(offsets) => clock_lines(alloc, is_nanoseconds, nodes, offsets),
     }
 }
 
 /// A line for each node whose clock moved.
-fn clock_lines(alloc: Global, nodes: &NameSet, offsets: &Offsets) -> Result<String, AllocError>
+fn clock_lines(
+    alloc: Global,
+    is_nanoseconds: bool,
+    nodes: &NameSet,
+    offsets: &Offsets,
+) -> Result<String, AllocError>
     ensures { IfOk result
-        (λ text. string_bytes text ≡ clock_lines nodes.now offsets.now (length nodes.now)) }
+        (λ text. string_bytes text ≡ clock_lines is_nanoseconds nodes.now offsets.now
+        (length nodes.now)) }
 {
     let mut lines = String::new(alloc);
     for place in 0..nodes.len() {
-        let line = clock_line_at(alloc, nodes, offsets, place)?;
+        let line = clock_line_at(alloc, is_nanoseconds, nodes, offsets, place)?;
         lines.push_str(line.as_str())?;
     }
     Ok(lines)
@@ -95,18 +111,27 @@ fn clock_lines(alloc: Global, nodes: &NameSet, offsets: &Offsets) -> Result<Stri
 /// The line of the node at a place, if its clock moved.
 fn clock_line_at(
     alloc: Global,
+    is_nanoseconds: bool,
     nodes: &NameSet,
     offsets: &Offsets,
     place: usize,
 ) -> Result<String, AllocError>
-    ensures { IfOk result (λ text. string_bytes text ≡ clock_line_at nodes.now offsets.now place) }
+    ensures { IfOk result
+        (λ text. string_bytes text ≡ clock_line_at is_nanoseconds nodes.now offsets.now place) }
 {
     let offset = offsets.at(place);
     if offset <= 0 {
         return Ok(String::new(alloc));
     }
     let name = name_in(nodes, place);
-    let line = ClockLine { name, offset }.to_string(alloc)?;
+    let line = ClockLine {
+        name,
+        offset: TimeWords {
+            time: offset.unsigned_abs(),
+            is_nanoseconds,
+        },
+    }
+    .to_string(alloc)?;
     Ok(line)
 }
 
@@ -124,14 +149,15 @@ fn name_in(nodes: &NameSet, place: usize) -> &[u8]
 #[derive(Clone, Copy)]
 struct ClockLine<'a> {
     name: &'a [u8],
-    offset: i128,
+    offset: TimeWords,
 }
 
 impl fmt::Display for ClockLine<'_> {
     ghost use Rattle.std.specs.Prelude.{Some};
     ghost use Rattle.text_commands.specs.ImportLines.{clock_line};
 
-    ghost output = { λ line. Some (clock_line line.name.now line.offset) };
+    ghost output = { λ line.
+        Some (clock_line line.offset.is_nanoseconds line.name.now line.offset.time) };
 
     fn fmt<W: fmt::Write>(&self, f: &mut fmt::Formatter<W>) -> fmt::Result {
         writeln!(
@@ -145,23 +171,32 @@ impl fmt::Display for ClockLine<'_> {
 
 /// How many messages are received no later than they are sent, the worst of them, and what may help; nothing if there
 /// are none.
-fn late_lines(alloc: Global, lateness: Lateness) -> Result<String, AllocError>
+fn late_lines(alloc: Global, is_nanoseconds: bool, lateness: Lateness) -> Result<String, AllocError>
     ensures { IfOk result
-        (λ text. string_bytes text ≡ late_lines lateness.messages lateness.worst) }
+        (λ text. string_bytes text ≡ late_lines is_nanoseconds lateness.messages lateness.worst) }
 {
     match lateness.worst {
         None => Ok(String::new(alloc)),
-        Some(worst) => worst_lines(alloc, lateness.messages, worst),
+        Some(worst) => worst_lines(alloc, is_nanoseconds, lateness.messages, worst),
     }
 }
 
 /// The same, if this is the worst of so many.
-fn worst_lines(alloc: Global, messages: u64, worst: LateMessage) -> Result<String, AllocError>
-    ensures { IfOk result (λ text. string_bytes text ≡ late_lines messages (Some worst)) }
+fn worst_lines(
+    alloc: Global,
+    is_nanoseconds: bool,
+    messages: u64,
+    worst: LateMessage,
+) -> Result<String, AllocError>
+    ensures { IfOk result
+        (λ text. string_bytes text ≡ late_lines is_nanoseconds messages (Some worst)) }
 {
     let lines = LateLines {
         messages,
-        by: worst.by,
+        by: TimeWords {
+            time: worst.by,
+            is_nanoseconds,
+        },
         number: u64::from(worst.event) + 2,
         sent: u64::from(worst.message) + 2,
     }
@@ -261,7 +296,7 @@ impl fmt::Display for Distance {
 #[derive(Clone, Copy)]
 struct LateLines {
     messages: u64,
-    by: u128,
+    by: TimeWords,
     number: u64,
     sent: u64,
 }
@@ -271,7 +306,8 @@ impl fmt::Display for LateLines {
     ghost use Rattle.text_commands.specs.ImportLines.{named_late_lines};
 
     ghost output = { λ lines.
-        Some (named_late_lines lines.messages lines.by lines.number lines.sent) };
+        Some (named_late_lines lines.by.is_nanoseconds lines.messages lines.by.time lines.number
+        lines.sent) };
 
     fn fmt<W: fmt::Write>(&self, f: &mut fmt::Formatter<W>) -> fmt::Result {
         write!(

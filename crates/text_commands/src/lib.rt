@@ -29,6 +29,7 @@ mod serving;
 mod texts;
 mod tick_lines;
 mod tick_words;
+mod time_words;
 mod timeout_tables;
 mod traces;
 mod upgrades;

@@ -1,10 +1,11 @@
 //! The table of the lengths of a tick for a log, as text, and the note on it.
 
-ghost use Rattle.std.specs.Prelude.{◌≡◌, ◌++◌, IfOk, decimal, string_bytes};
+ghost use Rattle.std.specs.Prelude.{◌≡◌, IfOk, string_bytes};
 ghost use Rattle.std.specs.Option.{option_map_or};
 ghost use Rattle.text_commands.specs.TickLines.{is_near, later_near, length_words, near_line, nearest, row_length};
-ghost use Rattle.text_commands.specs.TickLines.{row_text, scaled_words, tick_notes, ticks_text};
+ghost use Rattle.text_commands.specs.TickLines.{row_text, tick_notes, ticks_text};
 
+use crate::time_words::scaled;
 use event_log::{Placing, TickRow, TickTable, TimeKind};
 use std::alloc::{AllocError, Global};
 use std::fmt;
@@ -123,23 +124,6 @@ impl fmt::Display for Length {
             }
         }
     }
-}
-
-/// So many nanoseconds, in the greatest unit of which they are a whole number.
-#[tactic(auto, unfolding(crate::specs::TickLines::scaled_words))]
-fn scaled(nanoseconds: u128) -> (u128, &'static str)
-    ensures { decimal result.0 ++ result.1.now ≡ scaled_words nanoseconds }
-{
-    if nanoseconds % 1_000_000_000 == 0 {
-        return (nanoseconds / 1_000_000_000, "s");
-    }
-    if nanoseconds % 1_000_000 == 0 {
-        return (nanoseconds / 1_000_000, "ms");
-    }
-    if nanoseconds % 1_000 == 0 {
-        return (nanoseconds / 1_000, "us");
-    }
-    (nanoseconds, "ns")
 }
 
 /// The record of a length of a tick.
