@@ -34,7 +34,7 @@ const TABLE_HELP: &str =
     "The table of the trace's steps, from which it takes names, messages and records; - is standard input";
 
 const UNIT_HELP: &str =
-    "The unit of the times of --table: s, ms, us or ns; time stamps since 2001 need none";
+    "With --table, the unit of its times: s, ms, us or ns; time stamps since 2001 need none";
 
 /// The picture of the trace in a file, as SVG. One of the two files at most is standard input.
 #[derive(Debug, Drop)]

@@ -29,7 +29,7 @@ const TABLE_HELP: &str =
     "The table of the trace's steps, from which it takes names, messages and records; - is standard input";
 
 const UNIT_HELP: &str =
-    "The unit of the times of --table: s, ms, us or ns; time stamps since 2001 need none";
+    "With --table, the unit of its times: s, ms, us or ns; time stamps since 2001 need none";
 
 const BAD_UNIT: &str = "synchrony: bad --unit\nsynchrony: --unit takes s, ms, us or ns";
 
