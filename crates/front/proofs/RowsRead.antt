@@ -1,13 +1,12 @@
 -- Records are read as the rows that they are the records of, and as no others.
 use Rattle.std.proofs.Common.{ℕ, ◌≡◌, ◌+◌, ◌<◌, ◌^◌, ◌∙◌, ◌==◌, ◌&&◌, ◌⊎◌, inl, inr, List, [], ◌∷◌, ◌++◌, length, map}
 use Rattle.std.proofs.Common.{Option, Some, None, Result, Ok, Err, Bool, true, false, cond, All, IfSome, option_map}
-use Rattle.std.proofs.Common.{decimal, append_assoc, refl, sym, ap, suc, take, get_or, arith}
+use Rattle.std.proofs.Common.{decimal, append_assoc, refl, sym, ap, take, arith}
 use Rattle.std.specs.Cmp.Lexicographic.{pointwise}
 use Rattle.std.specs.Option.{ok_or}
 use Rattle.std.specs.Str.{bytes_eq}
-use Rattle.std.proofs.Math.Seq.{take-suc}
 use Rattle.std.proofs.lemmas.Fmt.{decimal_nonempty}
-use Rattle.std.proofs.lemmas.List.{append-nil, map-append}
+use Rattle.std.proofs.lemmas.List.{append-nil, map_more}
 use Rattle.std.proofs.lemmas.List.Elements.{All-head, All-tail}
 use Rattle.std.proofs.lemmas.Option.{same_Some}
 use Rattle.std.proofs.lemmas.Slice.Eq.{bytes_eq-Decides, slice_eq-Decides}
@@ -53,8 +52,7 @@ entries-some (f ∷ fs) (e ∷ es) h =
 -- one more field
 pub entry_more : (fields : List (List ℕ)) (k : ℕ) → k < length fields → map entry_of (take (k + 1) fields) ≡ map entry_of (take k fields) ++ entry_of (field_of fields k) ∷ []
 entry_more fields k inside =
-    let next : k + 1 ≡ suc k = omega arith in
-    rw (next, take-suc fields k [] inside, field_of-get_or fields k) (map-append entry_of (take k fields) (get_or fields k [] ∷ []))
+    rw (field_of-get_or fields k) (map_more entry_of fields k [] inside)
 
 -- and the texts of entries are read as these
 entries-texts : (entries : List (Option ℕ)) → AreBelow (2 ^ 64) entries → map entry_of (map entry_text entries) ≡ map (λ e. Some e) entries

@@ -1,11 +1,10 @@
 -- What csv reads from the text of a report is the report's records.
-use Rattle.std.proofs.Common.{ℕ, ◌≡◌, ◌+◌, ◌<◌, ◌^◌, suc, length, take, get_or, List, [], ◌∷◌, ◌++◌, map, Option, Some, None, All, refl, arith}
-use Rattle.std.proofs.Math.Seq.{take-suc}
-use Rattle.std.proofs.lemmas.List.{map-append}
+use Rattle.std.proofs.Common.{ℕ, ◌≡◌, ◌+◌, ◌<◌, ◌^◌, length, take, get_or, List, [], ◌∷◌, ◌++◌, map, Option, Some, None, All, refl, arith}
+use Rattle.std.proofs.lemmas.List.{map_more}
 use Rattle.std.proofs.lemmas.List.Elements.{All-head, All-tail}
 use Rattle.csv.specs.Reading.{strip_bom}
 use Rattle.step_trace.specs.declared.rows.Row.{Row}
-use Rattle.trace_text.specs.RecordWriting.{ArePlain, IsPlain}
+use Rattle.trace_text.specs.RecordWriting.{ArePlain}
 use Rattle.front.specs.Columns.{AreBelow, entries_of, entry_text}
 use Rattle.front.specs.ReportTexts.{row_record, report_records, report_text, IsRow64, StandsFor}
 use Rattle.trace_text.proofs.LinesRead.{AreLines, lines-read}
@@ -31,12 +30,6 @@ no-mark rows = refl
 pub StandsFor-report_text : (rows : List Row) → All IsRow64 rows → StandsFor (report_text rows) rows
 StandsFor-report_text rows h = lines-read (report_records rows) (lines-report rows h) (no-mark rows)
 
--- one more field
-pub push_plain : (fields : List (List ℕ)) (field : List ℕ) → ArePlain fields → IsPlain field → ArePlain (fields ++ field ∷ [])
-push_plain [] field plain one = (one, tt)
-push_plain (x ∷ rest) field plain one = (plain.0, push_plain rest field plain.1 one)
-
-pub map_more : (entries : List (Option ℕ)) (k : ℕ) → k < length entries → map entry_text (take (k + 1) entries) ≡ map entry_text (take k entries) ++ entry_text (get_or entries k None) ∷ []
-map_more entries k inside =
-    let next : k + 1 ≡ suc k = omega arith in
-    rw (next, take-suc entries k None inside) (map-append entry_text (take k entries) (get_or entries k None ∷ []))
+-- one more entry
+pub entries_more : (entries : List (Option ℕ)) (k : ℕ) → k < length entries → map entry_text (take (k + 1) entries) ≡ map entry_text (take k entries) ++ entry_text (get_or entries k None) ∷ []
+entries_more entries k inside = map_more entry_text entries k None inside

@@ -69,7 +69,7 @@ fn write_header(writer: &mut Writer<Vec<u8>>) -> Result<(), AllocError>
     write_record(writer, &NAMES)
 }
 
-#[tactic(auto, using(crate::proofs::TextsRead::push_plain, crate::proofs::TextsRead::map_more))]
+#[tactic(auto, using(trace_text::proofs::PlainFields::push_plain, crate::proofs::TextsRead::entries_more))]
 fn write_row(alloc: Global, writer: &mut Writer<Vec<u8>>, row: &Row) -> Result<(), AllocError>
     requires { IsReady writer.old }
     ensures ready { OnOk result (IsReady writer.new) }

@@ -1,9 +1,8 @@
 -- What csv reads from the text of timeouts is their records.
-use Rattle.std.proofs.Common.{ℕ, ◌≡◌, ◌+◌, ◌<◌, ◌^◌, suc, length, take, get_or, List, [], ◌∷◌, ◌++◌, map, All, refl, ap, ◌∙◌, arith}
+use Rattle.std.proofs.Common.{ℕ, ◌≡◌, ◌+◌, ◌<◌, ◌^◌, length, take, get_or, List, [], ◌∷◌, ◌++◌, map, All, refl, ap, ◌∙◌, arith}
 use Rattle.std.specs.Prelude.{decimal}
 use Rattle.std.specs.List.{flat_map}
-use Rattle.std.proofs.Math.Seq.{take-suc}
-use Rattle.std.proofs.lemmas.List.{map-append, append-nil}
+use Rattle.std.proofs.lemmas.List.{append-nil, map_more}
 use Rattle.std.proofs.lemmas.List.Concat.{flat_map-append}
 use Rattle.std.proofs.lemmas.List.Elements.{All-head, All-tail}
 use Rattle.csv.specs.Reading.{strip_bom}
@@ -37,10 +36,9 @@ no-mark all = refl
 pub StandsFor-timeouts_text : (all : List FollowerTimeouts) → All AreOf64 all → StandsFor (timeouts_text all) all
 StandsFor-timeouts_text all h = lines-read (timeouts_records all) (omega arith, (refl, (refl, (refl, (refl, (refl, (refl, (refl, (refl, (refl, (refl, (refl, tt))))))))))), lines-followers all h) (no-mark all)
 
-pub map_more : (ns : List ℕ) (k : ℕ) → k < length ns → map decimal (take (k + 1) ns) ≡ map decimal (take k ns) ++ decimal (get_or ns k 0) ∷ []
-map_more ns k inside =
-    let next : k + 1 ≡ suc k = omega arith in
-    rw (next, take-suc ns k 0 inside) (map-append decimal (take k ns) (get_or ns k 0 ∷ []))
+-- one more number
+pub numbers_more : (ns : List ℕ) (k : ℕ) → k < length ns → map decimal (take (k + 1) ns) ≡ map decimal (take k ns) ++ decimal (get_or ns k 0) ∷ []
+numbers_more ns k inside = map_more decimal ns k 0 inside
 
 -- one follower more
 pub timeouts_text-more : (all : List FollowerTimeouts) (f : FollowerTimeouts) → timeouts_text (all ++ f ∷ []) ≡ timeouts_text all ++ text_of_records (follower_records f)

@@ -110,7 +110,7 @@ fn write_follower(
     Ok(())
 }
 
-#[tactic(auto, using(crate::proofs::TextsRead::push_plain, crate::proofs::TextsRead::map_more))]
+#[tactic(auto, using(trace_text::proofs::PlainFields::push_plain, crate::proofs::TextsRead::numbers_more))]
 fn write_timeout(
     writer: &mut Writer<Vec<u8>>,
     fields: &mut ByteRecord,

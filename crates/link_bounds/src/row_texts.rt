@@ -29,7 +29,7 @@ pub fn bounds_text_of(alloc: Global, rows: &[BoundRow]) -> Result<Vec<u8>, Alloc
     text_written(writer)
 }
 
-#[tactic(auto, using(front::proofs::TextsRead::push_plain, front::proofs::TextsRead::map_more))]
+#[tactic(auto, using(trace_text::proofs::PlainFields::push_plain, front::proofs::TextsRead::entries_more))]
 fn write_row(alloc: Global, writer: &mut Writer<Vec<u8>>, row: &BoundRow) -> Result<(), AllocError>
     requires { IsReady writer.old }
     ensures ready { OnOk result (IsReady writer.new) }

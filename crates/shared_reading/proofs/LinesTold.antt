@@ -24,7 +24,7 @@ use Rattle.trace_text.specs.TextRefusals.{step_fields, end_stage, next_stage, pu
 use Rattle.trace_text.specs.JudgedIds.{judged_step_of}
 use Rattle.trace_text.proofs.JudgedIds.{step-judged}
 use Rattle.trace_text.proofs.Numbers.{bytes_eq-decimal}
-use Rattle.trace_text.proofs.StageInversions.{read_part, read_result}
+use Rattle.trace_text.proofs.StageInversions.{passed, read_part, read_result}
 use Rattle.shared_reading.specs.declared.lines.Line.{Line}
 use Rattle.shared_reading.specs.Lines.{Read, narrow_line, line_of, next_read, with_line, with_next, is_next, accepted, after_lines, line_stage, TellLines}
 
@@ -32,10 +32,6 @@ use Rattle.shared_reading.specs.Lines.{Read, narrow_line, line_of, next_read, wi
 passed_over : {A : Type 0} (b : Bool) (r : Result A TextError) (e : TextError) (x : A) → cond b (Err e) r ≡ Ok x → (b ≡ false) × (r ≡ Ok x)
 passed_over true r e x h = cc h
 passed_over false r e x h = (refl, h)
-
-passed : {A : Type 0} (b : Bool) (r : Result A TextError) (e : TextError) (x : A) → cond b r (Err e) ≡ Ok x → (b ≡ true) × (r ≡ Ok x)
-passed true r e x h = (refl, h)
-passed false r e x h = cc h
 
 narrow : (n : ℕ) (x : ℕ × Step) (l : Line) → narrow_line n x ≡ Ok l → ◌≡◌ {A = Result Line TextError} (Ok (record { no = n; tick = x.0; step = x.1 })) (Ok l)
 narrow n x l h = (passed (nat_lt x.0 (2 ^ 32)) _ (WrongNumber 0) l h).1

@@ -3,6 +3,7 @@ use Rattle.std.proofs.Common.{◌≡◌, ◌==◌, ◌≤◌, ◌+◌, ◌-◌, 
 use Rattle.std.proofs.Common.{None, is_some, Result, Ok, Err, Bool, true, false, refl, sym, ap, subst, arith, nat_eq}
 use Rattle.std.proofs.Common.{not, slice_index_or}
 use Rattle.std.specs.Prelude.{MatchBool, ⊤}
+use Rattle.std.proofs.lemmas.Bool.{not-true}
 use Rattle.std.proofs.lemmas.List.{drop-drop, take-append-drop}
 use Rattle.csv.specs.Reading.{strip_bom}
 use Rattle.memchr.specs.Find.{IsFirstByte, Nowhere, Passes, is_byte}
@@ -52,10 +53,6 @@ pub unmarked-none : (xs : List ℕ) → length xs ≡ 0 → strip_bom xs ≡ xs
 unfolding strip_bom
 unmarked-none [] h = refl
 unmarked-none (x ∷ xs) h = absurd (omega (arith, h))
-
-not-true : (b : Bool) → not b ≡ true → b ≡ false
-not-true false h = refl
-not-true true h = cc h
 
 -- what comes behind bytes doesn't make a mark of their beginning
 pub unmarked-before : (xs : List ℕ) → (length xs ≡ 0 → ⊥) → not (nat_eq (slice_index_or xs 0 0) 239) ≡ true → IsUnmarked xs

@@ -1,6 +1,6 @@
 -- Bytes without a quote that end in a line feed are closed.
 use Rattle.std.proofs.Common.{◌≡◌, ◌∙◌, ℕ, List, [], ◌∷◌, ◌++◌, Bool, true, false, cond, refl, sym, subst, arith, ◌==◌, ◌||◌, ◌&&◌}
-use Rattle.std.proofs.lemmas.Bool.{eqb-true}
+use Rattle.std.proofs.lemmas.Bool.{and_parts, eqb-true, or_parts}
 use Rattle.csv.specs.Machine.{step, in_field, start_field, start_record, after_end}
 use Rattle.csv.specs.Reading.{default_config, strip_bom, is_bom}
 use Rattle.csv.specs.declared.parser.State.{State}
@@ -64,27 +64,15 @@ plain-line st.InQuoted h = cc h
 plain-line st.AfterQuote h = cc h
 plain-line st.InEscape h = cc h
 
-or-left : (a b : Bool) → (a || b) ≡ false → a ≡ false
-or-left false b e = refl
-or-left true b e = cc e
-
-or-right : (a b : Bool) → (a || b) ≡ false → b ≡ false
-or-right false b e = e
-or-right true b e = cc e
-
 closed-from : (s : State) (a : List ℕ) → plain s ≡ true → has_quote a ≡ false → ends_line a ≡ true → state_after s a ≡ st.StartRecord
 unfolding state_after ends_line
 closed-from s [] h q e = cc e
 closed-from s (c ∷ []) h q e = subst (λ d. (step default_config s d).0 ≡ st.StartRecord) (sym (eqb-true c 10 e)) (plain-line s h)
-closed-from s (c ∷ d ∷ rest) h q e = closed-from (step default_config s c).0 (d ∷ rest) (plain-step s c h (or-left _ _ q)) (or-right _ _ q) e
+closed-from s (c ∷ d ∷ rest) h q e = let none = or_parts (c == 34) _ q in closed-from (step default_config s c).0 (d ∷ rest) (plain-step s c h none.0) none.1 e
 
 -- Bytes without a quote that end in a line feed leave the reader between two records.
 pub closed : (a : List ℕ) → has_quote a ≡ false → ends_line a ≡ true → IsClosed a
 closed a q e = closed-from st.StartRecord a refl q e
-
-and-right : (a b : Bool) → (a && b) ≡ true → b ≡ true
-and-right true b e = e
-and-right false b e = cc e
 
 -- a mark isn't cut by a line feed
 bom-third : (x y z : ℕ) → (z == 10) ≡ true → is_bom x y z ≡ false
@@ -92,7 +80,7 @@ bom-third x y z e = go (is_bom x y z) refl where
   go : (t : Bool) → is_bom x y z ≡ t → t ≡ false
   go false h = refl
   go true h =
-      let third : (z == 191) ≡ true = and-right ((x == 239) && (y == 187)) (z == 191) h in
+      let third : (z == 191) ≡ true = (and_parts ((x == 239) && (y == 187)) (z == 191) h).1 in
       let same : 191 ≡ 10 = sym (eqb-true z 191 third) ∙ eqb-true z 10 e in
       absurd (omega (arith, same))
 
@@ -130,7 +118,7 @@ strip-closed (x ∷ []) q e = closed (x ∷ []) q e
 strip-closed (x ∷ y ∷ []) q e = closed (x ∷ y ∷ []) q e
 strip-closed (x ∷ y ∷ z ∷ []) q e = rw (bom-third x y z e) (closed (x ∷ y ∷ z ∷ []) q e)
 strip-closed (x ∷ y ∷ z ∷ w ∷ r) q e =
-    go (closed (w ∷ r) (or-right (z == 34) _ (or-right (y == 34) _ (or-right (x == 34) _ q))) e) (closed (x ∷ y ∷ z ∷ w ∷ r) q e) (is_bom x y z) where
+    go (closed (w ∷ r) (or_parts (z == 34) _ (or_parts (y == 34) _ (or_parts (x == 34) _ q).1).1).1 e) (closed (x ∷ y ∷ z ∷ w ∷ r) q e) (is_bom x y z) where
       go : IsClosed (w ∷ r) → IsClosed (x ∷ y ∷ z ∷ w ∷ r) → (t : Bool) → IsClosed (cond t (w ∷ r) (x ∷ y ∷ z ∷ w ∷ r))
       go without all true = without
       go without all false = all

@@ -5,7 +5,7 @@ use Rattle.std.proofs.Common.{decimal, append_assoc}
 use Rattle.std.specs.Prelude.{nat_lt, nat_le, is_none}
 use Rattle.std.specs.Str.{bytes_eq}
 use Rattle.std.specs.Option.{option_map}
-use Rattle.std.proofs.lemmas.Bool.{eqb-true}
+use Rattle.std.proofs.lemmas.Bool.{and_parts, eqb-true, or_parts}
 use Rattle.std.proofs.lemmas.Bool.Decides.{nat_tests}
 use Rattle.std.proofs.lemmas.List.{append-nil}
 use Rattle.step_trace.specs.declared.steps.Act.{Act}
@@ -35,7 +35,7 @@ use Rattle.trace_text.specs.TextRefusals.{operation_of, act_of, is_size, header_
 use Rattle.trace_text.specs.TextRefusals.{step_stage, end_stage, next_stage, trace_at_end, trace_of_records}
 use Rattle.trace_text.proofs.Numbers.{number_of-some, same-from_bytes_eq}
 use Rattle.trace_text.proofs.NumberLists.{numbers_of-some, ids_of-some}
-use Rattle.trace_text.proofs.StageInversions.{passed, both, neither, read_part, read_result, four_are, five_are, two_are, append_one, first_field}
+use Rattle.trace_text.proofs.StageInversions.{passed, read_part, read_result, four_are, five_are, two_are, append_one, first_field}
 
 -- these are the records of a trace, in one of the versions
 abbrev pub AreRecordsOf : List (List (List ℕ)) → Recorded → Type 0
@@ -60,7 +60,7 @@ from_version field v h = go (bytes_eq field (codes "1")) (bytes_eq field (codes 
 from_header : (fields : List (List ℕ)) (s : Stage) → header_stage fields ≡ Ok s → LeadsTo (fields ∷ []) s
 from_header fields s h =
     let first = passed ((length fields == 4) && bytes_eq (field_of fields 0) (codes "dls-trace")) _ _ s h in
-    let two = both (length fields == 4) _ first.0 in
+    let two = and_parts (length fields == 4) _ first.0 in
     let version = read_part (version_named (field_of fields 1)) why.BadVersion _ s first.1 in
     let n = read_part (number_of (field_of fields 2)) why.BadSize _ s version.2 in
     let t = read_part (number_of (field_of fields 3)) why.BadSize _ s n.2 in
@@ -84,7 +84,7 @@ IsSetup-from_none n t values h =
     let size = none_cond (nat_lt n MIN_PROCESSORS || nat_lt MAX_PROCESSORS n) BadSize _ h in
     let faults = none_cond (nat_lt n (2 * t + 1)) BadFaults _ size.1 in
     let count = none_last (length values == n) BadInit faults.1 in
-    let ends = neither (nat_lt n MIN_PROCESSORS) (nat_lt MAX_PROCESSORS n) size.0 in
+    let ends = or_parts (nat_lt n MIN_PROCESSORS) (nat_lt MAX_PROCESSORS n) size.0 in
     let low = ends.0 in
     let high = ends.1 in
     let few = faults.0 in
@@ -289,7 +289,7 @@ from_step records v t fields s before h =
 -- a trace may end later
 IsTrace-with_last : (t : Recorded) (last : ℕ) → IsTrace t → may_end_in t last ≡ true → IsTrace (with_last t last)
 IsTrace-with_last t last w h =
-    let parts = both (nat_le t.last last) (nat_le last 1000000) h in
+    let parts = and_parts (nat_le t.last last) (nat_le last 1000000) h in
     let forward : t.last ≤ last = let p = parts.0 in grind (arith, nat_tests) in
     let high : last ≤ 1000000 = let p = parts.1 in grind (arith, nat_tests) in
     record {

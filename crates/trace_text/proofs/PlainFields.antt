@@ -22,6 +22,11 @@ IsPlain-decimal n h = decimal_by_steps (λ k ds. IsPlain ds)
     (λ k l. rw (plain_digit k l) refl)
     (λ k ds l p. rw (list_any-append (needs_byte our_writer) ds ((48 + k % 10) ∷ []), p, plain_digit (k % 10) (digit-modulo k)) refl) n h
 
+-- one more field
+pub push_plain : (fields : List (List ℕ)) (field : List ℕ) → ArePlain fields → IsPlain field → ArePlain (fields ++ field ∷ [])
+push_plain [] field plain one = (one, tt)
+push_plain (x ∷ rest) field plain one = (plain.0, push_plain rest field plain.1 one)
+
 -- the default writer, which asks for records of one length or not
 abbrev pub writer_of : Bool → WriterBuilder
 writer_of flexible = record default_writer { flexible = flexible }

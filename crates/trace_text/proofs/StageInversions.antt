@@ -1,5 +1,5 @@
 -- What an accepted record says: the parts of the table that were passed.
-use Rattle.std.proofs.Common.{ℕ, suc, ◌≡◌, List, [], ◌∷◌, ◌++◌, length, drop, Option, Some, None, Result, Ok, Err, Bool, true, false, ◌&&◌, ◌||◌, cond, refl, ap, arith}
+use Rattle.std.proofs.Common.{ℕ, suc, ◌≡◌, List, [], ◌∷◌, ◌++◌, length, drop, Option, Some, None, Result, Ok, Err, Bool, true, false, cond, refl, ap, arith}
 use Rattle.std.specs.Option.{ok_or}
 use Rattle.csv.specs.Records.{field_at}
 use Rattle.trace_text.specs.declared.refusals.TextError.{TextError}
@@ -9,15 +9,6 @@ use Rattle.trace_text.specs.Records.{field_of, ◌>>=◌}
 pub passed : {A : Type 0} (b : Bool) (r : Result A TextError) (e : TextError) (x : A) → cond b r (Err e) ≡ Ok x → (b ≡ true) × (r ≡ Ok x)
 passed true r e x h = (refl, h)
 passed false r e x h = cc h
-
-pub both : (a b : Bool) → (a && b) ≡ true → (a ≡ true) × (b ≡ true)
-both true true h = (refl, refl)
-both true false h = cc h
-both false b h = cc h
-
-pub neither : (a b : Bool) → (a || b) ≡ false → (a ≡ false) × (b ≡ false)
-neither true b h = cc h
-neither false b h = (refl, h)
 
 -- a part that was read, and what was made of it
 pub read_part : {A B : Type 0} (o : Option A) (e : TextError) (f : A → Result B TextError) (x : B) → ok_or o e >>= f ≡ Ok x → (a : A) × (o ≡ Some a) × (f a ≡ Ok x)
