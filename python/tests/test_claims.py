@@ -126,7 +126,7 @@ def test_an_executor_that_is_given():
     with ThreadPoolExecutor(2) as executor:
         assert sy.judge_runs(cases()[:1], "2*phi", executor=executor) and isinstance(executor.submit(int), Future)
     found = sy.judge_runs(cases()[:2], "2*phi", executor=Broken())
-    assert [it.error for it in found.rows] == ["no answer: its worker died"] * 2
+    assert [it.error for it in found.rows] == ["no answer: the executor takes no work any more"] * 2
 
 
 def listed(folder, *lines):

@@ -11,16 +11,16 @@ from __future__ import annotations
 
 import csv
 import math
-import multiprocessing
 import os
-from concurrent.futures import BrokenExecutor, Executor, Future, ProcessPoolExecutor
-from contextlib import ExitStack
+from concurrent.futures import Executor
 from dataclasses import dataclass, field
+from functools import partial
 from pathlib import Path
 from typing import TYPE_CHECKING, Dict, Iterable, Iterator, List, NamedTuple, Optional, Tuple, Union
 
 from . import library
-from .surveys import _line_of, _processors, _start_method
+from .surveys import _line_of
+from .work import Work
 
 if TYPE_CHECKING:
     # A text, or the path of its file.
@@ -41,6 +41,10 @@ class Case(NamedTuple):
     decisions: Optional[Input] = None
     correct: library.Correct = "all"
     start: Optional[int] = None
+
+
+# A run to judge, and its place among all.
+_Placed = Tuple[int, Case]
 
 
 class Judged(NamedTuple):
@@ -143,7 +147,8 @@ def judge_runs(
 
     `within`, `valid`, `whole`, `due`, `factor` and `rows` are those of `library.judge`. `executor` stays open; else so
     many processes as `workers` says, or as there are processors, work on it. A run that is refused or can't be read has
-    its words in place of a verdict. If a worker dies, each run of its batch is tried once more, alone.
+    its words in place of a verdict. If a worker dies, each run of its batch is tried once more, alone. If a given executor
+    doesn't work any more, all that it hasn't answered has words that say so.
 
     SynchronyError is raised if the formula is none, ValueError if there are no runs; nothing is judged then.
     """
@@ -152,13 +157,13 @@ def judge_runs(
     cases = list(runs)
     if not cases:
         raise ValueError("no runs")
-    found: List[Judged] = []
-    with ExitStack() as stack:
-        pool = executor or stack.enter_context(_processes(_processors() if workers is None else max(1, workers)))
-        batches = [cases[at : at + BATCH_RUNS] for at in range(0, len(cases), BATCH_RUNS)]
-        for batch, future in [(it, _submitted(pool, claim, it)) for it in batches]:
-            found += _answer(future) or [_again(executor, claim, it) for it in batch]
-    return Verdicts(found)
+    work: Work[_Placed, Judged] = Work(partial(_judged, claim), lambda it: it[1], lambda it, why: Judged(it[1].name, None, why), executor, workers)
+    placed = list(enumerate(cases))
+    found: Dict[int, Judged] = {}
+    with work:
+        for batch, answers in work.answers((placed[at : at + BATCH_RUNS], None) for at in range(0, len(placed), BATCH_RUNS)):
+            found.update(zip((place for place, _ in batch), answers))
+    return Verdicts([found[place] for place, _ in placed])
 
 
 def runs_in(path: Union[str, os.PathLike[str]]) -> Iterator[Case]:
@@ -212,34 +217,6 @@ def _start(fields: Dict[str, str], line: str) -> Optional[int]:
         return int(word) if word else None
     except ValueError:
         raise ValueError(f"{line}: start is {word!r}, and has to be a tick") from None
-
-
-def _processes(count: int) -> ProcessPoolExecutor:
-    return ProcessPoolExecutor(count, mp_context=multiprocessing.get_context(_start_method()))
-
-
-def _submitted(pool: Executor, claim: _Claim, cases: List[Case]) -> Optional[Future[List[Judged]]]:
-    """The runs before the executor, or None if that takes nothing any more."""
-    try:
-        return pool.submit(_judged, claim, cases)
-    except (BrokenExecutor, RuntimeError):
-        return None
-
-
-def _answer(future: Optional[Future[List[Judged]]]) -> Optional[List[Judged]]:
-    """The verdicts, or None if the worker died or the executor doesn't work any more."""
-    try:
-        return None if future is None else future.result()
-    except BrokenExecutor:
-        return None
-
-
-def _again(executor: Optional[Executor], claim: _Claim, case: Case) -> Judged:
-    """The verdict on a run that is tried once more, alone."""
-    with ExitStack() as stack:
-        pool = executor or stack.enter_context(_processes(1))
-        found = _answer(_submitted(pool, claim, [case]))
-    return found[0] if found else Judged(case.name, None, "no answer: its worker died")
 
 
 def _judged(claim: _Claim, cases: List[Case]) -> List[Judged]:

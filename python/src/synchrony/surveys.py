@@ -14,19 +14,19 @@ from __future__ import annotations
 import csv
 import io
 import math
-import multiprocessing
 import os
 import re
 import statistics
 import sys
-from collections import deque
-from concurrent.futures import BrokenExecutor, Executor, Future, ProcessPoolExecutor
+from concurrent.futures import Executor
 from dataclasses import dataclass, field
+from functools import partial
 from itertools import chain
 from pathlib import Path, PurePath
-from typing import TYPE_CHECKING, Any, Callable, Deque, Dict, Iterable, Iterator, List, NamedTuple, Optional, Sequence, Tuple, Union
+from typing import TYPE_CHECKING, Any, Callable, Dict, Iterable, Iterator, List, NamedTuple, Optional, Sequence, Tuple, Union
 
 from . import library
+from .work import Work
 
 if TYPE_CHECKING:
     import pandas
@@ -167,7 +167,13 @@ def survey(
     ticks = _ticks_of(at)
     _, listed = library._set_of(correct)
     job = _Job("all" if listed == "all" else [int(it) for it in listed.split(",") if it != "none"], ticks, at if isinstance(at, str) else None)
-    work = _Work(job, executor, _processors() if workers is None else workers)
+    work: Work[Piece, Answer] = Work(
+        partial(_answers, job),
+        lambda piece: (piece[2], job.ticks_in(piece[1])),
+        lambda piece, why: _refused(why),
+        executor,
+        workers,
+    )
     with_paths = executor is None if send_paths is None else send_paths
     rows: List[Optional[Surveyed]] = []
     told = _Progress(progress)
@@ -348,8 +354,8 @@ def _pieces(traces: Iterable[Source], with_paths: bool) -> Iterator[Tuple[Piece,
             yield (place, str(place + 1) if name is None else name, library._bytes_of(it)), None
 
 
-# A batch: what is sent, or the one trace that can't be and its error.
-_Batch = Tuple[List[Piece], Optional[str]]
+# A batch: what is sent, or the one trace that can't be and its answer.
+_Batch = Tuple[List[Piece], Optional[List[Answer]]]
 
 
 def _batches(pieces: Iterable[Tuple[Piece, Optional[str]]], most: int) -> Iterator[_Batch]:
@@ -358,7 +364,7 @@ def _batches(pieces: Iterable[Tuple[Piece, Optional[str]]], most: int) -> Iterat
     size = 0
     for piece, error in pieces:
         if error is not None:
-            yield [piece], error
+            yield [piece], [_refused(error)]
             continue
         batch.append(piece)
         size += len(piece[2])
@@ -367,116 +373,6 @@ def _batches(pieces: Iterable[Tuple[Piece, Optional[str]]], most: int) -> Iterat
             batch, size = [], 0
     if batch:
         yield batch, None
-
-
-class _Work:
-    """Batches before an executor, some of them at a time, each of which is answered once."""
-
-    def __init__(self, job: _Job, given: Optional[Executor], workers: int) -> None:
-        self.job, self.given, self.workers = job, given, max(1, workers)
-        self.own: Optional[Executor] = None
-        self.most = 4 * self.workers if given is None else 64
-
-    def executor(self) -> Executor:
-        """The executor that was given, or processes that are started if there are none."""
-        if self.given is not None:
-            return self.given
-        if self.own is None:
-            self.own = ProcessPoolExecutor(self.workers, mp_context=multiprocessing.get_context(_start_method()))
-        return self.own
-
-    def close(self) -> None:
-        if self.own is not None:
-            self.own.shutdown(cancel_futures=True)
-            self.own = None
-
-    def renew(self) -> None:
-        """New processes in place of broken ones. RuntimeError is raised if these don't even start."""
-        self.close()
-        try:
-            self.executor().submit(int).result()
-        except (BrokenExecutor, RuntimeError):
-            raise RuntimeError("the processes of a survey don't start: is it called below `if __name__ == \"__main__\":`?") from None
-
-    def answers(self, batches: Iterable[_Batch]) -> Iterator[Tuple[List[Piece], List[Answer]]]:
-        """Each batch with its answers, in no order but nearly theirs."""
-        before: Deque[Tuple[List[Piece], Optional[Future[List[Answer]]]]] = deque()
-        for pieces, error in batches:
-            if error is not None:
-                yield pieces, [_refused(error)]
-                continue
-            before.append((pieces, self.submit(pieces)))
-            if len(before) >= self.most:
-                yield from self.answered(before)
-        while before:
-            yield from self.answered(before)
-
-    def submit(self, pieces: List[Piece]) -> Optional[Future[List[Answer]]]:
-        """The batch before the executor, or None if that takes nothing any more."""
-        try:
-            return self.executor().submit(_answers, self.job, [(text, self.job.ticks_in(name)) for _, name, text in pieces])
-        except (BrokenExecutor, RuntimeError):
-            return None
-
-    def answered(self, before: Deque[Tuple[List[Piece], Optional[Future[List[Answer]]]]]) -> Iterator[Tuple[List[Piece], List[Answer]]]:
-        """The first batch with its answers. If a worker died, all that was before the executor is looked after."""
-        pieces, future = before.popleft()
-        found = _result(future)
-        if isinstance(found, list):
-            yield pieces, found
-            return
-        lost = [pieces]
-        if self.given is None:
-            # One dead process ends all work of its pool: of the other batches those that aren't answered are lost too.
-            others = list(before)
-            before.clear()
-            for pieces, future in others:
-                done = _result(future)
-                if isinstance(done, list):
-                    yield pieces, done
-                else:
-                    lost.append(pieces)
-            self.renew()
-        for pieces in lost:
-            yield pieces, [self.again(it) for it in pieces]
-
-    def again(self, piece: Piece) -> Answer:
-        """The answer for a trace that is tried once more, alone."""
-        found = _result(self.submit([piece]))
-        if isinstance(found, list):
-            return found[0]
-        if self.given is None:
-            self.renew()
-        return _refused(f"no answer: {found}")
-
-
-def _result(future: Optional[Future[List[Answer]]]) -> Union[List[Answer], str]:
-    """The answers of a batch, or why there are none."""
-    if future is None:
-        return "the executor takes no work any more"
-    try:
-        return future.result()
-    except ImportError:
-        # (no worker has the library, and none will)
-        raise
-    except Exception as why:
-        return f"{type(why).__name__}: {why}".partition("\n")[0] if not isinstance(why, BrokenExecutor) else "its worker died"
-
-
-def _start_method() -> str:
-    """How processes are started. The library may not be called in the forked child of a process with threads: so they are
-    forked, which is fastest, only if this process has no other thread. (Since Python 3.11 a pool forks all its processes
-    before it starts a thread of its own.)"""
-    try:
-        is_alone = len(os.listdir("/proc/self/task")) == 1 and sys.version_info >= (3, 11)
-    except OSError:
-        is_alone = False
-    return "fork" if is_alone else "forkserver" if "forkserver" in multiprocessing.get_all_start_methods() else "spawn"
-
-
-def _processors() -> int:
-    """How many processors there are for this process."""
-    return len(os.sched_getaffinity(0)) if hasattr(os, "sched_getaffinity") else os.cpu_count() or 1
 
 
 def _refused(error: str) -> Answer:
