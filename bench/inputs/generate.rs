@@ -8,6 +8,9 @@
 //! messages between the correct ones are lost and many are late, and processors fall silent for long; later nothing is
 //! lost, and delays and silences shrink, so that the front has many rows of both bounds.
 
+mod chance;
+
+use chance::Chance;
 use std::cmp::Reverse;
 use std::collections::BinaryHeap;
 use std::env;
@@ -15,29 +18,6 @@ use std::io::{self, BufWriter, Write};
 use std::process::ExitCode;
 
 const PROCESSORS: u64 = 16;
-
-/// SplitMix64.
-struct Chance(u64);
-
-impl Chance {
-    fn next(&mut self) -> u64 {
-        self.0 = self.0.wrapping_add(0x9e37_79b9_7f4a_7c15);
-        let mut mixed = self.0;
-        mixed = (mixed ^ (mixed >> 30)).wrapping_mul(0xbf58_476d_1ce4_e5b9);
-        mixed = (mixed ^ (mixed >> 27)).wrapping_mul(0x94d0_49bb_1331_11eb);
-        mixed ^ (mixed >> 31)
-    }
-
-    /// A number below `end`, which is above 0.
-    fn below(&mut self, end: u64) -> u64 {
-        self.next() % end
-    }
-
-    /// True once in about `turns`.
-    fn once_in(&mut self, turns: u64) -> bool {
-        self.below(turns) == 0
-    }
-}
 
 /// A processor, from 0 on, with the messages that it will be given: when, and which.
 #[derive(Default)]

@@ -9,6 +9,7 @@
 //! and a few never. One that is ahead of others ends its rounds seldom, so that most messages come in time, and processors
 //! decide.
 
+mod chance;
 #[allow(dead_code)]
 #[path = "../plain/rounds.rs"]
 mod rounds;
@@ -19,6 +20,7 @@ mod texts;
 #[path = "../plain/world.rs"]
 mod world;
 
+use chance::Chance;
 use std::env;
 use std::io::{self, BufWriter, Write};
 use std::process::ExitCode;
@@ -55,29 +57,6 @@ impl Words {
             processors: processors as u8,
             burst,
         })
-    }
-}
-
-/// SplitMix64.
-struct Chance(u64);
-
-impl Chance {
-    fn next(&mut self) -> u64 {
-        self.0 = self.0.wrapping_add(0x9e37_79b9_7f4a_7c15);
-        let mut mixed = self.0;
-        mixed = (mixed ^ (mixed >> 30)).wrapping_mul(0xbf58_476d_1ce4_e5b9);
-        mixed = (mixed ^ (mixed >> 27)).wrapping_mul(0x94d0_49bb_1331_11eb);
-        mixed ^ (mixed >> 31)
-    }
-
-    /// A number below `end`, which is above 0.
-    fn below(&mut self, end: u64) -> u64 {
-        self.next() % end
-    }
-
-    /// True once in about `turns`.
-    fn once_in(&mut self, turns: u64) -> bool {
-        self.below(turns) == 0
     }
 }
 
