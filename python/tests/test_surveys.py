@@ -32,12 +32,12 @@ class Recording(Executor):
     def __init__(self):
         self.before, self.most, self.traces = 0, 0, 0
 
-    def submit(self, function, job, texts):
+    def submit(self, function, texts):
         future = Future()
 
         def work(timeout=None):
             self.before -= 1
-            return function(job, texts)
+            return function(texts)
 
         future.result = work
         self.before, self.traces = self.before + 1, self.traces + len(texts)
