@@ -8,6 +8,7 @@ use Rattle.std.proofs.lemmas.Bool.{eqb-true}
 use Rattle.std.proofs.lemmas.Bool.Decides.{nat_tests}
 use Rattle.std.proofs.lemmas.List.{append-nil, length-append}
 use Rattle.std.proofs.lemmas.Option.{none-some}
+use Rattle.step_trace.proofs.ReportRows.{row_at_within}
 use Rattle.certificate_checker.proofs.Common.{Row, Recorded, Reason, FirstNotOne, NotRising, BeyondEnd, No, row_at}
 use Rattle.certificate_checker.proofs.Common.{IsFirst, IsFirstReason, HasRow, HasTwoRows, IsVerdict}
 use Rattle.certificate_checker.proofs.Common.{slice_get-push_cases, slice_get-push_old, slice_get-last}
@@ -15,7 +16,7 @@ use Rattle.certificate_checker.specs.declared.claims.ClaimedRows.{ClaimedRows}
 use Rattle.certificate_checker.specs.declared.claims.ClaimedRows.TheVariants.{InOrder, Beyond, Refuted}
 use Rattle.certificate_checker.specs.Claims.{claimed, count_of, last_gst, next_beyond, next_in_order, risen, with_row, with_rows}
 use Rattle.certificate_checker.proofs.ReasonOrder.{first_after, first_in, none_in, some_rows, verdict_some}
-use Rattle.certificate_checker.proofs.RowSearches.{no_row, row_at_next, row_at_within}
+use Rattle.certificate_checker.proofs.RowSearches.{no_row, row_at_next}
 
 -- row k doesn't begin after the row before it
 abbrev IsNotRising : List Row → ℕ → Type 0

@@ -19,7 +19,8 @@ pub use Rattle.step_trace.specs.declared.rows.Row.{Row}
 pub use Rattle.step_trace.specs.declared.steps.Act.{Act}
 pub use Rattle.step_trace.specs.declared.steps.Act.TheVariants.{Receive, Send}
 pub use Rattle.step_trace.specs.declared.steps.Step.{Step}
-pub use Rattle.certificate_checker.specs.Certificates.{Certifies, IsLongestGap, IsLongestMiss, NamesNothingBesideOne, Serves, ShowsDelta, ShowsPhi, after_stretch, row_at}
+pub use Rattle.step_trace.specs.ReportRows.{row_at}
+pub use Rattle.certificate_checker.specs.Certificates.{Certifies, IsLongestGap, IsLongestMiss, NamesNothingBesideOne, Serves, ShowsDelta, ShowsPhi, after_stretch}
 pub use Rattle.certificate_checker.specs.Closings.{AreClosings, HasSilent, IsCarried, IsRaised, IsReached, KnowsEnds, PutsEnds}
 pub use Rattle.certificate_checker.specs.LongestSilences.{IsLongestSilence, IsTooShort}
 pub use Rattle.certificate_checker.specs.LongestWitnesses.{AreBefore, AreFrom, HasNoGapAt, HasNoMiss, HasNoMissAfter}

@@ -1,11 +1,11 @@
 -- No reason holds against the report.
 use Rattle.std.proofs.Common.{ℕ, ◌≡◌, ◌+◌, ◌-◌, ◌<◌, ◌≤◌, inl, inr, List, Option, Some, None, arith}
 use Rattle.std.proofs.lemmas.Bool.{cases_lt}
+use Rattle.step_trace.proofs.ReportRows.{Contains-row_at}
 use Rattle.certificate_checker.proofs.Common.{Miss, Gap, Row, Recorded, tick_of, DeltaHolds, PhiHolds, IsDelta, IsPhi}
 use Rattle.certificate_checker.proofs.Common.{NamesMiss, NamesGap, IsReport, MissRefutes-sound, GapRefutes-sound}
 use Rattle.certificate_checker.proofs.Common.{DeltaHolds-unrefuted, PhiHolds-unrefuted, Reason, row_at, after_stretch}
 use Rattle.certificate_checker.proofs.Common.{ShowsDelta, ShowsPhi, Stands}
-use Rattle.certificate_checker.proofs.RowPlaces.{Contains-row_at}
 use Rattle.certificate_checker.proofs.FrontRows.{AreTheFront, last_served, least_served, IsUnopposed-front}
 
 AreTheFront-report : (set : ℕ) (trace : Recorded) (rows : List Row) → IsReport set trace rows → AreTheFront set trace rows

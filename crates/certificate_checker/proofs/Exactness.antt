@@ -1,11 +1,12 @@
 -- Rows that no reason refutes are the certificates that name nothing beside the bound 1.
 use Rattle.std.proofs.Common.{ℕ, ◌≡◌, ◌+◌, ◌-◌, ◌<◌, inl, inr, List, Option, Some, None, refl, arith}
 use Rattle.std.proofs.lemmas.Bool.{cases_lt, cases_eq}
+use Rattle.step_trace.proofs.ReportRows.{Contains-row_at}
 use Rattle.certificate_checker.proofs.Common.{Miss, Gap, Row, Recorded, tick_of, IsDelta, IsPhi, MissRefutes}
 use Rattle.certificate_checker.proofs.Common.{GapRefutes, MissRefutes-sound, GapRefutes-sound, Reason, row_at}
 use Rattle.certificate_checker.proofs.Common.{after_stretch, ShowsDelta, ShowsPhi, Certifies, NamesNothingBesideOne}
 use Rattle.certificate_checker.proofs.Common.{Stands}
-use Rattle.certificate_checker.proofs.RowPlaces.{Contains-row_at, row_at-from_Contains}
+use Rattle.certificate_checker.proofs.RowPlaces.{row_at-from_Contains}
 use Rattle.certificate_checker.proofs.FrontRows.{AreTheFront, last_served, least_served, IsUnopposed-front}
 use Rattle.certificate_checker.proofs.Soundness.{IsSupported-unopposed}
 

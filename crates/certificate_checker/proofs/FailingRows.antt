@@ -1,10 +1,11 @@
 -- Rows of which a bound doesn't hold, scanned from the last one back.
 use Rattle.std.proofs.Common.{ℕ, ◌≡◌, ◌+◌, ◌<◌, ◌≤◌, inl, inr, List, length, get_or, Option, Some, None, ap, subst, arith}
 use Rattle.std.proofs.lemmas.Bool.{cases_eq, cases_lt}
+use Rattle.step_trace.proofs.ReportRows.{row_at_within}
 use Rattle.certificate_checker.proofs.Common.{Miss, Row, IsMiss, Recorded, tick_of, DeltaHolds, MissRefutes-sound}
 use Rattle.certificate_checker.proofs.Common.{DeltaHolds-unrefuted, DeltaFails, row_at, Stands, IsFirstWith, AreInOrder}
 use Rattle.certificate_checker.proofs.Common.{HasNoMissAfter, IsLongestMissAfter, span_of, AreFrom, AreBefore}
-use Rattle.certificate_checker.proofs.RowSearches.{no_row, row_at_within, row_at_next, row_at_same}
+use Rattle.certificate_checker.proofs.RowSearches.{no_row, row_at_next, row_at_same}
 
 -- the first number after k of which this is so, with what it is so of
 abbrev pub FoundAfter : {X : Type 0} → (ℕ → X → Type 0) → ℕ → Option (ℕ × X) → Type 0

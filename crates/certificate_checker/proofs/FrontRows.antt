@@ -4,6 +4,7 @@ use Rattle.std.proofs.Common.{ℕ, ◌≡◌, ◌+◌, ◌-◌, ◌<◌, ◌≤�
 use Rattle.std.specs.List.Sorted.{IsStrictlyIncreasing}
 use Rattle.std.proofs.lemmas.Bool.{cases_eq, cases_lt}
 use Rattle.std.proofs.lemmas.Option.{none-some, same_Some}
+use Rattle.step_trace.proofs.ReportRows.{Contains-row_at}
 use Rattle.certificate_checker.proofs.Common.{Row, Recorded, DeltaHolds, PhiHolds, IsDelta, IsPhi, Triple, IsOnFront}
 use Rattle.certificate_checker.proofs.Common.{triple_of, Contains-nil, Contains-from_map, DeltaHolds-later}
 use Rattle.certificate_checker.proofs.Common.{PhiHolds-later, IsLeastBound-unique, IsDelta-on_front, IsPhi-on_front}
@@ -12,7 +13,7 @@ use Rattle.certificate_checker.proofs.Common.{NotRising, BeyondEnd, NotNonIncrea
 use Rattle.certificate_checker.proofs.Common.{DeltaFails, PhiFails, row_at, after_stretch, Serves, ShowsDelta, ShowsPhi}
 use Rattle.certificate_checker.proofs.Common.{HasTwoRows, Stands}
 use Rattle.certificate_checker.proofs.LeastBounds.{least_bounds}
-use Rattle.certificate_checker.proofs.RowPlaces.{Contains-row_at, row_at-from_Contains, later_above}
+use Rattle.certificate_checker.proofs.RowPlaces.{row_at-from_Contains, later_above}
 use Rattle.certificate_checker.proofs.Stretches.{AreInOrder, begins_within, served_within, begins_outside}
 
 -- the rows rise, and their triples are the front

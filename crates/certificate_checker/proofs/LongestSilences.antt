@@ -2,11 +2,12 @@
 use Rattle.std.proofs.Common.{ℕ, ◌≡◌, ◌+◌, ◌-◌, ◌<◌, ◌≤◌, inl, inr, List, length, get_or, refl, ap, subst, arith}
 use Rattle.std.specs.Prelude.{slice_index}
 use Rattle.std.proofs.lemmas.Bool.{cases_lt}
+use Rattle.step_trace.proofs.ReportRows.{row_at_within}
 use Rattle.certificate_checker.proofs.Common.{Gap, Row, Recorded, IsGap, GapRefutes-sound, PhiHolds-unrefuted, PhiFails}
 use Rattle.certificate_checker.proofs.Common.{IsLongestGap, Stands, AreInOrder, AreClosings, HasNoGapAt, IsLongestGapAt}
 use Rattle.certificate_checker.proofs.Common.{IsLongestSilence, IsTooShort}
 use Rattle.certificate_checker.specs.declared.bounds.LongestSilence.{LongestSilence}
-use Rattle.certificate_checker.proofs.RowSearches.{no_row, row_at_within, row_at_next, row_at_same}
+use Rattle.certificate_checker.proofs.RowSearches.{no_row, row_at_next, row_at_same}
 
 -- a row that is too short has a number from 1 on
 pub too_short_low : (closings : List ℕ) (rows : List Row) (k : ℕ) (s : LongestSilence) → IsTooShort closings rows k s → 0 < k

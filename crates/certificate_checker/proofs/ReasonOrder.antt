@@ -1,12 +1,13 @@
 -- The first reason that holds, put together from the searches for each kind of reason.
 use Rattle.std.proofs.Common.{ℕ, Bool, true, false, ◌==◌, ◌≡◌, ◌+◌, ◌<◌, ◌≤◌, inl, inr, List, length, get_or, Option, Some, None, refl, ap, subst, ◌∙◌, suc, arith}
 use Rattle.std.proofs.lemmas.Bool.{cases_lt, cases_eq}
+use Rattle.step_trace.proofs.ReportRows.{row_at_within}
 use Rattle.certificate_checker.proofs.Common.{Miss, Gap, Row, Recorded, Reason, NoRows, FirstNotOne, NotRising}
 use Rattle.certificate_checker.proofs.Common.{BeyondEnd, NotNonIncreasing, SameAsBefore, BadMiss, BadGap, DeltaFails}
 use Rattle.certificate_checker.proofs.Common.{PhiFails, No, row_at, Stands, place_of, row_of, IsVerdict, IsFirstReason}
 use Rattle.certificate_checker.proofs.Common.{AreInOrder}
 use Rattle.certificate_checker.proofs.RowPlaces.{two_rows, later_above, rising-from_next}
-use Rattle.certificate_checker.proofs.RowSearches.{no_row, row_at_within, row_at_next, row_at_same}
+use Rattle.certificate_checker.proofs.RowSearches.{no_row, row_at_next, row_at_same}
 
 -- if none of the first kinds holds, the first of the next kinds is the first of all
 pub first_after : (set : ℕ) (t : Recorded) (rows : List Row) (low middle next high : ℕ) (o : Option Reason)

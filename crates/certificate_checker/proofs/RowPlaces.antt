@@ -5,12 +5,7 @@ use Rattle.std.specs.List.Sorted.{IsStrictlyIncreasing}
 use Rattle.std.proofs.lemmas.Bool.{cases_eq}
 use Rattle.std.proofs.lemmas.Option.{none-some, same_Some, slice_get-map, slice_get_within, slice_get-get_or, get_or_from_slice_get}
 use Rattle.std.proofs.lemmas.List.{length-map}
-use Rattle.certificate_checker.proofs.Common.{Row, Contains-slice_get, row_at, HasTwoRows}
-
--- a row with a number is one of the rows
-pub Contains-row_at : (rows : List Row) (k : ℕ) (r : Row) → row_at rows k ≡ Some r → Contains rows r
-Contains-row_at rows zero r e = absurd (none-some r e)
-Contains-row_at rows (suc k) r e = Contains-slice_get rows k r e
+use Rattle.certificate_checker.proofs.Common.{Row, row_at, HasTwoRows}
 
 -- and each of the rows has a number
 pub row_at-from_Contains : (rows : List Row) (r : Row) → Contains rows r → (k : ℕ) × (row_at rows k ≡ Some r)

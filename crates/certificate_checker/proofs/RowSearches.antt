@@ -1,21 +1,13 @@
 -- Searches for the first row, or the first row with the row before it, of which something is so.
-use Rattle.std.proofs.Common.{ℕ, ◌≡◌, ◌+◌, ◌-◌, ◌<◌, ◌≤◌, inl, inr, List, length, get_or, Some, None, ap, sym, subst, ◌∙◌, suc, zero, arith}
+use Rattle.std.proofs.Common.{ℕ, ◌≡◌, ◌+◌, ◌-◌, ◌<◌, ◌≤◌, inl, inr, List, length, get_or, Some, None, ap, sym, subst, ◌∙◌, suc, arith}
 use Rattle.std.proofs.lemmas.Bool.{cases_eq}
-use Rattle.std.proofs.lemmas.Option.{none-some, same_Some, slice_get-get_or, slice_get_past}
-use Rattle.std.proofs.lemmas.Bool.{cases_lt}
+use Rattle.std.proofs.lemmas.Option.{same_Some, slice_get-get_or}
+use Rattle.step_trace.proofs.ReportRows.{row_at_within}
 use Rattle.certificate_checker.proofs.Common.{Row, row_at, HasRow, HasTwoRows, IsFirst}
 
 -- what is read if there is no row
 abbrev pub no_row : Row
 no_row = record { gst = 0; delta = 0; phi = 0; miss = None; gap = None }
-
--- a row has a number from 1 to how many there are
-pub row_at_within : (rows : List Row) (k : ℕ) (r : Row) → row_at rows k ≡ Some r → (1 ≤ k) × (k ≤ length rows)
-row_at_within rows zero r e = absurd (none-some r e)
-row_at_within rows (suc k) r e = elim (cases_lt k (length rows)) [
-  | inl l ↦ (omega arith, omega arith)
-  | inr l ↦ absurd (none-some r (sym (slice_get_past rows k l) ∙ e))
-]
 
 -- the row after k rows
 pub row_at_next : (rows : List Row) (k : ℕ) (d : Row) → k < length rows → row_at rows (k + 1) ≡ Some (get_or rows k d)

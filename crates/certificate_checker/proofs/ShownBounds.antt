@@ -1,19 +1,20 @@
 -- Whether the witness beside a bound shows that no smaller positive bound holds: this is decided, and it does.
 use Rattle.std.proofs.Common.{ℕ, ◌≡◌, ◌+◌, ◌<◌, ◌≤◌, ◌⊎◌, inl, inr, Option, Some, None, refl, arith}
 use Rattle.std.proofs.lemmas.Bool.{cases_lt, cases_eq}
+use Rattle.step_trace.proofs.BoundDecisions.{below}
 use Rattle.certificate_checker.proofs.Common.{Miss, Gap, Recorded, tick_of, DeltaHolds, PhiHolds, IsDelta, IsPhi, MissRefutes, GapRefutes, MissRefutes-sound, GapRefutes-sound, ShowsDelta, ShowsPhi}
-use Rattle.certificate_checker.proofs.WitnessDecisions.{all_or_not, below_or_not, at_most_or_not, miss_or_not, gap_or_not}
+use Rattle.certificate_checker.proofs.WitnessDecisions.{all_or_not, at_most_or_not, miss_or_not, gap_or_not}
 
 pub ShowsDelta-or_not : (set : ℕ) (trace : Recorded) (after d : ℕ) (o : Option Miss) → ShowsDelta set trace after d o ⊎ (¬ ShowsDelta set trace after d o)
 ShowsDelta-or_not set trace after d None = cases_eq d 1
 ShowsDelta-or_not set trace after d (Some m) =
-    all_or_not (below_or_not 1 d) (miss_or_not set trace m)
+    all_or_not (below 1 d) (miss_or_not set trace m)
     (cases_eq (tick_of trace m.sent + d) (tick_of trace m.missed + 1)) (at_most_or_not after (tick_of trace m.sent + 1))
 
 pub ShowsPhi-or_not : (set : ℕ) (trace : Recorded) (after f : ℕ) (o : Option Gap) → ShowsPhi set trace after f o ⊎ (¬ ShowsPhi set trace after f o)
 ShowsPhi-or_not set trace after f None = cases_eq f 1
 ShowsPhi-or_not set trace after f (Some w) =
-    all_or_not (below_or_not 1 f) (gap_or_not set trace w) (cases_eq (w.from + f) (w.to + 2)) (at_most_or_not after (w.from + 1))
+    all_or_not (below 1 f) (gap_or_not set trace w) (cases_eq (w.from + f) (w.to + 2)) (at_most_or_not after (w.from + 1))
 
 -- a bound for which something shows so is positive
 pub ShowsDelta-positive : (set : ℕ) (trace : Recorded) (after d : ℕ) (o : Option Miss) → ShowsDelta set trace after d o → 1 ≤ d

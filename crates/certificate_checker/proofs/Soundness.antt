@@ -2,6 +2,7 @@
 use Rattle.std.proofs.Common.{ℕ, ◌≡◌, ◌-◌, ◌<◌, ◌≤◌, inl, inr, List, [], ◌∷◌, map, Contains, Some, refl, subst, suc, zero, arith}
 use Rattle.std.proofs.lemmas.Bool.{cases_lt, cases_eq}
 use Rattle.std.proofs.lemmas.Option.{none-some}
+use Rattle.step_trace.proofs.ReportRows.{Contains-row_at}
 use Rattle.certificate_checker.proofs.Common.{Row, Recorded, DeltaHolds, PhiHolds, IsDelta, IsPhi, Triple, IsOnFront}
 use Rattle.certificate_checker.proofs.Common.{triple_of, Contains-map, DeltaHolds-unrefuted, PhiHolds-unrefuted}
 use Rattle.certificate_checker.proofs.Common.{DeltaHolds-later, PhiHolds-later, MissRefutes-sound, GapRefutes-sound}
@@ -10,7 +11,7 @@ use Rattle.certificate_checker.proofs.Common.{IsOnFront-from_change, Reason, NoR
 use Rattle.certificate_checker.proofs.Common.{SameAsBefore, BadMiss, BadGap, DeltaFails, PhiFails, row_at}
 use Rattle.certificate_checker.proofs.Common.{after_stretch, Serves, ShowsDelta, ShowsPhi, Certifies, HasRow, Stands}
 use Rattle.certificate_checker.proofs.LongestOrNone.{no_miss, no_gap}
-use Rattle.certificate_checker.proofs.RowPlaces.{Contains-row_at, row_at-from_Contains, row_before, two_rows, later_above, rising-from_next}
+use Rattle.certificate_checker.proofs.RowPlaces.{row_at-from_Contains, row_before, two_rows, later_above, rising-from_next}
 use Rattle.certificate_checker.proofs.Stretches.{AreInOrder, begins_within, serving_row, serves_before}
 use Rattle.certificate_checker.proofs.ShownBounds.{ShowsDelta-or_not, ShowsPhi-or_not, ShowsDelta-positive, ShowsPhi-positive, ShowsDelta-refutes, ShowsPhi-refutes, IsDelta-shown, IsPhi-shown}
 

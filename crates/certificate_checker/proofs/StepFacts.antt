@@ -1,9 +1,8 @@
 -- Facts of single steps.
-use Rattle.std.proofs.Common.{ℕ, ◌≡◌, ◌≤◌, List, length, Some, suc, zero, refl, ap, ◌∙◌, arith}
+use Rattle.std.proofs.Common.{ℕ, ◌≡◌, List, Some, refl, ap, ◌∙◌, arith}
 use Rattle.std.specs.Prelude.{Contains}
 use Rattle.step_trace.proofs.StepPositions.{same_step}
 use Rattle.certificate_checker.proofs.Common.{Act, Send, Receive, Step, Setup, act_ids, step_at, TakesAt, IsReceiveOf, IsWellFormed}
-use Rattle.step_trace.proofs.TickPositions.{step_exists}
 
 -- who takes a message is its receiver
 pub taker_receives : (c : Setup) (steps : List Step) (s a b place : ℕ) → IsWellFormed c steps
@@ -21,8 +20,3 @@ taker_receives c steps s a b place w h t = go t.0.act refl t.2 where
     ends = ends;
     step = t.1 ∙ ap (λ (v : Act). let z : Step = record { proc = t.0.proc; act = v } in Some z) e ∙ ap (λ (q : ℕ). let z : Step = record { proc = q; act = Receive ends ids } in Some z) proc;
   }
-
--- there is a step of each number from 1 on
-pub step_there : (steps : List Step) (k : ℕ) → 1 ≤ k → k ≤ length steps → (z : Step) × (step_at steps k ≡ Some z)
-step_there steps zero low high = absurd (omega (arith, low))
-step_there steps (suc k) low high = step_exists steps k (omega (arith, high))

@@ -1,8 +1,9 @@
 -- Whether something is a miss, or a gap, can be decided.
-use Rattle.std.proofs.Common.{ℕ, ◌≡◌, ◌+◌, ◌-◌, ◌<◌, ◌≤◌, ◌⊎◌, inl, inr, List, Option, Some, None, refl, ap, sym, ◌∙◌, subst, arith}
+use Rattle.std.proofs.Common.{ℕ, ◌≡◌, ◌+◌, ◌-◌, ◌≤◌, ◌⊎◌, inl, inr, List, Option, Some, None, refl, ap, sym, ◌∙◌, subst, arith}
 use Rattle.std.specs.Prelude.{IsTrue}
 use Rattle.std.proofs.lemmas.Bool.{cases_lt, cases_Bool, both_ways}
 use Rattle.std.proofs.lemmas.Option.{none-some, same_Some}
+use Rattle.step_trace.proofs.BoundDecisions.{below}
 use Rattle.certificate_checker.proofs.Common.{Act, Send, Receive, Step, Miss, Gap, has_proc, Recorded, step_at}
 use Rattle.certificate_checker.proofs.Common.{IsReceiveOf, tick_of, IsMessage, IsMiss, IsGap, IsMessage-receiver}
 use Rattle.certificate_checker.proofs.Common.{delivered_or_not, step_or_not, steps_within_or_not}
@@ -14,10 +15,6 @@ all_or_not (inl p) (inl q) (inl r) (inr n) = inr (λ all. n all.3)
 all_or_not (inl p) (inl q) (inr n) s = inr (λ all. n all.2)
 all_or_not (inl p) (inr n) r s = inr (λ all. n all.1)
 all_or_not (inr n) q r s = inr (λ all. n all.0)
-
--- as may the order of two numbers
-pub below_or_not : (a b : ℕ) → (a < b) ⊎ (¬ (a < b))
-below_or_not a b = elim (cases_lt a b) [ inl l ↦ inl l | inr m ↦ inr (λ l. omega (arith, l, m)) ]
 
 pub at_most_or_not : (a b : ℕ) → (a ≤ b) ⊎ (¬ (a ≤ b))
 at_most_or_not a b = elim (cases_lt b a) [ inl l ↦ inr (λ m. omega (arith, l, m)) | inr m ↦ inl m ]
@@ -74,7 +71,7 @@ miss_or_not set trace m = elim (message_or_not set trace.steps m.sent) [
 -- this is a gap, or it isn't
 pub gap_or_not : (set : ℕ) (trace : Recorded) (w : Gap) → IsGap set trace w ⊎ (¬ IsGap set trace w)
 gap_or_not set trace w =
-    elim (all_or_not (member_or_not set w.proc) (below_or_not 0 w.from) (at_most_or_not w.from w.to) (at_most_or_not w.to trace.last)) [
+    elim (all_or_not (member_or_not set w.proc) (below 0 w.from) (at_most_or_not w.from w.to) (at_most_or_not w.to trace.last)) [
       | inr n ↦ inr (λ i. n (i.member, i.start, i.order, i.inside))
       | inl k ↦ elim (steps_within_or_not trace w.proc w.from (w.to + 1 - w.from)) [
         | inl s ↦ inr (λ i. let u = s.until in let order = k.2 in i.silent s.tick s.from (omega (arith, u, order)) s.step)

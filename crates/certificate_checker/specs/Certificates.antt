@@ -1,5 +1,5 @@
 -- What rows show by themselves, and which rows are a certificate (own).
-use Rattle.std.specs.Prelude.{ℕ, ◌≡◌, ◌+◌, ◌<◌, ◌≤◌, List, Option, Some, None, slice_get, map, Contains, suc, zero}
+use Rattle.std.specs.Prelude.{ℕ, ◌≡◌, ◌+◌, ◌<◌, ◌≤◌, List, Option, Some, None, map, Contains, suc}
 use Rattle.std.specs.List.Sorted.{IsStrictlyIncreasing}
 use Rattle.std.specs.Option.{option_map_or}
 use Rattle.step_trace.specs.declared.rows.Miss.{Miss}
@@ -9,11 +9,7 @@ use Rattle.step_trace.specs.Traces.{Recorded}
 use Rattle.step_trace.specs.Ticks.{tick_of}
 use Rattle.step_trace.specs.Witnesses.{IsMiss, MissRefutes, IsGap, GapRefutes}
 use Rattle.step_trace.specs.Fronts.{triple_of, Triple, IsOnFront}
-
--- the row of this number, which counts from 1
-abbrev pub row_at : List Row → ℕ → Option Row
-row_at rows zero = None
-row_at rows (suc k) = slice_get rows k
+use Rattle.step_trace.specs.ReportRows.{row_at}
 
 -- the tick after the stretch of row k: the stabilization time of the next row, or the tick after the last
 abbrev pub after_stretch : List Row → ℕ → ℕ → ℕ

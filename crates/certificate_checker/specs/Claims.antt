@@ -6,7 +6,7 @@ use Rattle.step_trace.specs.declared.rows.Row.{Row}
 use Rattle.certificate_checker.specs.declared.claims.ClaimedRows.{ClaimedRows}
 use Rattle.certificate_checker.specs.declared.claims.ClaimedRows.TheVariants.{InOrder, Beyond, Refuted}
 use Rattle.certificate_checker.specs.declared.verdicts.Reason.TheVariants.{FirstNotOne, NotRising}
-use Rattle.certificate_checker.specs.Certificates.{row_at}
+use Rattle.step_trace.specs.ReportRows.{row_at}
 
 -- how many rows were claimed
 abbrev pub count_of : ClaimedRows → ℕ

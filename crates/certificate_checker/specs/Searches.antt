@@ -3,7 +3,7 @@ use Rattle.std.specs.Prelude.{ℕ, ◌≡◌, ◌<◌, ◌≤◌, List, Option, 
 use Rattle.step_trace.specs.declared.rows.Row.{Row}
 use Rattle.step_trace.specs.Traces.{Recorded}
 use Rattle.certificate_checker.specs.declared.verdicts.Reason.{Reason}
-use Rattle.certificate_checker.specs.Certificates.{row_at}
+use Rattle.step_trace.specs.ReportRows.{row_at}
 use Rattle.certificate_checker.specs.Verdicts.{Stands, place_of, IsNotAfter}
 
 -- the first number of which this is so; None if there is none

@@ -9,7 +9,8 @@ use Rattle.certificate_checker.specs.declared.verdicts.Reason.TheVariants.{NotNo
 use Rattle.certificate_checker.specs.declared.verdicts.Reason.TheVariants.{BadGap, DeltaFails, PhiFails}
 use Rattle.certificate_checker.specs.declared.verdicts.Verdict.{Verdict}
 use Rattle.certificate_checker.specs.declared.verdicts.Verdict.TheVariants.{Yes, No}
-use Rattle.certificate_checker.specs.Certificates.{row_at, after_stretch, ShowsDelta, ShowsPhi}
+use Rattle.step_trace.specs.ReportRows.{row_at}
+use Rattle.certificate_checker.specs.Certificates.{after_stretch, ShowsDelta, ShowsPhi}
 use Rattle.certificate_checker.specs.Certificates.{IsLongestMiss, IsLongestGap}
 
 -- row k is `row`

@@ -20,6 +20,7 @@ use Rattle.timed_events.proofs.SortedEvents.{place-found}
 use Rattle.merged_receives.specs.Merges.{AreMerged, is_joined, is_merged, is_part, parts_of, staying_before}
 use Rattle.merged_receives.specs.MergeWalks.{AreParts}
 use Rattle.merged_receives.proofs.JoinedReceives.{joined-is as joined-parts, part-is, part-self}
+use Rattle.merged_receives.proofs.OwnParts.{below-cond}
 use Rattle.event_log.specs.declared.joined_receives.JoinedReceive.{JoinedReceive}
 use Rattle.event_log.specs.Events.{Seen, SeenAct, Receives, seen, seen_act}
 use Rattle.event_log.specs.LostSends.{left_act, left_event, left_message}
@@ -181,16 +182,10 @@ first-passing p (x ∷ xs) (suc k) l h none =
     ap (λ (t : Bool). slice_index (cond t (x ∷ filter p xs) (filter p xs)) 0) (none zero (omega arith))
     ∙ first-passing p xs k (omega (arith, l)) h (λ j b. none (suc j) (omega (arith, b)))
 
-passing-cond : (n : ℕ) (t : Bool) (x : ℕ) (ys : List ℕ) → x < n
-    → ((k : ℕ) → k < length ys → slice_index ys k < n) → (k : ℕ) → k < length (cond t (x ∷ ys) ys) → slice_index (cond t (x ∷ ys) ys) k < n
-passing-cond n false x ys b h k l = h k l
-passing-cond n true x ys b h zero l = b
-passing-cond n true x ys b h (suc k) l = h k (omega (arith, l))
-
 passing-below : (p : ℕ → Bool) (n : ℕ) (xs : List ℕ)
     → ((k : ℕ) → k < length xs → slice_index xs k < n) → (k : ℕ) → k < length (filter p xs) → slice_index (filter p xs) k < n
 passing-below p n [] h k l = absurd (omega (arith, l))
-passing-below p n (x ∷ xs) h k l = passing-cond n (p x) x (filter p xs) (h zero (omega arith)) (passing-below p n xs (λ j b. h (suc j) (omega (arith, b)))) k l
+passing-below p n (x ∷ xs) h k l = below-cond n (p x) x (filter p xs) (h zero (omega arith)) (passing-below p n xs (λ j b. h (suc j) (omega (arith, b)))) k l
 
 staying-inside : (events : List Event) (ticks : List ℕ) (s k : ℕ) → k < length (staying_before events ticks s) → slice_index (staying_before events ticks s) k < s
 unfolding staying_before

@@ -1,12 +1,13 @@
 -- The nodes that a text lists, one after the other.
 use Rattle.std.proofs.Common.{◌≡◌, ◌∙◌, ℕ, zero, suc, ◌<◌, ◌≤◌, arith, List, [], ◌∷◌, ◌++◌, length, take, get_or, Bool, true, false, not, ap, sym, refl}
-use Rattle.std.specs.Prelude.{◌&&◌, ◌||◌, nat_lt, All}
+use Rattle.std.specs.Prelude.{◌&&◌, nat_lt, All}
 use Rattle.std.specs.List.{AllByRecursion, IsDistinct}
 use Rattle.std.specs.Str.{bytes_eq}
 use Rattle.std.proofs.lemmas.Cmp.{nat_list_eq_equiv}
 use Rattle.std.proofs.lemmas.List.{length-append}
 use Rattle.std.proofs.lemmas.List.Elements.{All-nil, All-push, All-tail, All-head}
 use Rattle.std.proofs.lemmas.Map.Keys.{IsDistinct-push}
+use Rattle.std.proofs.lemmas.Bool.{and_parts, not-true, or_from}
 use borrow.Author.Tests.{ltb-true, lt-ltb}
 use Rattle.event_log.specs.Names.{has_name, is_node_name, with_name}
 use Rattle.event_log.specs.Options.{AreNodes, IsNodeFault, is_next_node}
@@ -28,18 +29,10 @@ pub listed-none : AreListed []
 unfolding IsDistinct
 listed-none = record { few = omega arith; each = All-nil (λ name. is_node_name name ≡ true); different = tt }
 
-both : (a b : Bool) → (a && b) ≡ true → (a ≡ true) × (b ≡ true)
-both true b e = (refl, e)
-both false b e = cc e
-
-pub not-true : (a : Bool) → not a ≡ true → a ≡ false
-not-true true e = cc e
-not-true false e = refl
-
 pub listed-next : (names : List (List ℕ)) (name : List ℕ) → AreListed names → is_next_node names name ≡ true → AreListed (names ++ name ∷ [])
 listed-next names name h e =
-    let a = both (is_node_name name && nat_lt (length names) 64) (not (has_name names name)) e in
-    let b = both (is_node_name name) (nat_lt (length names) 64) a.0 in
+    let a = and_parts (is_node_name name && nat_lt (length names) 64) (not (has_name names name)) e in
+    let b = and_parts (is_node_name name) (nat_lt (length names) 64) a.0 in
     let few = ltb-true (length names) 64 b.1 in
     record {
       few = omega (arith, few, length-append names (name ∷ []));
@@ -52,15 +45,12 @@ apart-from : (x : List ℕ) (done rest : List (List ℕ)) (P : List ℕ → Type
 apart-from x [] rest P h = h.0
 apart-from x (y ∷ done) rest P h = apart-from x done rest P h.1
 
-either-false : (a b : Bool) → a ≡ false → b ≡ false → (a || b) ≡ false
-either-false a b e f = rw (e, f) refl
-
 different-front : (x : List ℕ) (done rest : List (List ℕ)) → IsDistinct bytes_eq (done ++ x ∷ rest) → has_name done x ≡ false
 unfolding IsDistinct
 different-front x [] rest h = refl
 different-front x (y ∷ done) rest h =
     let apart = apart-from x done rest (λ z. bytes_eq y z ≡ false) h.0 in
-    either-false (bytes_eq x y) (has_name done x) (nat_list_eq_equiv.symm x y ∙ apart) (different-front x done rest h.1)
+    or_from (bytes_eq x y) (has_name done x) (nat_list_eq_equiv.symm x y ∙ apart) (different-front x done rest h.1)
 
 name-at : (x : List ℕ) (done rest : List (List ℕ)) → All (λ name. is_node_name name ≡ true) (done ++ x ∷ rest) → is_node_name x ≡ true
 name-at x [] rest h = All-head (λ name. is_node_name name ≡ true) x rest h

@@ -1,11 +1,6 @@
 -- What follows of answers and of refusals.
-use Rattle.std.proofs.Common.{Bool, true, false, Result, Ok, Err, IfOk}
-use Rattle.std.specs.Prelude.{IfErr, MatchBool, ⊤}
-
--- what follows of a reason follows of it, or else out of memory
-pub weaker : (t : Bool) (P Q : Type 0) → (P → Q) → MatchBool t ⊤ P → MatchBool t ⊤ Q
-weaker true P Q f h = h
-weaker false P Q f h = f h
+use Rattle.std.proofs.Common.{Result, Ok, Err, IfOk}
+use Rattle.std.specs.Prelude.{IfErr}
 
 -- what follows of two facts about a result, or about why there is none
 pub ok-both : {T E : Type 0} (r : Result T E) (P Q R : T → Type 0) → ((x : T) → P x → Q x → R x) → IfOk r P → IfOk r Q → IfOk r R

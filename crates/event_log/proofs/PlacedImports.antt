@@ -1,6 +1,7 @@
 -- The import of a text from that of its events, and why there is none.
 use Rattle.std.proofs.Common.{ℕ, ◌≡◌, ◌∙◌, ℤ, Bool, false, List, length, Option, Some, None, Ok, ◌⊎◌, inl, inr, refl, sym, subst}
 use Rattle.std.specs.Prelude.{MatchBool, ⊤}
+use Rattle.trace_text.proofs.TakenRecords.{unless}
 use Rattle.timed_events.specs.declared.events.Event.{Event}
 use Rattle.timed_events.specs.declared.events.Clock.{Clock}
 use Rattle.timed_events.specs.declared.idle_traces.IdleError.{IdleError}
@@ -20,7 +21,6 @@ use Rattle.event_log.specs.TakenEvents.{AreTaken, IsEmptied, IsUnmergedOf}
 use Rattle.event_log.specs.Logs.{SeenLog}
 use Rattle.event_log.specs.Naming.{is_memory}
 use Rattle.event_log.proofs.LogRefusals.{untimed-refusal}
-use Rattle.event_log.proofs.Outcomes.{weaker}
 use Rattle.event_log.proofs.TakenEvents.{whole-taken}
 
 -- a reason against all events of a log
@@ -29,7 +29,7 @@ pub whole-unmade : (limit : Option ℕ) (spread : Bool) (text : List ℕ) (nodes
     → IsIdleErrorUnlessMemory text nodes events reason why
     → IsUnmadeUnlessMemory false false limit spread text nodes events clock why
 whole-unmade limit spread text nodes events clock reason why untimed =
-    weaker (is_memory why) _ (IsUnmadeOfLog false false limit spread text nodes events clock why) (λ is. inr (inr (record {
+    unless (is_memory why) _ (IsUnmadeOfLog false false limit spread text nodes events clock why) (λ is. inr (inr (record {
       left = events;
       left_at = None;
       parts = None;
@@ -47,7 +47,7 @@ pub left-unmade : (drop merge : Bool) (limit : Option ℕ) (spread : Bool) (text
     → IsPlacedErrorUnlessMemory text nodes events left places parts reason why
     → IsUnmadeUnlessMemory drop merge limit spread text nodes events clock why
 left-unmade drop merge limit spread text nodes events left places parts clock reason why are untimed =
-    weaker (is_memory why) _ (IsUnmadeOfLog drop merge limit spread text nodes events clock why) (λ is. inr (inr (record {
+    unless (is_memory why) _ (IsUnmadeOfLog drop merge limit spread text nodes events clock why) (λ is. inr (inr (record {
       left = left;
       left_at = Some places;
       parts = parts;
@@ -62,7 +62,7 @@ pub untaken-unmade : (drop merge : Bool) (limit : Option ℕ) (spread : Bool) (t
     (events : List Event) (clock : Clock) (why : LogError)
     → MatchBool (is_memory why) ⊤ (IsEmptied drop events why ⊎ IsUnmergedOf drop merge events clock why)
     → IsUnmadeUnlessMemory drop merge limit spread text nodes events clock why
-untaken-unmade drop merge limit spread text nodes events clock why = weaker (is_memory why) _ (IsUnmadeOfLog drop merge limit spread text nodes events clock why) go where
+untaken-unmade drop merge limit spread text nodes events clock why = unless (is_memory why) _ (IsUnmadeOfLog drop merge limit spread text nodes events clock why) go where
   go : IsEmptied drop events why ⊎ IsUnmergedOf drop merge events clock why → IsUnmadeOfLog drop merge limit spread text nodes events clock why
   go (inl none) = inl none
   go (inr refused) = inr (inl refused)

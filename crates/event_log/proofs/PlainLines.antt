@@ -10,6 +10,7 @@ use Rattle.csv.specs.Records.{field_at}
 use Rattle.csv.specs.Writing.{needs_byte}
 use Rattle.trace_text.specs.Records.{field_of}
 use Rattle.trace_text.specs.RecordWriting.{ArePlain, IsPlain, our_writer}
+use Rattle.trace_text.proofs.PlainFields.{push_plain}
 use Rattle.shared_reading.proofs.PlainLines.{records-line}
 use Rattle.event_log.specs.declared.plain_lines.PlainField.{PlainField}
 use Rattle.event_log.specs.PlainLines.{EndsLine, IsPlainField, IsPlainLine}
@@ -36,11 +37,6 @@ line-ended (f ∷ []) field = sym (ap (λ (t : List ℕ). t ++ field) (append-ni
 line-ended (f ∷ g ∷ gs) field =
     ap (λ (t : List ℕ). f ++ (44 ∷ t)) (line-ended (g ∷ gs) field) ∙ sym (append_assoc f (44 ∷ []) (begun_line (g ∷ gs) ++ field)) ∙ sym (append_assoc (f ++ 44 ∷ []) (begun_line (g ∷ gs)) field)
 
--- one field more is plain
-pub plain-more : (fields : List (List ℕ)) (field : List ℕ) → ArePlain fields → IsPlain field → ArePlain (fields ++ field ∷ [])
-plain-more [] field all plain = (plain, tt)
-plain-more (f ∷ fs) field all plain = (all.0, plain-more fs field all.1 plain)
-
 -- a line that begins with these fields
 pub record BeginsLine (text : List ℕ) (at from : ℕ) (fields : List (List ℕ)) : Type 0 where
   pub order : at ≤ from
@@ -54,7 +50,7 @@ pub line-goes_on : (text : List ℕ) (at from : ℕ) (fields : List (List ℕ)) 
 line-goes_on text at from fields f begun found more = record {
   order = let o = begun.order in let s = found.some in omega arith;
   within = found.end;
-  plain = plain-more fields f.bytes.now begun.plain found.plain;
+  plain = push_plain fields f.bytes.now begun.plain found.plain;
   is = begun.is
       ∙ ap (λ (t : List ℕ). begun_line fields ++ t) (rw (more) at found.is)
       ∙ goal;
@@ -82,7 +78,7 @@ line-ends text at from fields f begun found last = record {
       ∙ sym (ap (λ (t : List ℕ). (t ++ 10 ∷ []) ++ rest) (line-ended fields f.bytes.now)
       ∙ append_assoc (begun_line fields ++ f.bytes.now) (10 ∷ []) rest
       ∙ append_assoc (begun_line fields) f.bytes.now (10 ∷ rest));
-  plain = plain-more fields f.bytes.now begun.plain found.plain;
+  plain = push_plain fields f.bytes.now begun.plain found.plain;
 } where
   rest : List ℕ
   rest = drop f.end text

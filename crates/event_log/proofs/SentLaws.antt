@@ -9,7 +9,7 @@ use Rattle.std.specs.Str.{bytes_eq}
 use Rattle.std.proofs.lemmas.Bool.{ltb-false}
 use Rattle.std.proofs.lemmas.Nat.{from_be_bytes-to_be_bytes_8}
 use Rattle.std.proofs.lemmas.List.Elements.{All-head, All-tail}
-use Rattle.std.proofs.lemmas.Slice.Eq.{bytes_eq-Decides}
+use Rattle.trace_text.proofs.Numbers.{bytes_eq-same, same-from_bytes_eq}
 use borrow.Author.Tests.{ltb-true, lt-ltb}
 use Rattle.event_log.specs.Names.{has_name}
 use Rattle.event_log.specs.SentLaws.{AreOnce, Message, expected, first_place, is_message, is_named, taken_in}
@@ -131,21 +131,15 @@ copy-to p to x n lp lt e =
     sym (from_be_bytes-to_be_bytes_8 p lp) ∙ ap (λ bs. from_be_bytes w64 (take 8 bs)) e
     ∙ from_be_bytes-to_be_bytes_8 to lt
 
-same : (a b : List ℕ) → bytes_eq a b ≡ true → a ≡ b
-same a b e = (bytes_eq-Decides a b).0 e
-
-is-same : (a b : List ℕ) → a ≡ b → bytes_eq a b ≡ true
-is-same a b e = (bytes_eq-Decides a b).1 e
-
 copies-eq : (p to : ℕ) (x n : List ℕ) → p < 2 ^ 64 → to < 2 ^ 64 → bytes_eq (copy_of p x) (copy_of to n)
     ≡ (bytes_eq x n && (to == p))
 copies-eq p to x n lp lt = go (bytes_eq x n) (to == p) (bytes_eq (copy_of p x) (copy_of to n)) refl refl refl where
   go : (b q r : Bool) → bytes_eq x n ≡ b → (to == p) ≡ q → bytes_eq (copy_of p x) (copy_of to n) ≡ r → r ≡ (b && q)
   go true true true e f g = refl
-  go true true false e f g = cc (sym g ∙ is-same (copy_of p x) (copy_of to n) (rw (same x n e, eqb-true to p f) refl))
+  go true true false e f g = cc (sym g ∙ bytes_eq-same (copy_of p x) (copy_of to n) (rw (same-from_bytes_eq x n e, eqb-true to p f) refl))
   go true false true e f g = cc (sym f ∙ eq-eqb to p
-      (sym (copy-to p to x n lp lt (same (copy_of p x) (copy_of to n) g))))
-  go false q true e f g = cc (sym e ∙ is-same x n (copy-name p to x n (same (copy_of p x) (copy_of to n) g)))
+      (sym (copy-to p to x n lp lt (same-from_bytes_eq (copy_of p x) (copy_of to n) g))))
+  go false q true e f g = cc (sym e ∙ bytes_eq-same x n (copy-name p to x n (same-from_bytes_eq (copy_of p x) (copy_of to n) g)))
   go true false false e f g = refl
   go false q false e f g = refl
 
@@ -200,7 +194,7 @@ first-of-name done sent m h new = rw (with_name-new sent.names m.name new) (reco
   go p x l false e = rw (or-none (place_in sent.names sent.firsts x), or-none (first_place (is_message p x) done))
       (h.place p x l ∙ ap (λ u. option_or (first_place (is_message p x) done) u) (sym (h.first x)))
   go p x l true e =
-      let none = unknown x (same x m.name e) in
+      let none = unknown x (same-from_bytes_eq x m.name e) in
       let message = no-message p x done (sym (h.first x) ∙ none) in
       only (place_in sent.copies sent.copied (copy_of p x)) (place_in sent.names sent.firsts x)
       (first_place (is_message p x) done) (m.to == p) (h.copy p x l message) none message
@@ -240,7 +234,7 @@ copy-of-name done sent m small h there once = rw (with_name-new sent.copies (cop
 
   unchanged : (x : List ℕ) (b : Bool) → bytes_eq x m.name ≡ b → first_place (is_named x) done
       ≡ option_or (first_place (is_named x) done) (cond b (Some m.place) None)
-  unchanged x true e = sym (or-there (first_place (is_named x) done) (Some m.place) (known x (same x m.name e)))
+  unchanged x true e = sym (or-there (first_place (is_named x) done) (Some m.place) (known x (same-from_bytes_eq x m.name e)))
   unchanged x false e = sym (or-none (first_place (is_named x) done))
 
   first : (x : List ℕ) → place_in sent.names sent.firsts x ≡ first_place (is_named x) (done ++ m ∷ [])
@@ -264,7 +258,7 @@ copy-of-name done sent m small h there once = rw (with_name-new sent.copies (cop
   that p x e = go (bytes_eq x m.name) (m.to == p) refl refl e where
     go : (b q : Bool) → bytes_eq x m.name ≡ b → (m.to == p) ≡ q → (b && q) ≡ true
         → first_place (is_message p x) done ≡ None
-    go true true e f g = rw (same x m.name e, ← eqb-true m.to p f) none
+    go true true e f g = rw (same-from_bytes_eq x m.name e, ← eqb-true m.to p f) none
     go true false e f g = cc g
     go false q e f g = cc g
 

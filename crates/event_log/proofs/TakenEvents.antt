@@ -5,6 +5,7 @@ use Rattle.std.specs.List.{filter, range_with_len}
 use Rattle.std.proofs.lemmas.List.{get_or-map, length-map}
 use Rattle.std.proofs.lemmas.List.Elements.{All-cons, All-nil}
 use Rattle.std.proofs.lemmas.List.FromFn.{length-range_with_len}
+use Rattle.trace_text.proofs.TakenRecords.{unless}
 use Rattle.timed_events.specs.declared.events.Clock.{Clock}
 use Rattle.timed_events.specs.declared.events.Event.{Event}
 use Rattle.timed_events.specs.declared.events.EventAct.{EventAct}
@@ -32,7 +33,6 @@ use Rattle.event_log.specs.SoundLogs.{IsSound, IsWithin, SendsWithin}
 use Rattle.event_log.proofs.LeftEvents.{few-left, left-long, within-left}
 use Rattle.event_log.proofs.LostSends.{left-within}
 use Rattle.event_log.proofs.MeantEvents.{are-meant, within-at}
-use Rattle.event_log.proofs.Outcomes.{weaker}
 use Rattle.event_log.proofs.UnmadeLogs.{few-events}
 
 -- all events, if nothing is asked for
@@ -261,14 +261,14 @@ module _ (log : NamedEvents) (sound : IsSound (seen_log log)) where
 pub none-taken : (merge : Bool) (events : List Event) (clock : Clock) (why : LogError)
     → MatchBool (is_memory why) ⊤ ((left_places events ≡ []) × (why ≡ NoEvents))
     → MatchBool (is_memory why) ⊤ (IsEmptied true events why ⊎ IsUnmergedOf true merge events clock why)
-none-taken merge events clock why = weaker (is_memory why) _ (IsEmptied true events why ⊎ IsUnmergedOf true merge events clock why) (λ none. inl (refl, none.0, none.1))
+none-taken merge events clock why = unless (is_memory why) _ (IsEmptied true events why ⊎ IsUnmergedOf true merge events clock why) (λ none. inl (refl, none.0, none.1))
 
 pub times-refused : (drop : Bool) (events kept : List Event) (clock : Clock) (kept_at : Option (List ℕ))
     → AreLeftBy drop events kept kept_at → (why : LogError)
     → MatchBool (is_memory why) ⊤ ((reason : EventError) × (times_refusal kept clock ≡ Some reason)
     × IsTimesError reason why) → MatchBool (is_memory why) ⊤ (IsEmptied drop events why
     ⊎ IsUnmergedOf drop true events clock why)
-times-refused drop events kept clock kept_at are why = weaker (is_memory why) _ (IsEmptied drop events why ⊎ IsUnmergedOf drop true events clock why) (λ h. inr (record {
+times-refused drop events kept clock kept_at are why = unless (is_memory why) _ (IsEmptied drop events why ⊎ IsUnmergedOf drop true events clock why) (λ h. inr (record {
   asked = refl;
   kept = kept;
   kept_at = kept_at;
@@ -282,7 +282,7 @@ times-refused drop events kept clock kept_at are why = weaker (is_memory why) _ 
 pub times-reason : (why : EventError) (refusal : Option EventError) (error : LogError) → IsEventRefusal why refusal
     → MatchBool (is_memory error) ⊤ (IsTimesError why error)
     → MatchBool (is_memory error) ⊤ ((reason : EventError) × (refusal ≡ Some reason) × IsTimesError reason error)
-times-reason why refusal error h = weaker (is_memory error) (IsTimesError why error) ((reason : EventError) × (refusal ≡ Some reason) × IsTimesError reason error) (go why h) where
+times-reason why refusal error h = unless (is_memory error) (IsTimesError why error) ((reason : EventError) × (refusal ≡ Some reason) × IsTimesError reason error) (go why h) where
   go : (w : EventError) → IsEventRefusal w refusal → IsTimesError w error → (reason : EventError) × (refusal ≡ Some reason) × IsTimesError reason error
   go refused.UntilTooEarly is t = (refused.UntilTooEarly, is, t)
   go refused.TooManyTicks is t = (refused.TooManyTicks, is, t)

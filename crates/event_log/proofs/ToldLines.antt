@@ -8,6 +8,7 @@ use Rattle.std.specs.Option.{ok_or}
 use Rattle.std.proofs.lemmas.Bool.{le-leb}
 use Rattle.std.proofs.lemmas.List.{nil_from_length}
 use Rattle.trace_text.specs.Records.{◌>>=◌, after_records, field_of, records_of_text}
+use Rattle.trace_text.proofs.TakenRecords.{unless}
 use Rattle.event_log.specs.declared.columns.Columns.{Columns}
 use Rattle.event_log.specs.declared.reading.Reading.{Reading}
 use Rattle.event_log.specs.declared.reading.TheConstants.{MAX_EVENTS}
@@ -26,7 +27,6 @@ use Rattle.event_log.specs.PlainLines.{IsPlainLine, LeadsOn}
 use Rattle.event_log.specs.Reading.{next_by, next_reading, with_event}
 use Rattle.event_log.specs.Times.{moment_in, settled, time_as}
 use Rattle.event_log.specs.ToldLines.{AreRulesOf, AreTold, IsToldBy, after_rows}
-use Rattle.event_log.proofs.Outcomes.{weaker}
 
 -- a time of this kind has it
 in-kind : (k : TimeKind) (field : List ℕ) (m : Moment) → moment_in k field ≡ Some m → m.kind ≡ k
@@ -173,7 +173,7 @@ ahead-next rules begun text at reading told new next h e t = record {
 -- or one of them is refused
 pub ahead-refused : (rules : Rules) (begun : Reading) (text : List ℕ) (at : ℕ) (reading : Reading) (told : ToldLines) (why : LogError) → IsAhead rules begun text at reading told
     → MatchBool (is_memory why) ⊤ (after_rows reading (map said told.rows.items) ≡ Err why) → LeadsOn begun text at (Err why)
-ahead-refused rules begun text at reading told why h e = weaker
+ahead-refused rules begun text at reading told why h e = unless
     (is_memory why)
     (after_rows reading (map said told.rows.items) ≡ Err why)
     (after_records next_reading begun (records_of_text (drop at text)) ≡ Err why)

@@ -3,6 +3,7 @@ use Rattle.std.proofs.Common.{◌≡◌, ℕ, zero, suc, ◌+◌, ◌<◌, arith
 use Rattle.std.specs.Prelude.{◌||◌, ◌&&◌, nat_lt, if◌then◌else◌, position}
 use Rattle.std.specs.List.{AllZip, list_all, list_any, position_or_len, prefix_len}
 use Rattle.std.proofs.lemmas.List.{map-append, length-map}
+use Rattle.std.proofs.lemmas.Bool.{and_right}
 
 -- a test of the elements of a map
 pub list_any-map : {X Y : Type 0} (f : X → Y) (p : Y → Bool) (xs : List X) → list_any p (map f xs) ≡ list_any (λ x. p (f x)) xs
@@ -43,15 +44,10 @@ pub list_all-more : {X : Type 0} (p : X → Bool) (xs : List X) (y : X) → list
 list_all-more p [] y h k = rw k refl
 list_all-more p (x ∷ xs) y h k = more-go (p x) (list_all p xs) (list_all p (xs ++ y ∷ [])) (λ e. list_all-more p xs y e k) h
 
--- one that doesn't
-stops-go : (t a : Bool) → a ≡ false → (t && a) ≡ false
-stops-go true a e = e
-stops-go false a e = refl
-
 pub list_all-stops : {X : Type 0} (p : X → Bool) (xs : List X) (k : ℕ) (d : X) → k < length xs → p (get_or xs k d) ≡ false → list_all p xs ≡ false
 list_all-stops p [] k d lt e = absurd (omega (arith, lt))
 list_all-stops p (x ∷ xs) zero d lt e = rw e refl
-list_all-stops p (x ∷ xs) (suc k) d lt e = stops-go (p x) (list_all p xs) (list_all-stops p xs k d (omega (arith, lt)) e)
+list_all-stops p (x ∷ xs) (suc k) d lt e = and_right (p x) (list_all p xs) (list_all-stops p xs k d (omega (arith, lt)) e)
 
 -- elements that are the same to a view, one by one
 pub map-same : {X Y : Type 0} (f : X → Y) (R : X → X → Type 0) → ((x y : X) → R x y → f y ≡ f x) → (xs ys : List X) → AllZip R xs ys → map f ys ≡ map f xs

@@ -13,7 +13,7 @@ use Rattle.idle_laws.proofs.Common.{IsOfNothing, ticks_of, IsActOf, IsTraceOf, s
 use Rattle.step_trace.specs.declared.steps.Act.TheVariants as act
 use Rattle.step_trace.specs.Processors.{has_proc}
 use Rattle.step_trace.specs.Steps.{act_dest, act_ids}
-use Rattle.timed_events.proofs.IdleEvents.{received-at, get-right, get-left}
+use Rattle.timed_events.proofs.IdleEvents.{received-at, get-right, get-left, nothing-received}
 use Rattle.idle_laws.proofs.AddedEvents.{long-all, new-tick, old-tick, poll_of}
 use Rattle.timed_events.proofs.BriefEvents.{event-at}
 use Rattle.idle_laws.proofs.EventSteps.{EventOf, event-of, one-number, place-in, step-of}
@@ -58,10 +58,6 @@ pub record DeltaOfEvents (set : ℕ) (events : List Event) (ticks : List ℕ) (p
 -- p has a step in tick y: an event, or a receive of nothing
 abbrev pub Acts : List Event → List ℕ → List IdleTick → ℕ → ℕ → Type 0
 Acts events ticks polls p y = HasEventIn events ticks p y ⊎ Contains polls (poll_of p y)
-
-nothing-received : (act : EventAct) → IsOfNothing act → received_in act ≡ []
-nothing-received (Send to) h = absurd h
-nothing-received (Receive messages) h = h
 
 nothing-is_receive : (act : EventAct) → IsOfNothing act → IsReceive act
 nothing-is_receive (Send to) h = absurd h

@@ -1,9 +1,9 @@
 -- A seat from which steps are made by a pace.
-use Rattle.std.proofs.Common.{ℕ, nat_le, ◌≡◌, ◌+◌, ◌<◌, List, [], ◌∷◌, ◌++◌, length, Some, None, Bool, true, false, nat_lt, if◌then◌else◌, refl, sym, ap, ◌∙◌, subst, arith}
+use Rattle.std.proofs.Common.{ℕ, ◌≡◌, ◌+◌, ◌<◌, List, [], ◌∷◌, ◌++◌, length, Some, None, Bool, true, false, nat_lt, if◌then◌else◌, refl, sym, ap, ◌∙◌, subst, arith}
 use Rattle.std.proofs.lemmas.List.{append-nil, append_assoc, length_push}
-use Rattle.std.proofs.lemmas.Bool.{and_parts, ltb-true, leb-true}
 use Rattle.step_trace.specs.Configurations.{Setup, IsProc, is_proc}
 use Rattle.step_trace.specs.declared.steps.Step.{Step}
+use Rattle.step_trace.proofs.Refusals.{proc_from}
 use Rattle.step_buffers.specs.declared.moves.Done.{Done}
 use Rattle.step_buffers.specs.declared.moves.Move.{Move}
 use Rattle.step_buffers.specs.declared.moves.StepError.{StepError}
@@ -38,9 +38,6 @@ pub record IsPacedMove (w : Progress) (p : ℕ) (pace after : Paced) (move : Mov
   pub moved : IsProc w.trace.config p → move ≡ paced_move w.trace.config w.trace.steps p pace
   pub noted : IsProc w.trace.config p → after ≡ after_move w.trace.config w.trace.steps p pace
 
-proc-from : (c : Setup) (p : ℕ) → is_proc c p ≡ true → IsProc c p
-proc-from c p there = let parts = and_parts (nat_lt 0 p) (nat_le p c.n) there in (ltb-true 0 p parts.0, leb-true p c.n parts.1)
-
 -- what a World answered to it
 pub IsPacedAnswer-made : (r : Identity) (w : Progress) (p : ℕ) (pace after : Paced) (move : Move) (done : Done) → IsShown r w → IsPacedMove w p pace after move
     → step_refusal w.trace.config w.limit w.trace.steps p move ≡ None → (answer : IsAnswer r p move done) × (answer.before ≡ w.trace.steps)
@@ -50,7 +47,7 @@ IsPacedAnswer-made r w p pace after move done shown is allowed made = go (is_pro
     go : (b : Bool) → is_proc w.trace.config p ≡ b → IsPacedAnswer r p pace after done
     go false nobody = absurd (refused_anyhow w.trace.config w.limit w.trace.steps p move nobody allowed)
     go true there =
-        let proc = proc-from w.trace.config p there in
+        let proc = proc_from w.trace.config p there in
         record {
           move = move;
           answer = made.0;
@@ -76,7 +73,7 @@ IsPacedStepReason-shown r w p pace after move why shown is h = against (is_proc 
     against : (b : Bool) → is_proc w.trace.config p ≡ b → step_refusal w.trace.config w.limit w.trace.steps p move ≡ Some why → IsPacedAgainst r p pace why
     against false nobody reason = of_mine (any_move w.trace.config w.limit w.trace.steps p (paced_move w.trace.config w.trace.steps p pace) move nobody ∙ reason)
     against true there reason =
-        of_mine (subst (λ m. step_refusal w.trace.config w.limit w.trace.steps p m ≡ Some why) (is.moved (proc-from w.trace.config p there)) reason)
+        of_mine (subst (λ m. step_refusal w.trace.config w.limit w.trace.steps p m ≡ Some why) (is.moved (proc_from w.trace.config p there)) reason)
 
 -- what a seat keeps of an answer
 pub IsPacedStep-kept : (r : Identity) (p : ℕ) (pace after : Paced) (old new : Turns) (done : Done) → old.proc ≡ p → new ≡ with_done old done

@@ -3,6 +3,7 @@ use Rattle.std.proofs.Common.{◌≡◌, ◌<◌, List, ℕ, Some, Ok, Err, refl
 use Rattle.std.specs.Prelude.{MatchBool, ⊤}
 use Rattle.std.proofs.lemmas.Bool.{lt-leb}
 use Rattle.trace_text.specs.Records.{field_of}
+use Rattle.trace_text.proofs.TakenRecords.{unless}
 use Rattle.event_log.specs.declared.columns.Columns.{Columns}
 use Rattle.event_log.specs.declared.refusals.LogError.{LogError}
 use Rattle.event_log.specs.declared.times.Moment.{Moment}
@@ -15,7 +16,6 @@ use Rattle.log_windows.specs.declared.windows.TheConstants.{MAX_LOGGED}
 use Rattle.log_windows.specs.Bounds.{kind_of, times_by}
 use Rattle.log_windows.specs.KeptRows.{rows_after}
 use Rattle.log_windows.specs.Windows.{event_after}
-use Rattle.log_windows.proofs.TakenRows.{unless}
 
 -- the refusal of the record is that of the event
 pub event-refused : (columns : Columns) (r : Reading) (fields : List (List ℕ)) (moment : Moment) (times : Times) (why : LogError) → r.count < MAX_LOGGED

@@ -1,6 +1,5 @@
 pub mod SeamPlaces
 pub mod LinesFirst
-pub mod TakenRows
 pub mod PartsTaken
 pub mod WindowsRead
 pub mod NumberedTables

@@ -9,9 +9,11 @@ use Rattle.csv.specs.Reading.{default_config, is_bom, records, strip_bom}
 use Rattle.csv.specs.declared.parser.State.TheVariants as st
 use Rattle.trace_text.specs.declared.byte_loops.TheConstants.{MAX_TEXT_BYTES}
 use Rattle.trace_text.specs.Records.{after_records, records_of_text}
-use Rattle.trace_text.proofs.TakenRecords.{after_records-append}
+use Rattle.trace_text.proofs.TakenRecords.{after_records-append, unless}
 use Rattle.shared_reading.specs.Seams.{IsClosed}
 use Rattle.shared_reading.proofs.Splits.{records-split}
+use Rattle.shared_reading.proofs.PartsRead.{front-rest}
+use Rattle.shared_reading.proofs.PieceLemmas.{append-stops}
 use Rattle.event_log.specs.declared.refusals.LogError.{LogError}
 use Rattle.event_log.specs.declared.refusals.LogError.TheVariants.{TooLarge}
 use Rattle.event_log.specs.Naming.{is_memory}
@@ -21,11 +23,6 @@ use Rattle.log_windows.specs.Devices.{Grew, HasRefusal, IsReadTo, IsRowRefusal, 
 use Rattle.log_windows.specs.Places.{EndsNone}
 use Rattle.log_windows.proofs.LinesFirst.{closed-behind-line, rows-behind-line}
 use Rattle.log_windows.proofs.SeamPlaces.{none-behind}
-use Rattle.log_windows.proofs.TakenRows.{after_records-err, unless}
-
--- bytes, and what comes behind them, are their front, and then the others with what comes behind
-front-rest : (bytes more : List ℕ) (n : ℕ) → bytes ++ more ≡ take n bytes ++ (drop n bytes ++ more)
-front-rest bytes more n = ap (λ xs. xs ++ more) (sym (take-append-drop n bytes)) ∙ append_assoc (take n bytes) (drop n bytes) more
 
 -- a device brought more
 pub grew-more : (old mid new : Option (List ℕ)) (before so_far after bytes : List ℕ) → Grew old mid before so_far → Consumes mid new bytes → after ≡ so_far ++ bytes → Grew old new before after
@@ -70,7 +67,7 @@ front-refused next old bytes rest (suc n) why e some closed = unless (is_memory 
     ap (λ rs. after_records next old rs) (sym (rows-behind-line (take n bytes))) ∙ subst (λ xs. after_records next old (records_of_text (take (suc n) xs)) ≡ Err why) e h in
     ap (λ xs. after_records next old (records default_config xs)) (front-rest bytes more n)
     ∙ ap (λ rs. after_records next old rs) (records-split (take n bytes) (drop n bytes ++ more) own)
-    ∙ after_records-err next old why (records default_config (take n bytes)) (records default_config (drop n bytes ++ more)) reads)
+    ∙ append-stops next old why (records default_config (take n bytes)) (records default_config (drop n bytes ++ more)) reads)
 
 -- ---- how far a text was read
 

@@ -15,6 +15,7 @@ use Rattle.csv.proofs.RoundTrip.{read-write}
 use Rattle.trace_text.specs.Records.{records_of_text}
 use Rattle.trace_text.specs.RecordWriting.{our_writer}
 use Rattle.trace_text.proofs.ReachedRecords.{are-records}
+use Rattle.trace_text.proofs.LinesRead.{end-read}
 use Rattle.log_windows.specs.Rows.{field_or, with_field}
 use Rattle.log_windows.proofs.LinesFirst.{rows-behind-line}
 
@@ -64,10 +65,6 @@ rows-reached (row ∷ rows) h = (
   refl,
   rows-reached rows (All-tail HasField row rows h),
 )
-
-end-read : next_record default_config st.StartRecord [] [] [] ≡ None
-unfolding next_record
-end-read = refl
 
 -- records that are written after a line feed are read back
 pub rows-read : (rows : List (List (List ℕ))) → All HasField rows → records_of_text (10 ∷ flat_map (row_text our_writer) rows) ≡ rows

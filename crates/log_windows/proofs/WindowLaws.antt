@@ -10,7 +10,7 @@ use Rattle.std.proofs.lemmas.Bool.{and_parts}
 use Rattle.std.proofs.lemmas.List.{map-append}
 use Rattle.std.proofs.lemmas.List.Concat.{flat_map-append}
 use Rattle.std.proofs.lemmas.List.Elements.{All-append, All-cons, All-filter, All-head, All-map, All-nil, All-tail, All-weaker}
-use Rattle.std.proofs.lemmas.List.Folds.{list_any-append}
+use Rattle.std.proofs.lemmas.List.Folds.{list_any-append, flat_map-map}
 use Rattle.std.proofs.lemmas.Slice.Eq.{bytes_eq-Decides}
 use Rattle.csv.specs.Writing.{row_text}
 use Rattle.trace_text.specs.declared.byte_loops.TheConstants.{MAX_TEXT_BYTES}
@@ -180,15 +180,11 @@ rows-all-some columns event h =
 rows-in-some : (columns : Columns) (k : TimeKind) (event : Row) → HasFields event → All HasFields (rows_in columns k event)
 rows-in-some columns k event h = rows-all-some columns (record { place = event.place; fields = told_row columns k event.fields }) (told-some columns k event.fields h)
 
-flat-mapped : {X Y A : Type 0} (f : Y → List A) (g : X → Y) (xs : List X) → flat_map f (map g xs) ≡ flat_map (λ x. f (g x)) xs
-flat-mapped f g [] = refl
-flat-mapped f g (x ∷ xs) = ap (λ t. f (g x) ++ t) (flat-mapped f g xs)
-
 -- the text of a header and of records is read back
 read-back : {X : Type 0} (fields_in : X → List (List ℕ)) (header : List (List ℕ)) (xs : List X) (text : List ℕ) → HasField header → All (λ x. HasField (fields_in x)) xs
     → text ≡ 10 ∷ (row_text our_writer header ++ flat_map (λ x. row_text our_writer (fields_in x)) xs) → records_of_text text ≡ header ∷ map fields_in xs
 read-back fields_in header xs text some all e =
-    ap records_of_text (e ∙ ap (λ t. 10 ∷ (row_text our_writer header ++ t)) (sym (flat-mapped (row_text our_writer) fields_in xs)))
+    ap records_of_text (e ∙ ap (λ t. 10 ∷ (row_text our_writer header ++ t)) (sym (flat_map-map (row_text our_writer) fields_in xs)))
     ∙ rows-read (header ∷ map fields_in xs) (All-cons HasField header (map fields_in xs) some (All-map HasField fields_in xs all))
 
 -- the rows so far make what is kept

@@ -1,6 +1,7 @@
 -- A window that is read from a device.
 use Rattle.std.proofs.Common.{◌≡◌, List, ℕ, Option, Some, None, IfSome, Ok, Err, inl, inr, subst}
 use Rattle.trace_text.specs.Records.{after_records, records_of_text}
+use Rattle.trace_text.proofs.TakenRecords.{unless}
 use Rattle.event_log.specs.declared.refusals.LogError.{LogError}
 use Rattle.event_log.specs.declared.refusals.LogError.TheVariants.{Memory}
 use Rattle.event_log.specs.declared.times.LogEnd.{LogEnd}
@@ -13,7 +14,6 @@ use Rattle.log_windows.specs.declared.windows.Reading.{Reading}
 use Rattle.log_windows.specs.Devices.{HasLongRecord, HasRefusal, IsRowRefusal, IsWholeRead}
 use Rattle.log_windows.specs.LogWindows.{HasNoWindow, IsKeptOf, IsUnkept, IsWindowOf, IsWindowRefusal}
 use Rattle.log_windows.specs.Windows.{next_row, nothing_read}
-use Rattle.log_windows.proofs.TakenRows.{unless}
 
 -- out of memory may come anywhere
 pub memory-anywhere : (unit : Option TimeUnit) (from : LogEnd) (until : Option LogEnd) (known : Option (List ℕ)) → IfSome known (IsWindowRefusal unit from until (unread.Log Memory))

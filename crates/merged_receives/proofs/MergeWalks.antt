@@ -12,6 +12,7 @@ use Rattle.timed_events.specs.CausalWalks.{index_at}
 use Rattle.timed_events.specs.Checks.{AreOfProcessors, processor_at, is_send, sends_at}
 use Rattle.timed_events.proofs.SortedEvents.{place-found}
 use Rattle.timed_events.proofs.TimeOrders.{before-in_order, differ-in_order, found-before, inside-order}
+use Rattle.timed_events.proofs.OwnSequences.{same-each}
 use Rattle.merged_receives.specs.Merges.{is_joined, is_receive, is_merged, is_send_between, receives_at}
 use Rattle.merged_receives.specs.MergeWalks.{AreHeadsOf, AreRising, IsHead, head_by}
 use Rattle.merged_receives.proofs.JoinedReceives.{IsJoined, between-is, is-between, is-joined, joined-is, none-unmerged, part-joined, part-self}
@@ -42,11 +43,6 @@ pub record AreHeads (events : List Event) (ticks order : List ℕ) (k : ℕ) (op
       × (slice_index ticks (slice_index order m) ≤ slice_index ticks
       (slice_index opens (index_at events (slice_index order m))))
 
-each-same : (n x i : ℕ) → i < n → slice_index (replicate n x) i ≡ x
-each-same zero x i l = absurd (omega (arith, l))
-each-same (suc n) x zero l = refl
-each-same (suc n) x (suc i) l = each-same n x i (omega (arith, l))
-
 pub heads-start : (events : List Event) (ticks order opens heads : List ℕ) (none : ℕ) → none ≡ length events
     → opens ≡ replicate MAX_PROCESSORS none → heads ≡ replicate (length events) none
     → AreHeads events ticks order 0 opens heads
@@ -54,7 +50,7 @@ heads-start events ticks order opens heads none n e f = record {
   wide = ap length e ∙ length-replicate {A = ℕ} MAX_PROCESSORS none;
   long = ap length f ∙ length-replicate {A = ℕ} (length events) none;
   head = λ m b. absurd (omega (arith, b));
-  held = λ p lp b. absurd (let s = ap (λ xs. slice_index xs p) e ∙ each-same MAX_PROCESSORS none p lp in omega (arith, s, n, b));
+  held = λ p lp b. absurd (let s = ap (λ xs. slice_index xs p) e ∙ same-each MAX_PROCESSORS none p lp in omega (arith, s, n, b));
   last = λ m b r q. absurd (omega (arith, b));
 }
 

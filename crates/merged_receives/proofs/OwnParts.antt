@@ -1,12 +1,11 @@
 -- The events of which each is made, by their heads, and the places of those that stay.
-use Rattle.std.proofs.Common.{ℕ, ℤ, zero, suc, ◌≡◌, ◌∙◌, ◌+◌, ◌<◌, ◌≤◌, ◌≤ℤ◌, ◌-ℤ◌, Bool, true}
+use Rattle.std.proofs.Common.{ℕ, ℤ, zero, suc, ◌≡◌, ◌∙◌, ◌+◌, ◌<◌, ◌≤◌, ◌≤ℤ◌, Bool, true}
 use Rattle.std.proofs.Common.{false, not, cond, List, [], ◌∷◌, ◌++◌, length, length-append, map}
 use Rattle.std.proofs.Common.{refl, sym, ap, ap₂, subst, arith}
 use Rattle.std.specs.Prelude.{◌==◌, ◌||◌, ◌&&◌, int_lt, nat_lt, slice_index, slice_index_or}
 use Rattle.std.specs.List.{filter, range_with_len}
 use Rattle.std.proofs.lemmas.Bool.{eq-eqb, eqb-true, false_from_ne_true, not_from_false, true≢false}
 use Rattle.std.proofs.lemmas.Int.{ints}
-use Rattle.std.specs.Int.RustNames.{unsigned_abs}
 use Rattle.std.proofs.lemmas.List.{length-map, map-append}
 use Rattle.std.proofs.lemmas.List.Elements.{filter-append}
 use Rattle.std.proofs.lemmas.List.FromFn.{length-range_with_len, get_or-range_with_len}
@@ -17,7 +16,7 @@ use Rattle.timed_events.specs.Checks.{time_at}
 use Rattle.timed_events.specs.Times.{least_time, time_tick, time_ticks}
 use Rattle.timed_events.proofs.CausalWalks.{range-more}
 use Rattle.timed_events.proofs.SortedEvents.{place-found}
-use Rattle.timed_events.proofs.TimeBounds.{div_up}
+use Rattle.timed_events.proofs.TimeBounds.{div_up, apart}
 use Rattle.timed_events.proofs.TimeOrders.{inside-order}
 use Rattle.timed_events.proofs.NearTimes.{least-at}
 use Rattle.merged_receives.specs.Merges.{is_merged, is_part, parts_of, staying_before, staying_places}
@@ -134,7 +133,7 @@ module _ (events : List Event) (ticks heads : List ℕ) (w : AreHeadsOf events t
         ap (λ n. filter has_some (map with_head (range_with_len 0 n))) w.long
         ∙ parts-in (range_with_len 0 (length events)) (λ k l. let r = in-range (length events) k l in let at = r.0 in let b = r.1 in omega (arith, at, b))
 
-below-cond : (n : ℕ) (t : Bool) (x : ℕ) (ys : List ℕ) → x < n → ((k : ℕ) → k < length ys → slice_index ys k < n) → (k : ℕ) → k < length (cond t (x ∷ ys) ys) → slice_index (cond t (x ∷ ys) ys) k < n
+pub below-cond : (n : ℕ) (t : Bool) (x : ℕ) (ys : List ℕ) → x < n → ((k : ℕ) → k < length ys → slice_index ys k < n) → (k : ℕ) → k < length (cond t (x ∷ ys) ys) → slice_index (cond t (x ∷ ys) ys) k < n
 below-cond n false x ys b h k l = h k l
 below-cond n true x ys b h zero l = b
 below-cond n true x ys b h (suc k) l = h k (omega (arith, l))
@@ -179,10 +178,6 @@ pub own-inside : (n : ℕ) (heads order : List ℕ) → ((k : ℕ) → k < lengt
 unfolding own_parts
 own-inside n heads order b =
     λ k l. parts-each n (λ h. filter (λ i. slice_index heads i == h) order) (range_with_len 0 (length heads)) (λ h j m. below-filter n (λ i. slice_index heads i == h) order b j m) k l
-
--- the later of two times that aren't before x lies no nearer to it, by its tick too
-apart : (x y z : ℤ) → x ≤ℤ y → y ≤ℤ z → unsigned_abs (y -ℤ x) ≤ unsigned_abs (z -ℤ x)
-apart x y z h k = omega (arith, ints)
 
 -- ticks don't fall in the order of times
 tick-at : (f : ℤ → ℕ) (xs : List Event) (i : ℕ) → i < length xs → slice_index (map (λ e. f e.time) xs) i ≡ f (time_at xs i)

@@ -1,6 +1,6 @@
 -- How long the least rounds take, whoever owes an acknowledgement.
-use Rattle.std.proofs.Common.{ℕ, zero, suc, ◌≡◌, ◌≢◌, ◌+◌, ◌-◌, ◌*◌, ◌%◌, ◌≤◌, inl, inr, Option, Some, None, is_some, Bool, true, false, ◌==◌, ◌&&◌, refl, sym, ap, subst, ◌∙◌, arith}
-use Rattle.std.proofs.lemmas.Bool.{true≢false, cases_eq, eqb-true, and_parts}
+use Rattle.std.proofs.Common.{ℕ, zero, suc, ◌≡◌, ◌≢◌, ◌+◌, ◌-◌, ◌*◌, ◌%◌, ◌≤◌, inl, inr, Option, Some, None, is_some, Bool, true, false, ◌==◌, refl, sym, ap, subst, ◌∙◌, arith}
+use Rattle.std.proofs.lemmas.Bool.{true≢false, cases_eq, eqb-true, and_parts, and_left}
 use Rattle.patience_laws.proofs.Common.{Setup, has_proc, Recorded, Ack, Locks, with_proper, part_of, owner}
 use Rattle.patience_laws.proofs.Common.{phase_of, Acknowledging, part_at-acknowledging, acknowledgement-sent}
 use Rattle.patience_laws.proofs.Common.{locks-sent, passed, passed-before, IsInRoundFrom, may_hear_of}
@@ -12,11 +12,6 @@ use Rattle.patience_laws.proofs.RoundMessages.{few-all, few-one, IsSentBy, sent-
 use Rattle.patience_laws.proofs.LeastRounds.{may-in, part-next, proposal-kept, AreTold, told-ends, says, listing-ends, locking-ends, releasing-ends, touch-later}
 use Rattle.patience_laws.proofs.OwedAcknowledgements.{same-phase, owes-itself}
 use Rattle.patience_laws.proofs.MemberRounds.{member-proc}
-
--- who is no owner hears nobody in an acknowledging round
-deaf-other : (b a : Bool) → b ≡ false → (b && a) ≡ false
-deaf-other true a e = absurd (true≢false e)
-deaf-other false a e = refl
 
 eqb-other : (p o : ℕ) (b : Bool) → (p == o) ≡ b → p ≢ o → (p == o) ≡ false
 eqb-other p o true e other = absurd (other (eqb-true p o e))
@@ -43,7 +38,7 @@ module _ (patience set : ℕ) (trace : Recorded) (g d f : ℕ) (keeps : KeepsBou
         deaf : (z : ℕ) → may_hear_of c trace.steps q (round + 1) z ≡ false
         deaf z =
             may-in Acknowledging c trace.steps q (round + 1) z (part_at-acknowledging (round + 1) third)
-            ∙ deaf-other (q == owner c.n (phase_of (round + 1)))
+            ∙ and_left (q == owner c.n (phase_of (round + 1)))
             (is_some (node_in c trace.steps q (round + 1)).proposal)
             (eqb-other q (owner c.n (phase_of (round + 1))) (q == owner c.n (phase_of (round + 1))) refl other)
 

@@ -4,6 +4,7 @@ use Rattle.std.specs.Prelude.{nat_lt}
 use Rattle.std.proofs.lemmas.Bool.{cases_lt, cases_eq, true≢false, eqb-true, eqb-false, and_parts, lt-ltb, ltb-true}
 use Rattle.std.proofs.lemmas.Option.{same_Some}
 use Rattle.std.proofs.lemmas.List.{get_or-replicate}
+use Rattle.std.proofs.lemmas.Bool.{or_right, not-true}
 use Rattle.patience_laws.proofs.Common.{Receive, Step, Setup, IsProc, IsWellFormed, step_at, step_at_within, part_of}
 use Rattle.patience_laws.proofs.Common.{round_at, act_ends, Peer, after_phase, unheard, Suspects, TakesOf}
 use Rattle.patience_laws.proofs.Common.{TakesNothingOf, WasSilent}
@@ -43,14 +44,6 @@ same-first true rounds e = elim (cases_eq (rounds % 4) 3) [
   | inl three ↦ absurd (eqb-false (part_of (rounds + 1)) 4 e (part-four rounds three))
   | inr other ↦ omega arith
 ]
-
-not-false : (b : Bool) → not b ≡ true → b ≡ false
-not-false true e = cc
-not-false false e = refl
-
-or-true : (a b : Bool) → b ≡ true → (a || b) ≡ true
-or-true true b e = refl
-or-true false b e = e
 
 -- at first nothing was heard of anybody
 opening : (c : Setup) (patience : ℕ) (steps : List Step) (p q : ℕ) → IsProc c q → peer_after c patience steps p q zero ≡ unheard
@@ -159,7 +152,7 @@ module _ (c : Setup) (patience : ℕ) (steps : List Step) (p q : ℕ) (w : IsWel
           ended ends three (inr listening) false e f = absurd (true≢false (sym f ∙ rw listening.spoke refl))
           ended ends three (inl deaf) false e f =
               let parts = and_parts (not x.mid.spoke) (nat_lt x.mid.latest (rounds_after steps p k + 1)) f in
-              let quiet : (peer_after c patience steps p q k).spoke ≡ false = sym (ap (λ (y : Peer). y.spoke) deaf.same) ∙ not-false x.mid.spoke parts.0 in
+              let quiet : (peer_after c patience steps p q k).spoke ≡ false = sym (ap (λ (y : Peer). y.spoke) deaf.same) ∙ not-true x.mid.spoke parts.0 in
               let late = ltb-true x.mid.latest (rounds_after steps p k + 1) parts.1 in
               let nothing : TakesNothingOf steps p q (first_after (rounds_after steps p k)) k = subst (IsSpoken k) quiet spoke in
               let e : first_after (rounds_after steps p k) ≡ rounds_after steps p k + 1 - 3 = omega arith in
@@ -245,7 +238,7 @@ module _ (c : Setup) (patience : ℕ) (steps : List Step) (p q : ℕ) (w : IsWel
                     let is_known = heard c patience steps p q w is k (omega arith) in
                     absurd (s.behind (heard-weaker steps p q (peer_after c patience steps p q k).latest s.round k s.place (omega arith) (omega arith) is_known)))
               ] in
-              ap (λ (y : Peer). y.suspected) (x.new ∙ part.2) ∙ or-true x.mid.suspected (not x.mid.spoke && nat_lt x.mid.latest (rounds_after steps p k + 1)) (rw (quiet, late) refl)
+              ap (λ (y : Peer). y.suspected) (x.new ∙ part.2) ∙ or_right x.mid.suspected (not x.mid.spoke && nat_lt x.mid.latest (rounds_after steps p k + 1)) (rw (quiet, late) refl)
             where
               silent-spoke : (b : Bool) → (peer_after c patience steps p q k).spoke ≡ b → IsSpoken k b → (peer_after c patience steps p q k).spoke ≡ false
               silent-spoke false f t = f

@@ -1,7 +1,7 @@
 -- What it means that some of the first steps are in a column.
 use Rattle.std.proofs.Common.{ℕ, ◌≡◌, ◌∙◌, ◌<◌, ◌≤◌, ◌==◌, Bool, true, false, inl, inr, ◌↔◌, List, length, Option, Some, None, if◌then◌else◌, refl, zero, suc, arith, ap}
 use Rattle.std.specs.Option.{option_map_or}
-use Rattle.std.proofs.lemmas.Bool.{cases_lt, eqb-true, le-leb, lt-ltb}
+use Rattle.std.proofs.lemmas.Bool.{cases_lt, eqb-true, le-leb, lt-ltb, and_parts, and_from}
 use Rattle.step_trace.specs.declared.processors.TheConstants.{MAX_MEMBER}
 use Rattle.step_trace.specs.declared.steps.Step.{Step}
 use Rattle.step_trace.specs.Ticks.{tick_of}
@@ -12,7 +12,6 @@ use Rattle.picture_marks.specs.declared.strokes.Strokes.{Strokes}
 use Rattle.picture_marks.specs.Messages.{proc_of}
 use Rattle.picture_marks.specs.Rows.{column_in}
 use Rattle.picture_marks.specs.Strokes.{StepsInColumn, ShowsSteps, busy_at, has_stroke, is_in_column, steps_to}
-use Rattle.picture_marks.proofs.ShownMarks.{both, both_of}
 
 -- a step whose processor is one
 step_of : (steps : List Step) (k p : ℕ) → 1 ≤ p → proc_of steps k ≡ p → IsStepOf steps k p
@@ -29,7 +28,7 @@ steps_so trace columns p c (suc n) low h = go (is_in_column trace columns p c (s
     go : (t : Bool) → is_in_column trace columns p c (suc n) ≡ t → (if t then true else steps_to trace columns p c n) ≡ true
         → (steps_to trace columns p c n ≡ true → StepsInColumn trace columns p c) → StepsInColumn trace columns p c
     go true e h before =
-        let t = both (proc_of trace.steps (suc n) == p) (column_in columns trace.last (tick_of trace (suc n)) == c) e in
+        let t = and_parts (proc_of trace.steps (suc n) == p) (column_in columns trace.last (tick_of trace (suc n)) == c) e in
         let step = step_of trace.steps (suc n) p low (eqb-true _ _ t.0) in
         record { tick = tick_of trace (suc n); steps = record { place = suc n; step = step; tick = refl }; column = eqb-true _ _ t.1 }
     go false e h before = before h
@@ -63,7 +62,7 @@ steps_exact trace columns p c low = (
 )
 
 has_marked : (s : Strokes) (p c : ℕ) → p ≤ MAX_MEMBER → c < COLUMNS → has_stroke s p c ≡ busy_at s.busy.items p c
-has_marked s p c high inside = let test = both_of _ _ (le-leb p MAX_MEMBER high) (lt-ltb c COLUMNS inside) in rw test refl
+has_marked s p c high inside = let test = and_from _ _ (le-leb p MAX_MEMBER high) (lt-ltb c COLUMNS inside) in rw test refl
 
 pub strokes_exact : (trace : Recorded) (s : Strokes)
     → ((p c : ℕ) → p ≤ MAX_MEMBER → c < COLUMNS → busy_at s.busy.items p c ≡ steps_to trace s.columns p c (length trace.steps)) → ShowsSteps trace s

@@ -1,7 +1,7 @@
 -- Which gaps a picture shows.
 use Rattle.std.proofs.Common.{ℕ, ◌≡◌, ◌+◌, ◌-◌, ◌≤◌, ◌&&◌, ◌==◌, Bool, true, false, not, List, length, Option, Some, None, refl, zero, suc, arith, ap, subst, ◌∙◌}
 use Rattle.std.specs.Option.{option_map_or, option_and_then}
-use Rattle.std.proofs.lemmas.Bool.{eqb-true}
+use Rattle.std.proofs.lemmas.Bool.{eqb-true, and_parts, and_from}
 use Rattle.std.proofs.lemmas.Option.{none-some, slice_get-get_or}
 use Rattle.step_trace.specs.declared.rows.Gap.{Gap}
 use Rattle.step_trace.specs.declared.rows.Row.{Row}
@@ -14,12 +14,14 @@ use Rattle.picture_marks.specs.declared.windows.Window.{Window}
 use Rattle.step_trace.specs.Processors.{has_proc}
 use Rattle.picture_marks.specs.Windows.{touches}
 use Rattle.picture_marks.specs.Gathered.{gathered}
-use Rattle.picture_marks.specs.Rows.{row_at, gap_at, share_end}
+use Rattle.step_trace.specs.ReportRows.{row_at}
+use Rattle.step_trace.proofs.ReportRows.{Contains-row_at, row_at_within}
+use Rattle.picture_marks.specs.Rows.{gap_at, share_end}
 use Rattle.picture_marks.specs.Pictures.{shown_gap, shows_gap}
 use Rattle.picture_marks.specs.Marks.{Touches, HasGap, IsShownGap, Covers, ShowsGaps}
 use Rattle.picture_marks.proofs.GatheredLists.{gathered_has, gathered_from}
-use Rattle.picture_marks.proofs.RowPlaces.{if_option, row_at-has, row_at-within, rows_rise}
-use Rattle.picture_marks.proofs.ShownMarks.{both, both_of, touches_so, touches_test}
+use Rattle.picture_marks.proofs.RowPlaces.{if_option, rows_rise}
+use Rattle.picture_marks.proofs.ShownMarks.{touches_so, touches_test}
 
 -- of two rows of a report the later one has no greater processor bound
 phi_falls : (set : ℕ) (trace : Recorded) (r s : Row) → IsReportRow set trace r → IsReportRow set trace s → r.gst ≤ s.gst → s.phi ≤ r.phi
@@ -35,8 +37,8 @@ gap_long set trace r a p e = (subst (λ o. NamesGap set trace r.gst r.phi o) e p
 first_covers : (set : ℕ) (trace : Recorded) (rows : List Row) (k : ℕ) (r s : Row) (a b : Gap) → IsReport set trace rows
     → row_at rows k ≡ Some r → row_at rows (suc k) ≡ Some s → r.gap ≡ Some a → s.gap ≡ Some b → a.proc ≡ b.proc → a.to ≡ b.to → Covers a b
 first_covers set trace rows k r s a b is e f g h same_proc same_end =
-    let p = is.sound r (row_at-has rows k r e) in
-    let q = is.sound s (row_at-has rows (suc k) s f) in
+    let p = is.sound r (Contains-row_at rows k r e) in
+    let q = is.sound s (Contains-row_at rows (suc k) s f) in
     let falls : s.phi ≤ r.phi = phi_falls set trace r s p q (rows_rise rows k r s is.rising e f) in
     let first : a.from + r.phi ≡ a.to + 2 = gap_long set trace r a p g in
     let second : b.from + s.phi ≡ b.to + 2 = gap_long set trace s b q h in
@@ -45,16 +47,16 @@ first_covers set trace rows k r s a b is e f g h same_proc same_end =
 -- the test of a gap, and what it means
 shown_gap_so : (w : Window) (lanes : ℕ) (a : Gap) → shows_gap w lanes a ≡ true → IsShownGap w lanes a
 shown_gap_so w lanes a h =
-    let t = both (touches w a.from a.to) (has_proc lanes a.proc) h in
+    let t = and_parts (touches w a.from a.to) (has_proc lanes a.proc) h in
     record { inside = touches_so w a.from a.to t.0; lane = t.1 }
 
 shown_test : (w : Window) (lanes : ℕ) (a : Gap) → IsShownGap w lanes a → shows_gap w lanes a ≡ true
-shown_test w lanes a t = both_of _ _ (touches_test w a.from a.to t.inside) t.lane
+shown_test w lanes a t = and_from _ _ (touches_test w a.from a.to t.inside) t.lane
 
 -- two gaps that share an end
 same_end_so : (o : Option Gap) (b : Gap) → share_end o (Some b) ≡ true → (a : Gap) × (o ≡ Some a) × (a.proc ≡ b.proc) × (a.to ≡ b.to)
 same_end_so None b h = cc
-same_end_so (Some a) b h = let t = both (a.proc == b.proc) (a.to == b.to) h in (a, refl, eqb-true _ _ t.0, eqb-true _ _ t.1)
+same_end_so (Some a) b h = let t = and_parts (a.proc == b.proc) (a.to == b.to) h in (a, refl, eqb-true _ _ t.0, eqb-true _ _ t.1)
 
 -- a row that has a gap
 with_gap : (rows : List Row) (k : ℕ) (a : Gap) → gap_at rows k ≡ Some a → (r : Row) × (row_at rows k ≡ Some r) × (r.gap ≡ Some a)
@@ -70,7 +72,7 @@ shown_so : (w : Window) (lanes : ℕ) (rows : List Row) (k : ℕ) (r : Row) → 
     → shown_gap w lanes rows k ≡ Some r
 shown_so w lanes rows k r e p q =
     let n : not (share_end (gap_at rows (k - 1)) (gap_at rows k)) ≡ true = rw q refl in
-    let t = both_of _ _ p n in
+    let t = and_from _ _ p n in
     rw t e
 
 -- a row up to number n that is shown and whose gap covers this one
@@ -130,13 +132,13 @@ gaps_exact set trace w lanes rows is = record {
       let i = if_option (option_map_or (λ x. shows_gap w lanes x) (gap_at rows y.0) false && not (share_end (gap_at rows (y.0 - 1)) (gap_at rows y.0))) (row_at rows y.0) g.0 y.3 in
       let h : gap_at rows y.0 ≡ Some a = rw i.1 g.2 in
       let passed : option_map_or (λ x. shows_gap w lanes x) (gap_at rows y.0) false ≡ true =
-      (both (option_map_or (λ x. shows_gap w lanes x) (gap_at rows y.0) false)
+      (and_parts (option_map_or (λ x. shows_gap w lanes x) (gap_at rows y.0) false)
       (not (share_end (gap_at rows (y.0 - 1)) (gap_at rows y.0))) i.0).0 in
-      ((g.0, row_at-has rows y.0 g.0 i.1, g.2), shown_gap_so w lanes a (rw h at passed));
+      ((g.0, Contains-row_at rows y.0 g.0 i.1, g.2), shown_gap_so w lanes a (rw h at passed));
   covered = λ b (g : HasGap rows b) t.
       let at_place : row_at rows (suc g.1.0) ≡ Some g.0 = slice_get-get_or rows g.1.0 g.0 g.1.1 ∙ ap (λ (x : Row). Some x) g.1.2 in
       let h : gap_at rows (suc g.1.0) ≡ Some b = rw at_place g.2 in
       let f = first_with set trace w lanes rows is (suc g.1.0) b t h in
-      let within = row_at-within rows f.place f.row f.at in
+      let within = row_at_within rows f.place f.row f.at in
       (f.has, (f.row, gathered_has (shown_gap w lanes rows) (length rows) f.place f.row within.0 within.1 f.shown, f.gap), f.covers);
 }

@@ -1,24 +1,14 @@
 -- Rows by their numbers.
 use Rattle.std.proofs.Common.{ℕ, ◌≡◌, ◌∙◌, ◌+◌, ◌<◌, ◌≤◌, Bool, true, false, List, length, map, get_or, Option, Some, None, if◌then◌else◌, refl, zero, suc, arith, sym, ap}
-use Rattle.std.specs.Prelude.{Contains}
 use Rattle.std.specs.List.Sorted.{IsStrictlyIncreasing}
 use Rattle.std.proofs.lemmas.List.{get_or-map, length-map}
 use Rattle.std.proofs.lemmas.Option.{none-some, same_Some, slice_get_within, slice_get-get_or}
 use Rattle.step_trace.specs.declared.rows.Row.{Row}
-use Rattle.step_trace.proofs.ListMembers.{Contains-slice_get}
-use Rattle.picture_marks.specs.Rows.{row_at}
+use Rattle.step_trace.specs.ReportRows.{row_at}
 
 pub if_option : {X : Type 0} (t : Bool) (o : Option X) (y : X) → (if t then o else None) ≡ Some y → (t ≡ true) × (o ≡ Some y)
 if_option true o y h = (refl, h)
 if_option false o y h = absurd (none-some y h)
-
-pub row_at-has : (rows : List Row) (k : ℕ) (r : Row) → row_at rows k ≡ Some r → Contains rows r
-row_at-has rows zero r e = absurd (none-some r e)
-row_at-has rows (suc k) r e = Contains-slice_get rows k r e
-
-pub row_at-within : (rows : List Row) (k : ℕ) (r : Row) → row_at rows k ≡ Some r → (1 ≤ k) × (k ≤ length rows)
-row_at-within rows zero r e = absurd (none-some r e)
-row_at-within rows (suc k) r e = let l : k < length rows = slice_get_within rows k r e in (omega arith, omega arith)
 
 -- where the row of this place begins
 begins_at : (rows : List Row) (k : ℕ) (r : Row) → row_at rows (suc k) ≡ Some r → get_or (map (λ x. x.gst) rows) k 0 ≡ r.gst

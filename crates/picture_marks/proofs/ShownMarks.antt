@@ -3,7 +3,7 @@ use Rattle.std.proofs.Common.{ℕ, ◌≡◌, ◌≤◌, ◌&&◌, ◌==◌, Boo
 use Rattle.std.specs.Prelude.{Contains, ◌↔◌}
 use Rattle.std.specs.List.{list_any}
 use Rattle.std.specs.Option.{option_map_or}
-use Rattle.std.proofs.lemmas.Bool.{leb-true, le-leb, cases_lt}
+use Rattle.std.proofs.lemmas.Bool.{leb-true, le-leb, cases_lt, and_parts, and_from}
 use Rattle.std.proofs.lemmas.Option.{same_Some, none-some}
 use Rattle.step_trace.specs.declared.steps.Act.{Act}
 use Rattle.step_trace.specs.declared.steps.Act.TheVariants.{Send, Receive}
@@ -23,22 +23,15 @@ use Rattle.picture_marks.specs.Pictures.{shown_step, shown_message}
 use Rattle.picture_marks.specs.Marks.{Touches, IsShownStep, IsTakenBy, IsShownMessage}
 use Rattle.picture_marks.proofs.GatheredLists.{gathered_has, gathered_from}
 
-pub both : (a b : Bool) → (a && b) ≡ true → (a ≡ true) × (b ≡ true)
-both true b h = (refl, h)
-both false b h = cc
-
-pub both_of : (a b : Bool) → a ≡ true → b ≡ true → (a && b) ≡ true
-both_of a b p q = rw (p, q) refl
-
 if_some : {X : Type 0} (t : Bool) (x y : X) → (if t then Some x else None) ≡ Some y → (t ≡ true) × (x ≡ y)
 if_some true x y h = (refl, same_Some x y h)
 if_some false x y h = absurd (none-some y h)
 
 pub touches_so : (w : Window) (a b : ℕ) → touches w a b ≡ true → Touches w a b
-touches_so w a b h = let t = both _ _ h in record { begins = leb-true a w.to t.0; ends = leb-true w.first b t.1 }
+touches_so w a b h = let t = and_parts _ _ h in record { begins = leb-true a w.to t.0; ends = leb-true w.first b t.1 }
 
 pub touches_test : (w : Window) (a b : ℕ) → Touches w a b → touches w a b ≡ true
-touches_test w a b t = both_of _ _ (le-leb a w.to t.begins) (le-leb w.first b t.ends)
+touches_test w a b t = and_from _ _ (le-leb a w.to t.begins) (le-leb w.first b t.ends)
 
 -- the test of a step
 abbrev step_test : Recorded → Window → ℕ → ℕ → Bool
@@ -48,14 +41,14 @@ pub steps_exact : (trace : Recorded) (w : Window) (lanes : ℕ) (s : ℕ) → Co
 steps_exact trace w lanes s = (
   (λ h. let y = gathered_from (shown_step trace w lanes) (length trace.steps) s h in go y.0 y.1 y.2 y.3),
   (λ (g : IsShownStep trace w lanes s).
-      let test : step_test trace w lanes s ≡ true = both_of _ _ (touches_test w (tick_of trace s) (tick_of trace s) g.inside) g.lane in
+      let test : step_test trace w lanes s ≡ true = and_from _ _ (touches_test w (tick_of trace s) (tick_of trace s) g.inside) g.lane in
       gathered_has (shown_step trace w lanes) (length trace.steps) s s g.low g.high (rw test refl)),
 )
   where
     go : (k : ℕ) → 1 ≤ k → k ≤ length trace.steps → shown_step trace w lanes k ≡ Some s → IsShownStep trace w lanes s
     go k low high e =
         let f = if_some (step_test trace w lanes k) k s e in
-        let t = both (touches w (tick_of trace k) (tick_of trace k)) (has_proc lanes (proc_of trace.steps k)) f.0 in
+        let t = and_parts (touches w (tick_of trace k) (tick_of trace k)) (has_proc lanes (proc_of trace.steps k)) f.0 in
         rw (← f.1) (record { low = low; high = high; inside = touches_so w (tick_of trace k) (tick_of trace k) t.0; lane = t.1 })
 
 -- a test of a step that passes has a step
@@ -122,19 +115,19 @@ act_so lanes (Receive ends ids) h = cc
 sends_so : (lanes : ℕ) (o : Option Step) → option_map_or (λ x. sends_to_lane lanes x.act && has_proc lanes x.proc) o false ≡ true → SendsBetween lanes o
 sends_so lanes None h = cc
 sends_so lanes (Some x) h =
-    let t = both (sends_to_lane lanes x.act) (has_proc lanes x.proc) h in
+    let t = and_parts (sends_to_lane lanes x.act) (has_proc lanes x.proc) h in
     let y = act_so lanes x.act t.0 in
     record { to = y.0; proc = x.proc; step = ap (λ (a : Act). Some (record { proc = x.proc; act = a })) y.1; begins = t.1; ends = y.2 }
 
 sends_test : (lanes : ℕ) (steps : List Step) (s to : ℕ) → IsSentTo steps s to → has_proc lanes (proc_of steps s) ≡ true → has_proc lanes to ≡ true → sends_between lanes steps s ≡ true
 sends_test lanes steps s to h begins ends =
     let from : has_proc lanes h.0 ≡ true = rw h.1 at begins in
-    rw h.1 (both_of (has_proc lanes to) (has_proc lanes h.0) ends from)
+    rw h.1 (and_from (has_proc lanes to) (has_proc lanes h.0) ends from)
 
 shown_so : (trace : Recorded) (w : Window) (lanes : ℕ) (m : Message) → sends_between lanes trace.steps m.sent ≡ true → taker trace.steps (length trace.steps) m.sent ≡ m.taken
     → touches w (tick_of trace m.sent) (end_of trace m) ≡ true → shown_message trace w lanes m.sent ≡ Some m
 shown_so trace w lanes m p e q =
-    let test : (sends_between lanes trace.steps m.sent && touches w (tick_of trace m.sent) (end_of trace m)) ≡ true = both_of _ _ p q in
+    let test : (sends_between lanes trace.steps m.sent && touches w (tick_of trace m.sent) (end_of trace m)) ≡ true = and_from _ _ p q in
     rw (e, test) refl
 
 is_shown : (trace : Recorded) (w : Window) (lanes : ℕ) (s : ℕ) → sends_between lanes trace.steps s ≡ true → touches w (tick_of trace s) (end_of trace (message_of trace.steps s)) ≡ true
@@ -165,6 +158,6 @@ messages_exact trace w lanes m is = (
     from_number : (k : ℕ) → shown_message trace w lanes k ≡ Some m → IsShownMessage trace w lanes m
     from_number k e =
         let f = if_some (sends_between lanes trace.steps k && touches w (tick_of trace k) (end_of trace (message_of trace.steps k))) (message_of trace.steps k) m e in
-        let t = both _ _ f.0 in
+        let t = and_parts _ _ f.0 in
         let P : Message → Type 0 = λ x. IsShownMessage trace w lanes x in
         subst P f.1 (is_shown trace w lanes k t.0 t.1)

@@ -14,7 +14,8 @@ use Rattle.step_trace.specs.Processors.{has_proc}
 use Rattle.picture_marks.specs.Windows.{touches}
 use Rattle.picture_marks.specs.Gathered.{gathered}
 use Rattle.picture_marks.specs.Messages.{message_of, end_of, proc_of, sends_between}
-use Rattle.picture_marks.specs.Rows.{row_at, miss_at, gap_at, same_miss, share_end, share_column}
+use Rattle.step_trace.specs.ReportRows.{row_at}
+use Rattle.picture_marks.specs.Rows.{miss_at, gap_at, same_miss, share_end, share_column}
 use Rattle.picture_marks.specs.Strokes.{columns_for}
 
 -- step s, if its tick is in the window and its processor has a lane

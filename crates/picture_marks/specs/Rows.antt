@@ -1,15 +1,12 @@
 -- The rows of a report, by their numbers from 1 on (own).
 use Rattle.std.specs.Prelude.{ℕ, ◌-◌, ◌*◌, ◌/◌, ◌==◌, ◌&&◌, Bool, false, List}
-use Rattle.std.specs.Prelude.{Option, Some, None, slice_get, max, suc, zero}
+use Rattle.std.specs.Prelude.{Option, Some, None, max}
 use Rattle.std.specs.Option.{option_and_then}
 use Rattle.step_trace.specs.declared.rows.Miss.{Miss}
 use Rattle.step_trace.specs.declared.rows.Gap.{Gap}
 use Rattle.step_trace.specs.declared.rows.Row.{Row}
+use Rattle.step_trace.specs.ReportRows.{row_at}
 use Rattle.picture_marks.specs.declared.report_rows.TheConstants.{COLUMNS}
-
-abbrev pub row_at : List Row → ℕ → Option Row
-row_at rows zero = None
-row_at rows (suc k) = slice_get rows k
 
 -- the miss of a row
 abbrev pub miss_at : List Row → ℕ → Option Miss

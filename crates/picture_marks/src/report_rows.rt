@@ -1,7 +1,8 @@
 //! The rows of a report whose witnesses or corners are drawn.
 
 ghost use Rattle.std.specs.Prelude.{◌≡◌, ◌<◌, ◌^◌};
-ghost use Rattle.picture_marks.specs.Rows.{row_at, miss_at, gap_at, same_miss, share_end};
+ghost use Rattle.step_trace.specs.ReportRows.{row_at};
+ghost use Rattle.picture_marks.specs.Rows.{miss_at, gap_at, same_miss, share_end};
 ghost use Rattle.picture_marks.specs.Rows.{column, column_in, share_column};
 ghost use Rattle.picture_marks.specs.Pictures.{shown_miss, shown_gap, shows_gap, shows_miss, corner};
 

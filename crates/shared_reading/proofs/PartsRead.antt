@@ -17,15 +17,16 @@ use Rattle.trace_text.specs.Records.{◌>>=◌, records_of_text}
 use Rattle.trace_text.specs.TextRefusals.{Gives, is_memory, trace_at_end, trace_of_records, trace_of_text}
 use Rattle.trace_text.proofs.TableReasons.{never-answered, never-reached}
 use Rattle.trace_text.proofs.TextLaws.{gives-sound, gives-stands}
+use Rattle.trace_text.proofs.TakenRecords.{unless}
 use Rattle.shared_reading.specs.Seams.{has_quote, ends_line}
 use Rattle.shared_reading.specs.Pieces.{IsUnmarked, read_on}
 use Rattle.shared_reading.specs.declared.progress.Progress.{Progress}
 use Rattle.shared_reading.specs.DeviceTexts.{IsReadTo, IsTaken, IsGiven, IsRefusalOf, IsRefused, IsReadOut, IsTraceRead, IsUnread}
-use Rattle.shared_reading.proofs.PieceLemmas.{unless, read_on-ok, read_on-err}
+use Rattle.shared_reading.proofs.PieceLemmas.{read_on-ok, read_on-err}
 use Rattle.shared_reading.proofs.QuoteFree.{seam}
 
 -- a text, and what comes behind it, is its front, and then the rest with what comes behind it
-front-rest : (rest more : List ℕ) (cut : ℕ) → rest ++ more ≡ take cut rest ++ (drop cut rest ++ more)
+pub front-rest : (rest more : List ℕ) (cut : ℕ) → rest ++ more ≡ take cut rest ++ (drop cut rest ++ more)
 front-rest rest more cut = ap (λ xs. xs ++ more) (sym (take-append-drop cut rest)) ∙ append_assoc (take cut rest) (drop cut rest) more
 
 -- a front that may be cut off is taken
@@ -162,7 +163,7 @@ given-faults known (Err e) n h = faults-kept Recorded e n (never-answered (recor
 pub gives-refusal : (e : TextError) (table : Result Stage TextError) → MatchBool (is_memory e) ⊤ (table ≡ Err e) → Gives (Err e) (table >>= trace_at_end)
 gives-refusal e table = unless (is_memory e) _ _ (err-stays e table)
 
-may-be : (m : Bool) (P : Type 0) → P → MatchBool m ⊤ P
+pub may-be : (m : Bool) (P : Type 0) → P → MatchBool m ⊤ P
 may-be true P h = tt
 may-be false P h = h
 

@@ -1,9 +1,9 @@
 -- A trace that takes the steps of a piece goes on where the piece ends.
 use Rattle.std.proofs.Common.{◌≡◌, ◌==◌, ◌≤◌, ◌+◌, ◌-◌, ◌∙◌, ℕ, suc, List, [], ◌∷◌, ◌++◌, length, drop, Option, Some}
-use Rattle.std.proofs.Common.{None, is_some, Result, Ok, Err, Bool, true, false, refl, sym, ap, subst, arith, nat_eq}
+use Rattle.std.proofs.Common.{None, is_some, Result, Ok, Err, true, false, refl, sym, ap, subst, arith, nat_eq}
 use Rattle.std.proofs.Common.{not, slice_index_or}
 use Rattle.std.specs.Prelude.{MatchBool, ⊤}
-use Rattle.std.proofs.lemmas.Bool.{not-true}
+use Rattle.std.proofs.lemmas.Bool.{not-true, false_from_ne_true}
 use Rattle.std.proofs.lemmas.List.{drop-drop, take-append-drop}
 use Rattle.csv.specs.Reading.{strip_bom}
 use Rattle.memchr.specs.Find.{IsFirstByte, Nowhere, Passes, is_byte}
@@ -12,20 +12,16 @@ use Rattle.trace_text.specs.declared.reading.Stage.{Stage}
 use Rattle.trace_text.specs.declared.refusals.TextError.{TextError}
 use Rattle.trace_text.specs.Records.{◌>>=◌, after_records, records_of_text}
 use Rattle.trace_text.specs.TextRefusals.{next_stage, is_memory}
-use Rattle.trace_text.proofs.TakenRecords.{after_records-append}
+use Rattle.trace_text.proofs.TakenRecords.{after_records-append, unless}
 use Rattle.shared_reading.specs.Seams.{has_quote, ends_line, IsSeam}
 use Rattle.shared_reading.proofs.QuoteFree.{seam}
 use Rattle.shared_reading.specs.declared.pieces.Found.{Found}
 use Rattle.shared_reading.specs.Pieces.{part, read_on, IsFound, IsUnmarked, LeadsAlone}
 
-not-yes : (b : Bool) → (b ≡ true → ⊥) → b ≡ false
-not-yes false h = refl
-not-yes true h = absurd (h refl)
-
 -- no byte is a quote
 quoteless : (xs : List ℕ) → Nowhere (Passes (is_byte 34) xs) 0 (length xs) → has_quote xs ≡ false
 quoteless [] h = refl
-quoteless (x ∷ xs) h = rw (not-yes (x == 34) (λ e. h 0 (omega arith) (omega arith) e), quoteless xs (λ k low high e. h (suc k) (omega arith) (omega (arith, high)) e)) refl
+quoteless (x ∷ xs) h = rw (false_from_ne_true (x == 34) (λ e. h 0 (omega arith) (omega arith) e), quoteless xs (λ k low high e. h (suc k) (omega arith) (omega (arith, high)) e)) refl
 
 -- the search for one found none
 pub quoteless-by : (xs : List ℕ) (place : Option ℕ) → IsFirstByte (is_byte 34) xs place → is_some place ≡ false → has_quote xs ≡ false
@@ -60,7 +56,7 @@ unmarked-before [] some h more = absurd (some refl)
 unmarked-before (x ∷ xs) some h more = unmarked (x ∷ (xs ++ more)) (not-true _ h)
 
 -- records after those of which one is refused make no difference
-append-stops : {S E : Type 0} (next : S → List (List ℕ) → Result S E) (a : S) (e : E) (xs ys : List (List (List ℕ))) → after_records next a xs ≡ Err e → after_records next a (xs ++ ys) ≡ Err e
+pub append-stops : {S E : Type 0} (next : S → List (List ℕ) → Result S E) (a : S) (e : E) (xs ys : List (List (List ℕ))) → after_records next a xs ≡ Err e → after_records next a (xs ++ ys) ≡ Err e
 append-stops {S = S} next a e [] ys h = cc h
 append-stops {S = S} {E = E} next a e (x ∷ xs) ys h = go (λ s k. append-stops next s e xs ys k) (next a x) h where
   go : ((s : S) → after_records next s xs ≡ Err e → after_records next s (xs ++ ys) ≡ Err e) → (r : Result S E)
@@ -80,11 +76,6 @@ pub part-rest : (text : List ℕ) (from end : ℕ) → from ≤ end → drop fro
 part-rest text from end order =
     let e : from + (end - from) ≡ end = omega (arith, order) in
     sym (take-append-drop (end - from) (drop from text)) ∙ ap (λ (xs : List ℕ). part text from end ++ xs) (drop-drop (end - from) from text ∙ ap (λ k. drop k text) e)
-
--- what follows from a refusal follows unless it is out of memory
-pub unless : (b : Bool) (P Q : Type 0) → (P → Q) → MatchBool b ⊤ P → MatchBool b ⊤ Q
-unless true P Q f h = h
-unless false P Q f h = f h
 
 -- a part of a text, which may be cut off behind it, was read
 pub part-read : (s t : Stage) (text : List ℕ) (from end : ℕ) → from ≤ end → has_quote (part text from end) ≡ false → ends_line (part text from end) ≡ true → strip_bom (drop end text) ≡ drop end text

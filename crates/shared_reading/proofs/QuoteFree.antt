@@ -91,7 +91,7 @@ cond-append : (t : Bool) (xs ys b : List ℕ) → cond t (xs ++ b) (ys ++ b) ≡
 cond-append true xs ys b = refl
 cond-append false xs ys b = refl
 
-strip-one : (b : List ℕ) → strip_bom (10 ∷ b) ≡ 10 ∷ b
+pub strip-one : (b : List ℕ) → strip_bom (10 ∷ b) ≡ 10 ∷ b
 unfolding strip_bom
 strip-one [] = refl
 strip-one (y ∷ []) = refl

@@ -8,13 +8,14 @@ use Rattle.trace_text.specs.declared.reading.Stage.TheVariants.{Opening}
 use Rattle.trace_text.specs.declared.refusals.TextError.{TextError}
 use Rattle.trace_text.specs.TextRefusals.{is_memory}
 use Rattle.trace_text.specs.declared.versions.Version.{Version}
+use Rattle.trace_text.proofs.TakenRecords.{unless}
 use Rattle.shared_reading.specs.declared.pieces.Found.{Found}
 use Rattle.shared_reading.specs.Pieces.{IsFound, IsUnmarked, LeadsAlone, read_on}
 use Rattle.shared_reading.specs.declared.progress.Progress.{Progress}
 use Rattle.shared_reading.specs.declared.under_way.UnderWay.{UnderWay}
 use Rattle.shared_reading.specs.DeviceTexts.{IsReadTo, IsTaken}
 use Rattle.shared_reading.specs.UnderWay.{IsMoved, bytes_in, bytes_of}
-use Rattle.shared_reading.proofs.PieceLemmas.{unless, read_on-ok, read_on-err}
+use Rattle.shared_reading.proofs.PieceLemmas.{read_on-ok, read_on-err}
 use Rattle.shared_reading.proofs.QuoteFree.{seam}
 
 -- what begins with no mark begins with none, with any text behind it

@@ -38,7 +38,7 @@ both A B (inl a) (inl b) = inl (a, b)
 both A B (inl a) (inr n) = inr (λ h. n h.1)
 both A B (inr n) b = inr (λ h. n h.0)
 
-below : (a b : ℕ) → (a < b) ⊎ (¬ (a < b))
+pub below : (a b : ℕ) → (a < b) ⊎ (¬ (a < b))
 below a b = elim (cases_lt a b) [ inl l ↦ inl l | inr l ↦ inr (λ m. absurd (omega arith)) ]
 
 -- some number up to n passes, or none

@@ -29,3 +29,4 @@ pub mod BoundDecisions
 pub mod ListMembers
 pub mod LeastBounds
 pub mod FrontCriterion
+pub mod ReportRows

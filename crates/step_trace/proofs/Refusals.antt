@@ -60,7 +60,7 @@ is_rising-true [] h = λ k l. absurd (omega arith)
 is_rising-true (x ∷ xs) h = rising_from x xs h
 
 -- the test of processors is their definition
-proc_from : (c : Setup) (p : ℕ) → is_proc c p ≡ true → IsProc c p
+pub proc_from : (c : Setup) (p : ℕ) → is_proc c p ≡ true → IsProc c p
 proc_from c p h = (grind (arith, nat_tests), grind (arith, nat_tests))
 
 -- an act that sends to p is a Send to p

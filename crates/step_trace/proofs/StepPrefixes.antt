@@ -31,7 +31,7 @@ tick_kept list first b (suc s) l = ap (λ xs. tick_at xs (suc s)) b.whole ∙ ge
 IsSentTo-prefix : (steps more : List Step) (s p : ℕ) → s ≤ length steps → IsSentTo (steps ++ more) s p → IsSentTo steps s p
 IsSentTo-prefix steps more s p l h = (h.0, sym (step_at-prefix steps more s l) ∙ h.1)
 
-TakesAt-prefix : (steps more : List Step) (k s : ℕ) → TakesAt steps k s → TakesAt (steps ++ more) k s
+pub TakesAt-prefix : (steps more : List Step) (k s : ℕ) → TakesAt steps k s → TakesAt (steps ++ more) k s
 TakesAt-prefix steps more k s h = (h.0, step_at-prefix_old steps more k h.0 h.1, h.2)
 
 pub IsWellFormed-prefix : (c : Setup) (steps more : List Step) → IsWellFormed c (steps ++ more) → IsWellFormed c steps

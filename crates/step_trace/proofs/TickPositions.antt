@@ -30,6 +30,11 @@ step_exists [] k l = absurd (omega arith)
 step_exists (x ∷ steps) zero l = (x, refl)
 step_exists (x ∷ steps) (suc k) l = step_exists steps k (let m : suc k < suc (length steps) = l in omega arith)
 
+-- the same by the number
+pub step_there : (steps : List Step) (n : ℕ) → 1 ≤ n → n ≤ length steps → (x : Step) × (step_at steps n ≡ Some x)
+step_there steps zero low high = absurd (omega (arith, low))
+step_there steps (suc k) low high = step_exists steps k (omega (arith, high))
+
 index-past : (ts : List ℕ) (k : ℕ) → length ts ≤ k → slice_index_or ts k 0 ≡ 0
 index-past [] zero l = refl
 index-past [] (suc k) l = refl

@@ -26,3 +26,4 @@ pub mod DeliveryIndex
 pub mod Bounds
 pub mod Witnesses
 pub mod Fronts
+pub mod ReportRows

@@ -47,7 +47,7 @@ received-at (x ∷ idles) [] j d r l = absurd r
 received-at (x ∷ idles) (e ∷ added) zero d r l = (e, refl, r.0)
 received-at (x ∷ idles) (e ∷ added) (suc j) d r l = received-at idles added j d r.1 (omega arith)
 
-nothing-received : (act : EventAct) → IsOfNothing act → received_in act ≡ []
+pub nothing-received : (act : EventAct) → IsOfNothing act → received_in act ≡ []
 nothing-received (Send to) h = absurd h
 nothing-received (Receive messages) h = h
 

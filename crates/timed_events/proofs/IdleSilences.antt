@@ -2,7 +2,7 @@
 use Rattle.std.proofs.Common.{ℕ, ◌≡◌, ◌+◌, ◌-◌, ◌<◌, ◌≤◌, ◌⊎◌, inl, inr, Bool, true, false, cond, not, ◌&&◌, List, [], ◌∷◌, ◌++◌, length, refl, sym, ap, ap₂, ◌∙◌, subst, arith}
 use Rattle.std.specs.Prelude.{slice_index, nat_lt}
 use Rattle.std.specs.List.{All, Contains}
-use Rattle.std.proofs.lemmas.Bool.{cases_lt, lt-ltb, le-ltb}
+use Rattle.std.proofs.lemmas.Bool.{cases_lt, lt-ltb, le-ltb, and_parts, not-true}
 use Rattle.std.proofs.lemmas.List.{get_or-map, get_or_append_left}
 use Rattle.std.proofs.lemmas.Grind.{common_steps}
 use Rattle.std.proofs.lemmas.List.Elements.{All-push, Contains-push, Contains-append_left}
@@ -42,19 +42,10 @@ short-latest events ticks limit p t u y h e s = go (cases_lt s.since u) (cases_l
   go (inr more) (inl less) f (inr has) = absurd (h.silent s.since less (let b = some in omega arith) has)
   go (inr more) (inr least) f g = let a = some in let b = short in (omega arith, omega arith)
 
-both_true : (a b : Bool) → (a && b) ≡ true → (a ≡ true) × (b ≡ true)
-both_true true true h = (refl, refl)
-both_true true false h = absurd (cc)
-both_true false b h = absurd (cc)
-
-not_true : (a : Bool) → not a ≡ true → a ≡ false
-not_true true h = absurd (cc)
-not_true false h = refl
-
 short-is : (since y limit : ℕ) → is_short since y limit ≡ true → (since < y) × (y ≤ since + limit)
 short-is since y limit h =
-    let b = both_true (nat_lt since y) (not (nat_lt limit (y - since))) h in
-    let c = not_true (nat_lt limit (y - since)) b.1 in
+    let b = and_parts (nat_lt since y) (not (nat_lt limit (y - since))) h in
+    let c = not-true (nat_lt limit (y - since)) b.1 in
     let d = b.0 in
     let l : since < y = grind arith in
     let m : y - since ≤ limit = grind arith in

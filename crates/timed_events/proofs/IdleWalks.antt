@@ -15,7 +15,7 @@ use Rattle.timed_events.specs.IdleWalks.{noted, IsLatestBefore, IsLastAmong, IsN
 use Rattle.timed_events.specs.Orders.{IsOrder}
 use Rattle.timed_events.proofs.IdleSilences.{latest-short, short-latest, noted-all, noted-kept, noted-new, noted-rising}
 use Rattle.timed_events.proofs.SortedEvents.{place-found, places-inside}
-use Rattle.timed_events.proofs.SpreadSteps.{all-zero}
+use Rattle.timed_events.proofs.CausalWalks.{zero-each}
 
 -- events in the order of their moments, in ticks from 1 on
 pub record AreInOrder (events : List Event) (ticks order : List ℕ) : Type 0 where
@@ -211,7 +211,7 @@ pub walked-start : (events : List Event) (ticks order : List ℕ) (limit : ℕ) 
 walked-start events ticks order limit lasts idles e f = record {
   wide = ap length e ∙ length-replicate {A = ℕ} MAX_PROCESSORS 0;
   after = λ m b. absurd (omega arith);
-  source = λ s. inl (ap (λ xs. slice_index xs s) e ∙ all-zero MAX_PROCESSORS s);
+  source = λ s. inl (ap (λ xs. slice_index xs s) e ∙ zero-each MAX_PROCESSORS s);
   each = subst (λ xs. All (IsNoted events ticks order limit 0) xs) (sym f) (All-nil (IsNoted events ticks order limit 0));
   all = λ m y b. absurd (omega arith);
   rising = subst AreRising (sym f) (λ j k b l. absurd (omega arith));

@@ -32,7 +32,7 @@ pub record AreChained (events : List Event) (order : List ℕ) (k : ℕ) (firsts
       → (slice_index nexts (slice_index order m) < length events)
       × IsFrom events (slice_index nexts (slice_index order m)) j
 
-same-each : (n x i : ℕ) → i < n → slice_index (replicate n x) i ≡ x
+pub same-each : (n x i : ℕ) → i < n → slice_index (replicate n x) i ≡ x
 same-each zero x i l = absurd (omega arith)
 same-each (suc n) x zero l = refl
 same-each (suc n) x (suc i) l = same-each n x i (omega arith)

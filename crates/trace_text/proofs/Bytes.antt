@@ -6,6 +6,7 @@ use Rattle.std.proofs.Math.Seq.{take-add}
 use Rattle.std.proofs.lemmas.Bool.{ne_eqb}
 use Rattle.std.proofs.lemmas.List.{length-take-le, take_at}
 use Rattle.std.specs.Io.KnownBytes.{Appends, Consumes, IsAtEnd}
+use Rattle.std.proofs.KnownBytes.{Consumes-trans}
 use Rattle.trace_text.specs.ByteLoops.{bytes_read}
 use Rattle.trace_text.specs.Faults.{one_more, Rose}
 
@@ -28,13 +29,6 @@ wrote_more None b c text n k h m = tt
 wrote_more (Some xs) None c text n k h m = absurd h
 wrote_more (Some xs) (Some ys) None text n k h m = absurd m
 wrote_more (Some xs) (Some ys) (Some zs) text n k h m = rw (rest_of_text text n) at m ∙ rw h (append_assoc xs (take n text) (take k (drop n text)) ∙ ap (λ r. xs ++ r) (sym (take-add n k text)))
-
--- what was read, and then the first n bytes of the buffer
-pub read_more : (a b c : Option (List ℕ)) (text more : List ℕ) → Consumes a b text → Consumes b c more → Consumes a c (text ++ more)
-read_more None b c text more h k = tt
-read_more (Some xs) None c text more h k = absurd h
-read_more (Some xs) (Some ys) None text more h k = absurd k
-read_more (Some xs) (Some ys) (Some zs) text more h k = h ∙ rw k (sym (append_assoc text more zs))
 
 -- more bytes came than there was room for, so there were more than the limit
 pub too_many : (a b c : Option (List ℕ)) (text buf : List ℕ) (n limit : ℕ) → Consumes a b text
@@ -63,7 +57,7 @@ pub text_grows : (a b c : Option (List ℕ)) (text grown buf old whole : List �
 text_grows a b c text grown buf old whole n len taken h k e w t g =
     let same : whole ≡ buf = w ∙ take_at buf (drop (length buf) old) len e in
     let more : grown ≡ text ++ take n buf = rw (t, same) at g in
-    rw more (read_more a b c text (take n buf) h k)
+    rw more (Consumes-trans a b c text (take n buf) h k)
 
 -- a count that went up by one rose, or was at its end
 pub rose_by_one : (old kept new : ℕ) → kept ≡ old → new ≡ one_more kept → Rose old new

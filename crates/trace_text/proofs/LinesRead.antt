@@ -29,7 +29,7 @@ unfolding Reached
 Reached-lines [] lines = (refl, refl)
 Reached-lines (r ∷ rs) lines = ((r, st.StartRecord, text_of_records rs), line-read r (text_of_records rs) lines.0 lines.1, refl, Reached-lines rs lines.2)
 
-end-read : next_record default_config st.StartRecord [] [] [] ≡ None
+pub end-read : next_record default_config st.StartRecord [] [] [] ≡ None
 unfolding next_record
 end-read = refl
 

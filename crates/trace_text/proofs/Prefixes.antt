@@ -2,15 +2,12 @@
 use Rattle.std.proofs.Common.{ℕ, suc, ◌≡◌, ◌<◌, ◌≤◌, inl, inr, ◌∙◌, List, [], ◌∷◌, ◌++◌, length, Some, refl, sym, ap, subst, arith, length-append}
 use Rattle.step_trace.specs.declared.steps.Step.{Step}
 use Rattle.step_trace.specs.Configurations.{Setup}
-use Rattle.step_trace.specs.Traces.{Recorded, step_at, TakesAt}
+use Rattle.step_trace.specs.Traces.{Recorded, step_at}
 use Rattle.step_trace.specs.Ticks.{tick_at, ComesBefore, IsTimed, IsTrace, CanAppend, with_step}
 use Rattle.step_trace.proofs.StepPositions.{step_at_within}
 use Rattle.step_trace.proofs.TickOrder.{ticks_rise}
 use Rattle.step_trace.proofs.TickPositions.{tick_at-push_old, tick_at-push_last, tick_of-limit, step_exists}
-use Rattle.step_trace.proofs.StepPrefixes.{step_at-prefix_old, IsWellFormed-prefix, tick_kept}
-
-front-takes : (xs ys : List Step) (k s : ℕ) → TakesAt xs k s → TakesAt (xs ++ ys) k s
-front-takes xs ys k s h = (h.0, step_at-prefix_old xs ys k h.0 h.1, h.2)
+use Rattle.step_trace.proofs.StepPrefixes.{step_at-prefix_old, IsWellFormed-prefix, tick_kept, TakesAt-prefix}
 
 -- the tick of the next step
 pub place-value : (ts : List ℕ) (t : ℕ) (us : List ℕ) → t ≡ tick_at (ts ++ t ∷ us) (suc (length ts))
@@ -43,7 +40,7 @@ IsTimed-front c xs ys ts us last long w = record {
   order = λ j k a b l h g.
       order j k a b (same j (step_at_within xs j a h).1) (same k (step_at_within xs k b g).1) (w.time.order j k a b l (step_at-prefix_old xs ys j a h) (step_at-prefix_old xs ys k b g));
   later = λ k s t.
-      let m = w.time.later k s (front-takes xs ys k s t) in
+      let m = w.time.later k s (TakesAt-prefix xs ys k s t) in
       let here = (step_at_within xs k t.0 t.1).1 in
       let before = (w.steps.earlier k s t.0 (step_at-prefix_old xs ys k t.0 t.1) t.2).0 in
       let e = same k here in

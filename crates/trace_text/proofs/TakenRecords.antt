@@ -26,7 +26,7 @@ after_records-stops : {S E : Type 0} (next : S → List (List ℕ) → Result S 
 after_records-stops next a b f xs rest all x h k e =
     rw (e, append_assoc xs (x ∷ []) rest) (after_records-append next a b xs (x ∷ rest) h ∙ ap (λ r. r >>= λ s. after_records next s rest) k)
 
-unless : (t : Bool) (P Q : Type 0) → (P → Q) → MatchBool t ⊤ P → MatchBool t ⊤ Q
+pub unless : (t : Bool) (P Q : Type 0) → (P → Q) → MatchBool t ⊤ P → MatchBool t ⊤ Q
 unless true P Q f h = h
 unless false P Q f h = f h
 

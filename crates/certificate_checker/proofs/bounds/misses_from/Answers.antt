@@ -1,7 +1,7 @@
 use Rattle.std.proofs.Common.{inl, inr, ◌≡◌, ◌+◌, ◌-◌, ap, arith}
 use Rattle.std.proofs.lemmas.Bool.{cases_eq}
+use Rattle.step_trace.proofs.TickPositions.{step_there}
 use Rattle.certificate_checker.proofs.Common.{tick_of, step_at_within, ticks_rise}
-use Rattle.certificate_checker.proofs.StepFacts.{step_there}
 use Rattle.certificate_checker.proofs.LongerWitnesses.{KnowsMissesAfter-earlier, span_of_last, span_of_longest}
 use Rattle.certificate_checker.proofs.bounds.misses_from.Goals as goal
 
