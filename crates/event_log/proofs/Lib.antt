@@ -13,7 +13,6 @@ pub mod SentLaws
 pub mod SeenEvents
 pub mod SoundLogs
 pub mod Stages
-pub mod Texts
 pub mod Views
 pub mod PlainLines
 pub mod ToldLines

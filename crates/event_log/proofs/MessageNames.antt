@@ -1,7 +1,8 @@
 -- The names of messages in a field.
 use Rattle.std.proofs.Common.{◌≡◌, ℕ, ◌<◌, ◌==◌, arith, List, [], ◌∷◌, length, true, refl}
 use Rattle.std.specs.List.{list_all, slice_split}
-use Rattle.event_log.specs.Names.{are_message_names, is_message_name, parts_of}
+use Rattle.trace_text.specs.Names.{is_message_name, words_of}
+use Rattle.event_log.specs.Names.{are_message_names}
 
 -- an empty field has none
 pub no-names : (field : List ℕ) → length field ≡ 0 → true ≡ are_message_names field
@@ -14,12 +15,3 @@ pub are-split : (field : List ℕ) → 0 < length field → are_message_names fi
 unfolding are_message_names
 are-split [] lt = absurd (omega (arith, lt))
 are-split (b ∷ bs) lt = refl
-
--- the same of the parts themselves
-pub parts-none : (field : List ℕ) → length field ≡ 0 → parts_of field ≡ []
-parts-none [] e = refl
-parts-none (b ∷ bs) e = absurd (omega (arith, e))
-
-pub parts-split : (field : List ℕ) → 0 < length field → parts_of field ≡ slice_split (λ byte. byte == 32) field
-parts-split [] lt = absurd (omega (arith, lt))
-parts-split (b ∷ bs) lt = refl

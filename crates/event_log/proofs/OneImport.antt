@@ -32,7 +32,7 @@ use Rattle.event_log.specs.TakenEvents.{kept_count, removed_by}
 use Rattle.event_log.specs.TickClocks.{clock_in}
 use Rattle.event_log.specs.LogRecords.{Said, accepted, are_messages, are_nodes_by, bad_node_by, is_node, moment_as, name_in, said_by, said_of, verb_of}
 use Rattle.event_log.specs.Logs.{SeenLog, resolved_log}
-use Rattle.event_log.specs.Names.{has_name}
+use Rattle.trace_text.specs.Names.{has_name}
 use Rattle.event_log.specs.Stages.{header_stage, names_stage, rules, says_of, staged_log, with_said}
 use Rattle.event_log.specs.Times.{settled}
 use Rattle.event_log.proofs.OneAlignment.{aligned-once}

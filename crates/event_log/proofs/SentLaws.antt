@@ -11,7 +11,7 @@ use Rattle.std.proofs.lemmas.Nat.{from_be_bytes-to_be_bytes_8}
 use Rattle.std.proofs.lemmas.List.Elements.{All-head, All-tail}
 use Rattle.trace_text.proofs.Numbers.{bytes_eq-same, same-from_bytes_eq}
 use borrow.Author.Tests.{ltb-true, lt-ltb}
-use Rattle.event_log.specs.Names.{has_name}
+use Rattle.trace_text.specs.Names.{has_name}
 use Rattle.event_log.specs.SentLaws.{AreOnce, Message, expected, first_place, is_message, is_named, taken_in}
 use Rattle.event_log.specs.SentMessages.{Sent, copy_of, none_sent, place_for, place_in, with_copy, with_first, with_send}
 use Rattle.event_log.proofs.ListedNodes.{with_name-new}

@@ -1,6 +1,7 @@
 -- Names among those that were sent.
 use Rattle.std.proofs.Common.{◌≡◌, ◌∙◌, ℕ, Bool, List, [], ◌∷◌, length, None, true, false, not, refl, sym, arith}
-use Rattle.event_log.specs.Names.{has_name, with_name}
+use Rattle.trace_text.specs.Names.{has_name}
+use Rattle.event_log.specs.Names.{with_name}
 use Rattle.event_log.specs.SentMessages.{place_in}
 
 -- a name that is there is not put there again

@@ -26,7 +26,8 @@ use Rattle.event_log.specs.KeptEvents as kept
 use Rattle.event_log.specs.LogRecords.{Said, said_of}
 use Rattle.event_log.specs.Logs.{SeenLog, events_in, resolved_log, seen_log}
 use Rattle.event_log.specs.Reading.{after_told, at_end_by, enough_nodes, named_at_end, named_by, named_of, next_by, next_reading, nothing_read, rules_of, with_event}
-use Rattle.event_log.specs.Names.{has_name, with_name}
+use Rattle.trace_text.specs.Names.{has_name}
+use Rattle.event_log.specs.Names.{with_name}
 use Rattle.event_log.specs.Naming.{Named, is_memory, act_after_by, after_said, nodes_after_by, number_of, number_to_by, was_sent}
 use Rattle.event_log.specs.SentMessages.{Sent}
 use Rattle.event_log.specs.SoundLogs.{IsNumber, IsSound, IsWithin, SendsWithin}

@@ -5,7 +5,7 @@ use Rattle.timed_events.specs.declared.events.EventAct.{EventAct}
 use Rattle.timed_events.specs.declared.events.EventAct.TheVariants as act
 use Rattle.event_log.specs.KeptEvents.{KeptAct, KeptEvent}
 use Rattle.event_log.specs.KeptEvents as kept
-use Rattle.event_log.specs.Names.{parts_of}
+use Rattle.trace_text.specs.Names.{words_of}
 use Rattle.event_log.specs.SentMessages.{Sent, place_for}
 
 -- what an event does: it sends to a processor, or receives messages, each by the place of the event that sent it
@@ -34,7 +34,7 @@ seen event = record { time = event.time; processor = event.processor; act = seen
 
 abbrev pub resolved_act : Sent → ℕ → KeptAct → SeenAct
 resolved_act sent processor (kept.Send to) = Sends to
-resolved_act sent processor (kept.Receive names) = Receives (map (place_for sent processor) (parts_of names))
+resolved_act sent processor (kept.Receive names) = Receives (map (place_for sent processor) (words_of names))
 
 -- an event with the places of the sends in place of the names of messages
 abbrev pub resolved : Sent → KeptEvent → Seen

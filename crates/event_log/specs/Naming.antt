@@ -11,7 +11,8 @@ use Rattle.event_log.specs.declared.refusals.LogError.{LogError}
 use Rattle.event_log.specs.declared.refusals.LogError.TheVariants.{TooManyNodes, SentBefore, Memory}
 use Rattle.event_log.specs.KeptEvents.{KeptAct, KeptEvent, Send, Receive}
 use Rattle.event_log.specs.LogRecords.{Said}
-use Rattle.event_log.specs.Names.{has_name, with_name}
+use Rattle.trace_text.specs.Names.{has_name}
+use Rattle.event_log.specs.Names.{with_name}
 use Rattle.event_log.specs.SentMessages.{Sent, none_sent, place_for, with_send}
 
 -- the nodes in the order in which the events name them, the messages that these send, and the events

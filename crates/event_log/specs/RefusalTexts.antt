@@ -11,7 +11,7 @@ use Rattle.event_log.specs.declared.refusals.LogError.TheVariants.{NoOffsets, To
 use Rattle.event_log.specs.declared.refusal_texts.Words.{Words}
 use Rattle.event_log.specs.declared.refusal_texts.Words.TheVariants as words
 use Rattle.event_log.specs.Columns.{name_of}
-use Rattle.event_log.specs.Times.{text_of}
+use Rattle.trace_text.specs.Names.{text_of}
 
 -- a name as it is printed; each name of a log is text
 unfoldable pub printed : List ℕ → List ℕ

@@ -3,7 +3,8 @@ use Rattle.std.specs.Prelude.{ℕ, List, [], ◌∷◌, ◌++◌, Option, positi
 use Rattle.std.specs.Int.{w64, to_be_bytes}
 use Rattle.std.specs.Option.{option_and_then, option_or}
 use Rattle.std.specs.Str.{bytes_eq}
-use Rattle.event_log.specs.Names.{has_name, with_name}
+use Rattle.trace_text.specs.Names.{has_name}
+use Rattle.event_log.specs.Names.{with_name}
 
 -- the names that were sent, and the places of their first sends; and the copies, which have a name
 -- that was sent before, to another node, and the places of their sends

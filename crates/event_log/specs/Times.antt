@@ -5,11 +5,12 @@ use Rattle.std.specs.Prelude.{take, if◌then◌else◌}
 use Rattle.std.specs.Char.{is_ascii_digit}
 use Rattle.std.specs.List.{list_all}
 use Rattle.std.specs.Option.{option_and_then, option_or}
-use Rattle.std.specs.Str.{bytes_eq, is_utf8}
+use Rattle.std.specs.Str.{bytes_eq}
 use Rattle.jiff.specs.Words.{parse_timestamp, parse_duration}
 use Rattle.jiff_core.specs.Timestamp.{IsDurationNanos}
 use Rattle.jiff_core.specs.declared.error.Error.{Error}
 use Rattle.trace_text.specs.Records.{number_of}
+use Rattle.trace_text.specs.Names.{text_of}
 use Rattle.event_log.specs.declared.times.LogEnd.{LogEnd}
 use Rattle.event_log.specs.declared.times.LogEnd.TheVariants as end
 use Rattle.event_log.specs.declared.times.TheConstants.{MAX_LOCAL_BYTES}
@@ -25,10 +26,6 @@ use Rattle.event_log.specs.declared.times.Width.TheVariants as width
 abbrev pub value_of : {A : Type 0} → Result A Error → Option A
 value_of (Ok x) = Some x
 value_of (Err e) = None
-
--- the text that bytes encode, if they are UTF-8
-unfoldable pub text_of : List ℕ → Option (List ℕ)
-text_of bytes = if is_utf8 bytes then Some bytes else None
 
 -- the nanosecond of a time stamp
 abbrev pub stamp_of : List ℕ → Option ℤ

@@ -3,7 +3,7 @@
 ghost use Rattle.std.specs.Prelude.{◌≡◌, ◌<◌, [], IfOk, slice_index_or};
 ghost use Rattle.csv.specs.Records.{fields_of};
 ghost use Rattle.event_log.specs.ToldNames.{message_name, message_place, record_at};
-ghost use Rattle.event_log.specs.Names.{parts_of};
+ghost use Rattle.trace_text.specs.Names.{words_of};
 
 use crate::columns::{Column, place_in};
 use crate::names::Name;
@@ -67,7 +67,7 @@ fn record_at(alloc: Global, text: &[u8], place: usize) -> Result<ByteRecord, All
 
 /// The part at place `k` of a field whose parts have one space between them, or nothing.
 fn part_of(alloc: Global, field: &[u8], k: usize) -> Result<Name, AllocError>
-    ensures { IfOk result (λ name. name ≡ slice_index_or (parts_of field.now) k []) }
+    ensures { IfOk result (λ name. name ≡ slice_index_or (words_of field.now) k []) }
 {
     if field.len() == 0 {
         return Name::new(alloc, &[]);

@@ -3,17 +3,18 @@
 ghost use Rattle.std.specs.Prelude.{◌≡◌, ◌<◌, ℕ, List, [], IfSome, IfOk, IsTrue, OnOk, OnErr, is_some};
 ghost use Rattle.std.specs.Prelude.{◌==◌, Some, true, false};
 ghost use Rattle.std.specs.Prelude.{length, not, option_map, position, slice_get};
-ghost use Rattle.std.specs.List.{list_any, position_or_len};
+ghost use Rattle.std.specs.List.{position_or_len};
 ghost use Rattle.std.specs.Str.{bytes_eq};
 ghost use Rattle.event_log.specs.NameKeys.{name_of};
-ghost use Rattle.event_log.specs.Names.{are_message_names, has_name, is_control, is_message_name};
-ghost use Rattle.event_log.specs.Names.{is_name, is_node_name, names_in, with_name};
+ghost use Rattle.trace_text.specs.Names.{has_name};
+ghost use Rattle.event_log.specs.Names.{are_message_names};
+ghost use Rattle.event_log.specs.Names.{is_node_name, names_in, with_name};
 
 use crate::name_keys::{NameKey, are_same};
-use crate::times::text_of;
 use indexmap::IndexSet;
 use std::alloc::{AllocError, Global};
 use std::marker::Model;
+use trace_text::names::{is_message_name, is_name, is_plain};
 
 /// The greatest number of nodes.
 pub(crate) const MAX_NODES: usize = 64;
@@ -45,53 +46,6 @@ impl Name {
     {
         self.bytes.as_slice()
     }
-}
-
-/// Whether these bytes are a name: text that isn't empty, without control characters.
-#[tactic(auto, unfolding(crate::specs::Names::is_name))]
-pub(crate) fn is_name(name: &[u8]) -> bool
-    ensures { result ≡ is_name name.now }
-{
-    if name.len() == 0 {
-        return false;
-    }
-    if text_of(name).is_none() {
-        return false;
-    }
-    !has_control(name)
-}
-
-fn has_control(name: &[u8]) -> bool
-    ensures { result ≡ list_any is_control name.now }
-{
-    name.iter().any(|byte| *byte < 32 || *byte == 127)
-}
-
-/// Whether these bytes are a name of printable ASCII without this byte. Most names are, and need no other test.
-fn is_plain(name: &[u8], other: u8) -> bool
-    ensures name { IsTrue result → is_name name.now ≡ true }
-    ensures other { IsTrue result → list_any (λ byte. byte == other) name.now ≡ false }
-{
-    for byte in name {
-        if *byte < 32 || *byte > 126 || *byte == other {
-            return false;
-        }
-    }
-    name.len() > 0
-}
-
-/// Whether these bytes are the name of a message: one without a space.
-#[tactic(auto, unfolding(crate::specs::Names::is_message_name))]
-pub(crate) fn is_message_name(name: &[u8]) -> bool
-    ensures { result ≡ is_message_name name.now }
-{
-    if is_plain(name, b' ') {
-        return true;
-    }
-    if !is_name(name) {
-        return false;
-    }
-    !name.contains(&b' ')
 }
 
 /// Whether these bytes are the name of a node: one without a semicolon.

@@ -3,7 +3,7 @@
 ghost use Rattle.std.specs.Prelude.{◌≡◌, ◌++◌, IfOk, OnOk, length, map};
 ghost use Rattle.std.specs.List.{All};
 ghost use Rattle.event_log.specs.Events.{received, resolved, seen};
-ghost use Rattle.event_log.specs.Names.{parts_of};
+ghost use Rattle.trace_text.specs.Names.{words_of};
 ghost use Rattle.event_log.specs.PackedEvents.{ActIsWithin, ArePlaced, IsWithin, placed, placed_act, unpacked};
 ghost use Rattle.event_log.specs.SentMessages.{place_for};
 
@@ -175,7 +175,7 @@ fn push_places(
     places: &mut Vec<Option<u32>>,
 ) -> Result<(), AllocError>
     ensures { OnOk result (places.new.items ≡ places.old.items
-        ++ map (place_for sent.now processor) (parts_of names.now)) }
+        ++ map (place_for sent.now processor) (words_of names.now)) }
 {
     if names.len() == 0 {
         return Ok(());

@@ -8,10 +8,11 @@ ghost use Rattle.event_log.specs.Naming.{IsUnless, is_memory};
 use crate::columns::Columns;
 use crate::fields::Fields;
 use crate::name_keys::are_same;
-use crate::names::{Name, NameSet, are_message_names, is_message_name, is_node_name};
+use crate::names::{Name, NameSet, are_message_names, is_node_name};
 use crate::refusals::LogError;
 use crate::times::{Moment, TimeKind, moment_in, read_moment};
 use std::alloc::{AllocError, Global};
+use trace_text::names::is_message_name;
 
 /// What happened, as the column `event` says it.
 #[derive(Clone, Copy)]

@@ -6,8 +6,8 @@ ghost use Rattle.event_log.specs.RefusalTexts.{log_error_text, printed, words_te
 use crate::columns::Column;
 use crate::names::Name;
 use crate::refusals::LogError;
-use crate::times::text_of;
 use std::fmt;
+use trace_text::names::text_of;
 
 /// A name as it is printed. Each name of a log is text.
 #[tactic(auto, unfolding(crate::specs::RefusalTexts::printed))]

@@ -1,7 +1,7 @@
 //! The messages that were sent, by their names and the nodes that they are for.
 
 ghost use Rattle.std.specs.Prelude.{◌≡◌, IfOk, OnOk, if◌then◌else◌, not};
-ghost use Rattle.event_log.specs.Names.{has_name};
+ghost use Rattle.trace_text.specs.Names.{has_name};
 ghost use Rattle.event_log.specs.SentMessages.{Sent, copy_of, none_sent, place_for, place_in, with_copy, with_first};
 
 use crate::names::{AddedName, NameSet};

@@ -1,15 +1,16 @@
 //! The times of a log, and the options that give times: numbers, or nanoseconds.
 
 ghost use Rattle.std.specs.Prelude.{◌≡◌, ℤ, ◌*◌, ◌<◌, ◌≤◌, ◌^◌, ◌∷◌, [], ◌++◌, ◌==◌, None};
-ghost use Rattle.std.specs.Prelude.{Some, IfSome, length, option_map, position};
+ghost use Rattle.std.specs.Prelude.{Some, IfSome, length, position};
 ghost use Rattle.std.specs.Char.{is_ascii_digit};
 ghost use Rattle.std.specs.List.{list_all};
 ghost use Rattle.event_log.specs.Times.{IsDuration, IsEnd, IsWidth, decimal_of, digit_at, fraction_of, local_of};
 ghost use Rattle.event_log.specs.Times.{moment_in, moment_of, nanoseconds_in, nanoseconds_of, seconds_by, settled};
-ghost use Rattle.event_log.specs.Times.{stamp_of, text_of, three_from, time_as, time_of_end, unit_of, whole_of};
+ghost use Rattle.event_log.specs.Times.{stamp_of, three_from, time_as, time_of_end, unit_of, whole_of};
 
 use jiff::{SignedDuration, Timestamp};
-use std::str::{FromStr, from_utf8};
+use std::str::FromStr;
+use trace_text::names::text_of;
 use trace_text::records::number;
 
 /// The greatest length of a time stamp without an offset, in bytes.
@@ -183,16 +184,6 @@ fn digit_at(digits: &[u8], k: usize) -> u64
 {
     let digit = digits.get(k).copied().unwrap_or(b'0');
     u64::from(digit.saturating_sub(b'0'))
-}
-
-/// The text that bytes encode, if they are UTF-8.
-pub(crate) fn text_of(bytes: &[u8]) -> Option<&str>
-    ensures { option_map (λ text. text.now) result ≡ text_of bytes.now }
-{
-    match from_utf8(bytes) {
-        Ok(text) => Some(text),
-        Err(_) => None,
-    }
 }
 
 /// The nanosecond of a time stamp.

@@ -25,7 +25,8 @@ use Rattle.event_log.specs.declared.times.TimeKind.TheVariants as kind
 use Rattle.event_log.specs.declared.times.TimeUnit.{TimeUnit}
 use Rattle.event_log.specs.Columns.{columns_of}
 use Rattle.event_log.specs.LogRecords.{moment_as}
-use Rattle.event_log.specs.Names.{are_message_names, has_name, is_message_name, is_name, parts_of, with_name}
+use Rattle.trace_text.specs.Names.{has_name, is_message_name, is_name, words_of}
+use Rattle.event_log.specs.Names.{are_message_names, with_name}
 use Rattle.event_log.specs.Times.{moment_in, moment_of, settled, time_as}
 use Rattle.log_windows.specs.declared.bounds.Bounds.{Bounds}
 use Rattle.log_windows.specs.declared.bounds.Times.{Times}
@@ -498,11 +499,11 @@ pub names-kept : (sent : List (List ℕ)) (node field : List ℕ) → are_messag
     → kept_names sent node field ≡ record { text = join_with_byte 32 (names_sent sent node field); unsent = count_unsent sent node field }
 unfolding are_message_names
 names-kept sent node field h =
-    fold-names sent node (parts_of field) [] 0
-    ∙ ap (λ t. record { text = t; unsent = 0 + length (filter (λ name. not (is_sent sent node name)) (parts_of field)) })
-    (onto-none (filter (is_sent sent node) (parts_of field)) (All-filter (is_sent sent node) (λ word. 0 < length word) (parts_of field) (all-some (parts_of field) h)))
-    ∙ (let e : 0 + length (filter (λ name. not (is_sent sent node name)) (parts_of field)) ≡ length (filter (λ name. not (is_sent sent node name)) (parts_of field)) = omega arith in
-    ap (λ n. record { text = join_with_byte 32 (filter (is_sent sent node) (parts_of field)); unsent = n }) e)
+    fold-names sent node (words_of field) [] 0
+    ∙ ap (λ t. record { text = t; unsent = 0 + length (filter (λ name. not (is_sent sent node name)) (words_of field)) })
+    (onto-none (filter (is_sent sent node) (words_of field)) (All-filter (is_sent sent node) (λ word. 0 < length word) (words_of field) (all-some (words_of field) h)))
+    ∙ (let e : 0 + length (filter (λ name. not (is_sent sent node name)) (words_of field)) ≡ length (filter (λ name. not (is_sent sent node name)) (words_of field)) = omega arith in
+    ap (λ n. record { text = join_with_byte 32 (filter (is_sent sent node) (words_of field)); unsent = n }) e)
 
 -- an event
 event-sent : (columns : Columns) (sent : List (List ℕ)) (fields : List (List ℕ)) (kept : Kept)

@@ -5,7 +5,8 @@ use Rattle.csv.specs.Writing.{row_text}
 use Rattle.trace_text.specs.Records.{field_of}
 use Rattle.trace_text.specs.RecordWriting.{our_writer}
 use Rattle.event_log.specs.declared.columns.Columns.{Columns}
-use Rattle.event_log.specs.Names.{are_message_names, has_name, parts_of}
+use Rattle.trace_text.specs.Names.{has_name, words_of}
+use Rattle.event_log.specs.Names.{are_message_names}
 use Rattle.log_windows.specs.KeptRows.{key_of}
 use Rattle.log_windows.specs.Rows.{with_field}
 
@@ -26,7 +27,7 @@ next_name sent node kept name =
 
 -- those of the messages in a field that are sent to the node that received them
 abbrev pub kept_names : List (List ℕ) → List ℕ → List ℕ → Kept
-kept_names sent node field = fold (next_name sent node) (record { text = []; unsent = 0 }) (parts_of field)
+kept_names sent node field = fold (next_name sent node) (record { text = []; unsent = 0 }) (words_of field)
 
 -- whether a record is a receive of messages: else it is refused later, and stays as it is
 abbrev pub is_receive : Columns → List (List ℕ) → Bool

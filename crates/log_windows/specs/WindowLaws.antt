@@ -13,7 +13,7 @@ use Rattle.event_log.specs.declared.times.TimeKind.{TimeKind}
 use Rattle.event_log.specs.declared.times.TimeUnit.{TimeUnit}
 use Rattle.event_log.specs.Columns.{columns_of}
 use Rattle.event_log.specs.LogRecords.{moment_as}
-use Rattle.event_log.specs.Names.{has_name, parts_of}
+use Rattle.trace_text.specs.Names.{has_name, words_of}
 use Rattle.event_log.specs.Times.{settled, time_as}
 use Rattle.log_windows.specs.declared.bounds.Times.{Times}
 use Rattle.log_windows.specs.declared.reading.LogWindow.{LogWindow}
@@ -112,10 +112,10 @@ is_sent sent node name = has_name sent (key_of name node)
 
 -- the messages in a field that are sent to the node that receives them, and how many aren't
 abbrev pub names_sent : List (List ℕ) → List ℕ → List ℕ → List (List ℕ)
-names_sent sent node field = filter (is_sent sent node) (parts_of field)
+names_sent sent node field = filter (is_sent sent node) (words_of field)
 
 abbrev pub count_unsent : List (List ℕ) → List ℕ → List ℕ → ℕ
-count_unsent sent node field = length (filter (λ name. not (is_sent sent node name)) (parts_of field))
+count_unsent sent node field = length (filter (λ name. not (is_sent sent node name)) (words_of field))
 
 -- a record without the messages that it receives and nobody sends to its node, and how many these are
 abbrev pub sent_row : Columns → List (List ℕ) → List (List ℕ) → List (List ℕ)

@@ -1,4 +1,3 @@
 pub mod RefusalsGoOn
 pub mod SortedWords
-pub mod Texts
 pub mod TickLengths

@@ -12,7 +12,7 @@ use Rattle.std.proofs.lemmas.List.{length-map}
 use Rattle.std.proofs.lemmas.List.Folds.{list_any_at, list_any_none}
 use Rattle.std.proofs.lemmas.List.Sorted.{list_any-IsPermutation, searchable_from_sorted}
 use Rattle.std.proofs.lemmas.Map.Text.{is_eq-slice_cmp}
-use Rattle.step_tables.specs.Names.{has_name}
+use Rattle.trace_text.specs.Names.{has_name}
 use Rattle.step_tables.specs.Records.{are_names_of, message_at}
 use Rattle.step_tables.specs.Told.{Said}
 use denote.Ref.{Bor}

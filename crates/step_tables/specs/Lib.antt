@@ -1,5 +1,4 @@
 pub mod Moves
-pub mod Names
 pub mod Records
 pub mod RefusalTexts
 pub mod Tables

@@ -14,7 +14,7 @@ use Rattle.trace_text.specs.Records.{field_of, number_of}
 use Rattle.trace_text.specs.Records as texts
 use Rattle.step_tables.specs.declared.refusals.TableError.{TableError}
 use Rattle.step_tables.specs.declared.refusals.TableError.TheVariants.{Unfit}
-use Rattle.step_tables.specs.Names.{has_name, is_message_name, is_name, words_of}
+use Rattle.trace_text.specs.Names.{has_name, is_message_name, is_name, words_of}
 use Rattle.step_tables.specs.Told.{Said, Told}
 
 -- whether a field is the number of a record, or nothing

@@ -9,16 +9,17 @@ ghost use Rattle.std.specs.Ordering.{nat_cmp};
 ghost use Rattle.csv.specs.Records.{fields_of};
 ghost use Rattle.step_tables.specs.Records.{after_record, are_names_of, is_at, is_source, message_at, message_of};
 ghost use Rattle.step_tables.specs.Records.{named, said_of, with_act, with_deed, with_step};
-ghost use Rattle.step_tables.specs.Names.{has_name, words_of};
+ghost use Rattle.trace_text.specs.Names.{has_name, words_of};
 ghost use Rattle.step_tables.specs.Tables.{is_memory};
 ghost use Rattle.trace_text.specs.Records.{ReachesUnless};
 
-use crate::names::{has_name, has_word, is_message_name, name_text, words_of};
+use crate::names::{has_name, has_word, name_text, words_of};
 use crate::refusals::TableError;
 use crate::tables::{StepRow, StepTable, message_at};
 use csv::ByteRecord;
 use std::alloc::Global;
 use step_trace::{Act, Step, Trace};
+use trace_text::names::is_message_name;
 use trace_text::records::{field, field_is, field_is_number, number};
 
 /// Takes in the record of one more step.

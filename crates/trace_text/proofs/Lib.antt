@@ -22,3 +22,4 @@ pub mod OnePerTick
 pub mod WrittenRecords
 pub mod PlainSteps
 pub mod WrittenTexts
+pub mod NameTexts

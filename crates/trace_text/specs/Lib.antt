@@ -11,3 +11,4 @@ pub mod RecordLimits
 pub mod LongRefusals
 pub mod JudgedIds
 pub mod RefusalTexts
+pub mod Names

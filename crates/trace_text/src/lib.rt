@@ -7,6 +7,7 @@ mod byte_loops;
 mod counting;
 pub mod csv_places;
 pub mod failing_devices;
+pub mod names;
 pub mod reading;
 mod record_limits;
 pub mod record_writing;

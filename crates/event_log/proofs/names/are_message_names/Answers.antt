@@ -5,7 +5,7 @@ use Rattle.std.proofs.lemmas.List.{map-append}
 use Rattle.std.proofs.iter.Serving.{serving}
 use Rattle.std.specs.List.{slice_split, list_all}
 use borrow.Author.Tests.{tests}
-use Rattle.event_log.specs.Names.{is_message_name}
+use Rattle.trace_text.specs.Names.{is_message_name}
 use Rattle.event_log.proofs.Views.{list_all-more, list_all-stops}
 use Rattle.event_log.proofs.MessageNames.{no-names, are-split}
 use Rattle.event_log.proofs.names.are_message_names.Goals as goal

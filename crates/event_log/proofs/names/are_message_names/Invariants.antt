@@ -1,6 +1,6 @@
 use Rattle.std.proofs.Common.{◌≡◌, map, true}
 use Rattle.std.specs.List.{list_all}
-use Rattle.event_log.specs.Names.{is_message_name}
+use Rattle.trace_text.specs.Names.{is_message_name}
 use Rattle.event_log.proofs.names.are_message_names.Given as goal
 
 -- the parts so far are names

@@ -1,6 +1,6 @@
 use Rattle.std.proofs.Common.{◌∙◌, sym}
 use Rattle.std.proofs.lemmas.Bool.{not-true}
-use Rattle.event_log.specs.Names.{has_name}
+use Rattle.trace_text.specs.Names.{has_name}
 use Rattle.event_log.proofs.ListedNodes.{with_name-new}
 use Rattle.event_log.proofs.option_texts.list_node.Goals as goal
 

@@ -3,7 +3,7 @@ use Rattle.std.proofs.lemmas.Iterator.Splits.{YieldsList-from_slice_split}
 use Rattle.std.proofs.lemmas.Iterator.Consumers.{YieldsList-end}
 use borrow.Author.Tests.{tests}
 use Rattle.event_log.specs.SentMessages.{place_for}
-use Rattle.event_log.proofs.MessageNames.{parts-split}
+use Rattle.trace_text.proofs.NameTexts.{words-split}
 use Rattle.event_log.proofs.placed_events.push_places.Goals as goal
 
 pub returns : goal.returns
@@ -17,4 +17,4 @@ returns c =
     let end = YieldsList-end road c.loop-name.yielded _ c.loop-name.yielded_by _ _ c.in-None.is c.next.ensures.steps in
     let places = map (place_for c.args.sent.now c.args.processor) in
     c.loop-name.invariant.2
-    ∙ ap (λ xs. c.args.places.now.items ++ places xs) (end.0 ∙ sym (parts-split names some))
+    ∙ ap (λ xs. c.args.places.now.items ++ places xs) (end.0 ∙ sym (words-split names some))

@@ -1,5 +1,5 @@
 use Rattle.std.proofs.Common.{◌≡◌, ◌≤◌, drop, length, map, string_bytes}
-use Rattle.step_tables.specs.Names.{has_name}
+use Rattle.trace_text.specs.Names.{has_name}
 use Rattle.step_tables.proofs.names.has_name.Given as goal
 
 -- the name is among all names if it is among those that follow

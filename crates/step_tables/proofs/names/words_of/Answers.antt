@@ -3,7 +3,7 @@ use Rattle.std.proofs.lemmas.Iterator.Splits.{YieldsList-from_slice_split}
 use Rattle.std.proofs.lemmas.Iterator.Consumers.{YieldsList-end}
 use Rattle.std.proofs.iter.Serving.{serving}
 use borrow.Author.Tests.{tests}
-use Rattle.step_tables.proofs.Texts.{words-split}
+use Rattle.trace_text.proofs.NameTexts.{words-split}
 use Rattle.step_tables.proofs.names.words_of.Goals as goal
 
 pub loop-word-init : goal.loop-word-init

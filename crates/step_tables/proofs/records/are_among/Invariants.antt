@@ -1,6 +1,6 @@
 use Rattle.std.proofs.Common.{◌≡◌, ◌≤◌, drop, length, map}
 use Rattle.std.specs.List.{list_all}
-use Rattle.step_tables.specs.Names.{has_name}
+use Rattle.trace_text.specs.Names.{has_name}
 use Rattle.step_tables.specs.Records.{message_at}
 use Rattle.step_tables.proofs.records.are_among.Given as goal
 

@@ -1,6 +1,7 @@
 use Rattle.std.proofs.Common.{◌≡◌, sym, true, refl}
 use Rattle.std.specs.Str.{bytes_eq}
-use Rattle.event_log.specs.Names.{has_name, with_name}
+use Rattle.trace_text.specs.Names.{has_name}
+use Rattle.event_log.specs.Names.{with_name}
 use Rattle.event_log.proofs.Views.{position-is}
 use Rattle.event_log.proofs.names.NameSet.add.Goals as goal
 

@@ -1,5 +1,5 @@
 use Rattle.std.proofs.Common.{◌≡◌, ◌∙◌, true}
-use Rattle.event_log.specs.Names.{has_name}
+use Rattle.trace_text.specs.Names.{has_name}
 use Rattle.event_log.proofs.SentNames.{was-there, with_name-there}
 use Rattle.event_log.proofs.sent_messages.SentMessages.add_first.Goals as goal
 

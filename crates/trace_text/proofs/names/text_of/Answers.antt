@@ -1,6 +1,6 @@
 use Rattle.std.proofs.Common.{◌∙◌, ap, Some}
-use Rattle.step_tables.proofs.Texts.{text_of-text, text_of-broken}
-use Rattle.step_tables.proofs.names.text_of.Goals as goal
+use Rattle.trace_text.proofs.NameTexts.{text_of-text, text_of-broken}
+use Rattle.trace_text.proofs.names.text_of.Goals as goal
 
 pub returns-in-Ok : goal.returns-in-Ok
 returns-in-Ok c = ap (λ text. Some text) c.in-Ok.ensures.cases.0 ∙ text_of-text c.args.bytes.now c.in-Ok.ensures.cases.1
