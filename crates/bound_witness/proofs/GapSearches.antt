@@ -33,7 +33,8 @@ IsNamedGap-found set trace g span p k x start positive from inside next first b 
   from = from;
   long = omega arith;
   greatest = λ v i l e. elim (cases_lt k v.from) [
-    | inl a ↦ (let j = i.inside in absurd (gap_silent set trace span v i (omega arith) ((b.each v.from (omega arith) (omega arith)).each v.proc i.member)))
+    | inl a ↦ (let j = i.inside in
+        absurd (gap_silent set trace span v i (omega arith) ((b.each v.from (omega arith) (omega arith)).each v.proc i.member)))
     | inr a ↦ a
   ];
   least = λ v i q e. elim (cases_lt v.proc p) [

@@ -14,7 +14,8 @@ IsEdge-end set trace p x l = record { apart = λ o i q a b. absurd (let s = i.in
 -- no gap has the tick of a step of its processor in it
 pub IsEdge-step : (set : ℕ) (trace : Recorded) (p k : ℕ) → IsStepOf trace.steps k p → IsEdge set trace p (tick_of trace k)
 IsEdge-step set trace p k s = record {
-  apart = λ o i q a b. i.silent (tick_of trace k) a b (subst (λ n. StepsIn trace (tick_of trace k) n) (sym q) (record { place = k; step = s; tick = refl }));
+  apart = λ o i q a b. i.silent (tick_of trace k) a b
+      (subst (λ n. StepsIn trace (tick_of trace k) n) (sym q) (record { place = k; step = s; tick = refl }));
 }
 
 -- the interval between two edges with no step between them, if it isn't empty
@@ -30,7 +31,8 @@ abbrev pub between : ℕ → ℕ → ℕ → Gap
 between p last next = record { proc = p; from = last + 1; to = next - 1 }
 
 -- the interval between two edges is a gap, if it isn't empty
-between-IsGap : (set : ℕ) (trace : Recorded) (p last next : ℕ) → last + 1 < next → SilentBetween set trace p last next → IsGap set trace (between p last next)
+between-IsGap : (set : ℕ) (trace : Recorded) (p last next : ℕ)
+    → last + 1 < next → SilentBetween set trace p last next → IsGap set trace (between p last next)
 between-IsGap set trace p last next l s = let i = s.inside in record {
   member = s.member;
   start = omega arith;
@@ -40,7 +42,8 @@ between-IsGap set trace p last next l s = let i = s.inside in record {
 }
 
 -- and it is a longest one, since no gap goes past an edge
-pub between-IsLongestGap : (set : ℕ) (trace : Recorded) (p last next : ℕ) → last + 1 < next → SilentBetween set trace p last next → IsLongestGap set trace (between p last next)
+pub between-IsLongestGap : (set : ℕ) (trace : Recorded) (p last next : ℕ)
+    → last + 1 < next → SilentBetween set trace p last next → IsLongestGap set trace (between p last next)
 between-IsLongestGap set trace p last next l s = record {
   gap = between-IsGap set trace p last next l s;
   longest = λ o i q a b.

@@ -65,7 +65,8 @@ pub NamesMiss-found : (set : ℕ) (trace : Recorded) (g d : ℕ) (found : Option
     → NamesMiss set trace g d found
 NamesMiss-found set trace g d None h k n =
     let p = h.positive in
-    let e : d ≤ d - 1 = h.least (d - 1) (omega arith) (DeltaHolds-unrefuted set trace g (d - 1) (omega arith) (λ m r. elim (cases_eq (tick_of trace m.sent + (d - 1)) (tick_of trace m.missed)) [
+    let e : d ≤ d - 1 = h.least (d - 1) (omega arith) (DeltaHolds-unrefuted set trace g
+    (d - 1) (omega arith) (λ m r. elim (cases_eq (tick_of trace m.sent + (d - 1)) (tick_of trace m.missed)) [
       | inl q ↦ n.none m (record { miss = r.miss; from = r.from; long = q })
       | inr q ↦ (let l = r.long in MissRefutes-sound set trace g d m (record { miss = r.miss; from = r.from; long = omega arith }) h.holds)
     ])) in

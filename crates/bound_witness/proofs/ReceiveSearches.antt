@@ -21,10 +21,12 @@ pub receive_of : (set : ℕ) (trace : Recorded) (sent b x y : ℕ) (m : Miss) �
 receive_of set trace sent b x y m time v d h q i =
     let same = IsMessage-receiver set trace.steps sent i.to b (subst (λ s. IsMessage set trace.steps s i.to) q i.message) v in record {
       receive = subst (λ p. IsReceiveOf trace.steps m.missed p) same i.receive;
-      from = (let l : tick_of trace sent < tick_of trace m.missed = subst (λ s. tick_of trace s < tick_of trace m.missed) q i.late in omega (arith, l, h));
+      from = (let l : tick_of trace sent < tick_of trace m.missed = subst (λ s. tick_of trace s < tick_of trace m.missed) q i.late in
+          omega (arith, l, h));
       before = elim (cases_lt (tick_of trace m.missed) y) [
         | inl l ↦ l
-        | inr l ↦ absurd (i.undelivered (subst (λ s. IsDelivered trace s (tick_of trace m.missed)) (sym q) ((d (tick_of trace m.missed) (tick_of-limit trace time m.missed)).1 l)))
+        | inr l ↦ absurd (i.undelivered (subst (λ s. IsDelivered trace s (tick_of trace m.missed))
+            (sym q) ((d (tick_of trace m.missed) (tick_of-limit trace time m.missed)).1 l)))
       ];
     }
 
@@ -65,7 +67,8 @@ DeltaHoldsFor-none set trace sent b d x y time v e h f = record {
   on_time = λ r a m i l.
       let same = IsMessage-receiver set trace.steps sent a b m v in
       elim (cases_lt (tick_of trace r) y) [
-        | inl k ↦ absurd (f.none r (record { receive = subst (λ p. IsReceiveOf trace.steps r p) same i; from = omega (arith, h, l); before = k }))
+        | inl k ↦ absurd
+            (f.none r (record { receive = subst (λ p. IsReceiveOf trace.steps r p) same i; from = omega (arith, h, l); before = k }))
         | inr k ↦ (e (tick_of trace r) (tick_of-limit trace time r)).1 k
       ];
 }

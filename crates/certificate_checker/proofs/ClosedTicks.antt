@@ -8,7 +8,8 @@ use Rattle.certificate_checker.proofs.Common.{IsRaised, IsCarried}
 use Rattle.certificate_checker.proofs.NextSteps.{ArePassed, IsNextStep-at, IsNextStep-none}
 
 -- what is reached is reached if no end is taken away
-IsReached-kept : (t : Recorded) (p x : ℕ) (old new : List ℕ) → ((y : ℕ) → get_or old y 0 ≤ get_or new y 0) → IsReached t p old x → IsReached t p new x
+IsReached-kept : (t : Recorded) (p x : ℕ) (old new : List ℕ)
+    → ((y : ℕ) → get_or old y 0 ≤ get_or new y 0) → IsReached t p old x → IsReached t p new x
 IsReached-kept t p x old new kept r = record {
   next = r.next;
   is = r.is;
@@ -18,8 +19,9 @@ IsReached-kept t p x old new kept r = record {
 }
 
 -- one end more, of the silence that begins in tick `from`
-PutsEnds-raise : (t : Recorded) (p from end until : ℕ) (old mid new : List ℕ) → length old ≡ t.last + 1 → PutsEnds t p from old mid → IsRaised from end mid new → end ≤ t.last + 1
-    → ((z : ℕ) → from ≤ z → z < end → ¬ StepsIn t z p) → ((x : ℕ) → from ≤ x → x < until → x ≤ t.last → IsNextStep t p x end) → PutsEnds t p until old new
+PutsEnds-raise : (t : Recorded) (p from end until : ℕ) (old mid new : List ℕ) → length old ≡ t.last + 1
+    → PutsEnds t p from old mid → IsRaised from end mid new → end ≤ t.last + 1 → ((z : ℕ) → from ≤ z → z < end → ¬ StepsIn t z p)
+    → ((x : ℕ) → from ≤ x → x < until → x ≤ t.last → IsNextStep t p x end) → PutsEnds t p until old new
 PutsEnds-raise t p from end until old mid new size k raised high silent next = record {
   long = raised.long ∙ k.long;
   kept = λ x. (let a = k.kept x in let b = raised.kept x in omega (arith, a, b));
@@ -28,7 +30,8 @@ PutsEnds-raise t p from end until old mid new size k raised high silent next = r
       | inl before ↦ inl (same ∙ before)
       | inr own ↦ inr ((λ z a b. own.0 z a (omega (arith, b, same))), (let limit = own.1 in omega (arith, limit, same)))
     ]
-    | inr here ↦ (let at = here.0 in let e = here.1 in inr ((λ z a b. silent z (omega (arith, a, at)) (omega (arith, b, e))), omega (arith, e, high)))
+    | inr here ↦ (let at = here.0 in let e = here.1 in
+        inr ((λ z a b. silent z (omega (arith, a, at)) (omega (arith, b, e))), omega (arith, e, high)))
   ];
   reach = λ x below inside. elim (cases_lt x from) [
     | inl early ↦ IsReached-kept t p x mid new raised.kept (k.reach x early inside)
@@ -60,13 +63,15 @@ passed_from t p i from x s known before size late upto = (
 )
 
 -- with the end of the silence before the next tick
-pub PutsEnds-tick : (t : Recorded) (p i from tick : ℕ) (s : Silence) (old mid new : List ℕ) → IsTimed t → IsSilence t p s → length old ≡ t.last + 1 → AreBefore s i from → i < length s.ticks.items
+pub PutsEnds-tick : (t : Recorded) (p i from tick : ℕ) (s : Silence) (old mid new : List ℕ)
+    → IsTimed t → IsSilence t p s → length old ≡ t.last + 1 → AreBefore s i from → i < length s.ticks.items
     → tick ≡ get_or s.ticks.items i 0 → PutsEnds t p from old mid → IsRaised from tick mid new → PutsEnds t p (tick + 1) old new
 PutsEnds-tick t p i from tick s old mid new time known size before inside at k raised =
     let own = known.own i 0 inside in
     let limit = (time.inside own.place _ own.step.1).1 in
     let next = λ (x : ℕ) (late : from ≤ x) (below : x < tick + 1).
-    subst (λ (y : ℕ). IsNextStep t p x y) (sym at) (IsNextStep-at t p x i s time known (passed_from t p i from x s known before (omega (arith, inside)) late (λ _. omega (arith, below, at))) inside) in
+    subst (λ (y : ℕ). IsNextStep t p x y) (sym at) (IsNextStep-at t p x i s time known
+    (passed_from t p i from x s known before (omega (arith, inside)) late (λ _. omega (arith, below, at))) inside) in
     PutsEnds-raise t p from tick (tick + 1) old mid new size k raised (omega (arith, limit, own.tick, at))
     (λ z a b. elim (cases_lt from tick) [
       | inl some ↦ (next from (omega (arith, own.tick)) (omega (arith, some))).silent z a b
@@ -75,8 +80,8 @@ PutsEnds-tick t p i from tick s old mid new time known size before inside at k r
     (λ x late below _. next x late below)
 
 -- and of the silence after the last
-pub PutsEnds-last : (t : Recorded) (p from : ℕ) (s : Silence) (old mid new : List ℕ) → IsSilence t p s → length old ≡ t.last + 1 → AreBefore s (length s.ticks.items) from
-    → PutsEnds t p from old mid → IsRaised from (t.last + 1) mid new → PutsEnds t p (t.last + 1) old new
+pub PutsEnds-last : (t : Recorded) (p from : ℕ) (s : Silence) (old mid new : List ℕ) → IsSilence t p s → length old ≡ t.last + 1 → AreBefore
+    s (length s.ticks.items) from → PutsEnds t p from old mid → IsRaised from (t.last + 1) mid new → PutsEnds t p (t.last + 1) old new
 PutsEnds-last t p from s old mid new known size before k raised =
     let count = length s.ticks.items in
     let next = λ (x : ℕ) (late : from ≤ x) (inside : x ≤ t.last).
@@ -88,11 +93,13 @@ PutsEnds-last t p from s old mid new known size before k raised =
     (λ x late _ inside. next x late inside)
 
 -- the ends of one member more
-pub KnowsEnds-member : (set : ℕ) (t : Recorded) (p : ℕ) (old new : List ℕ) → IsTrue (has_proc set p) → PutsEnds t p (t.last + 1) old new → KnowsEnds set t p old → KnowsEnds set t (p + 1) new
+pub KnowsEnds-member : (set : ℕ) (t : Recorded) (p : ℕ) (old new : List ℕ)
+    → IsTrue (has_proc set p) → PutsEnds t p (t.last + 1) old new → KnowsEnds set t p old → KnowsEnds set t (p + 1) new
 KnowsEnds-member set t p old new member puts k = record {
   long = puts.long ∙ k.long;
   silent = λ x some. elim (puts.own x) [
-    | inl same ↦ (let before = k.silent x (omega (arith, some, same)) in subst (λ (y : ℕ). HasSilent set t x y × (y ≤ t.last + 1)) (sym same) before)
+    | inl same ↦ (let before = k.silent x (omega (arith, some, same)) in
+        subst (λ (y : ℕ). HasSilent set t x y × (y ≤ t.last + 1)) (sym same) before)
     | inr own ↦ (record { proc = p; member = member; silent = own.0 }, own.1)
   ];
   reach = λ q m below x inside. elim (cases_eq q p) [
@@ -102,7 +109,8 @@ KnowsEnds-member set t p old new member puts k = record {
 }
 
 -- of no member there are none
-pub KnowsEnds-other : (set : ℕ) (t : Recorded) (p : ℕ) (ends : List ℕ) → (¬ IsTrue (has_proc set p)) → KnowsEnds set t p ends → KnowsEnds set t (p + 1) ends
+pub KnowsEnds-other : (set : ℕ) (t : Recorded) (p : ℕ) (ends : List ℕ)
+    → (¬ IsTrue (has_proc set p)) → KnowsEnds set t p ends → KnowsEnds set t (p + 1) ends
 KnowsEnds-other set t p ends outside k = record {
   long = k.long;
   silent = k.silent;

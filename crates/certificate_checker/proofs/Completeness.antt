@@ -9,10 +9,12 @@ use Rattle.certificate_checker.proofs.Common.{ShowsDelta, ShowsPhi, Stands}
 use Rattle.certificate_checker.proofs.FrontRows.{AreTheFront, last_served, least_served, IsUnopposed-front}
 
 AreTheFront-report : (set : ℕ) (trace : Recorded) (rows : List Row) → IsReport set trace rows → AreTheFront set trace rows
-AreTheFront-report set trace rows report = record { rising = report.rising; sound = λ r c. (report.sound r c).front; complete = report.complete }
+AreTheFront-report set trace rows report =
+    record { rising = report.rising; sound = λ r c. (report.sound r c).front; complete = report.complete }
 
 -- the named miss of a row is of a message that is sent at the end of its stretch or later
-ShowsDelta-named : (set : ℕ) (trace : Recorded) (g h d : ℕ) (o : Option Miss) → g ≤ h → IsDelta set trace h d → NamesMiss set trace g d o → ShowsDelta set trace (h + 1) d o
+ShowsDelta-named : (set : ℕ) (trace : Recorded) (g h d : ℕ) (o : Option Miss)
+    → g ≤ h → IsDelta set trace h d → NamesMiss set trace g d o → ShowsDelta set trace (h + 1) d o
 ShowsDelta-named set trace g h d None l least names = names
 ShowsDelta-named set trace g h d (Some m) l least names = (names.0, names.1.miss, names.1.long, reaches) where
   holds : tick_of trace m.sent < h → DeltaHolds set trace h (d - 1)
@@ -32,7 +34,8 @@ ShowsDelta-named set trace g h d (Some m) l least names = (names.0, names.1.miss
     | inr late ↦ omega (arith, late)
   ]
 
-ShowsPhi-named : (set : ℕ) (trace : Recorded) (g h f : ℕ) (o : Option Gap) → 1 ≤ g → g ≤ h → IsPhi set trace h f → NamesGap set trace g f o → ShowsPhi set trace (h + 1) f o
+ShowsPhi-named : (set : ℕ) (trace : Recorded) (g h f : ℕ) (o : Option Gap)
+    → 1 ≤ g → g ≤ h → IsPhi set trace h f → NamesGap set trace g f o → ShowsPhi set trace (h + 1) f o
 ShowsPhi-named set trace g h f None start l least names = names
 ShowsPhi-named set trace g h f (Some w) start l least names = (names.0, names.1.gap, names.1.long, reaches) where
   holds : w.from < h → PhiHolds set trace h (f - 1)
@@ -58,9 +61,11 @@ ShowsDelta-report : (set : ℕ) (trace : Recorded) (rows : List Row) (k : ℕ) (
 ShowsDelta-report set trace rows k r report here =
     let (h, serves, after) = last_served set trace rows k r (AreTheFront-report set trace rows report) here in
     let least = least_served set trace rows k r h (AreTheFront-report set trace rows report) serves in
-    rw after (ShowsDelta-named set trace r.gst h r.delta r.miss serves.from least.delta (report.sound r (Contains-row_at rows k r here)).miss)
+    rw after
+    (ShowsDelta-named set trace r.gst h r.delta r.miss serves.from least.delta (report.sound r (Contains-row_at rows k r here)).miss)
 
-ShowsPhi-report : (set : ℕ) (trace : Recorded) (rows : List Row) (k : ℕ) (r : Row) → IsReport set trace rows → row_at rows k ≡ Some r → ShowsPhi set trace (after_stretch rows trace.last k) r.phi r.gap
+ShowsPhi-report : (set : ℕ) (trace : Recorded) (rows : List Row) (k : ℕ) (r : Row)
+    → IsReport set trace rows → row_at rows k ≡ Some r → ShowsPhi set trace (after_stretch rows trace.last k) r.phi r.gap
 ShowsPhi-report set trace rows k r report here =
     let (h, serves, after) = last_served set trace rows k r (AreTheFront-report set trace rows report) here in
     let least = least_served set trace rows k r h (AreTheFront-report set trace rows report) serves in

@@ -20,18 +20,22 @@ ShowsPhi-at_one set trace after f None s e = refl
 ShowsPhi-at_one set trace after f (Some w) s e = absurd (let l = s.0 in omega (arith, l, e))
 
 -- rows that no reason refutes name nothing beside 1
-pub NamesNothingBesideOne-unopposed : (set : ℕ) (trace : Recorded) (rows : List Row) → ((w : Reason) → ¬ Stands set trace rows w) → NamesNothingBesideOne rows
+pub NamesNothingBesideOne-unopposed : (set : ℕ) (trace : Recorded) (rows : List Row)
+    → ((w : Reason) → ¬ Stands set trace rows w) → NamesNothingBesideOne rows
 NamesNothingBesideOne-unopposed set trace rows nothing = record {
   miss = λ r c one.
       let place = row_at-from_Contains rows r c in
-      ShowsDelta-at_one set trace (after_stretch rows trace.last place.0) r.delta r.miss (IsSupported-unopposed set trace rows place.0 r nothing place.1).miss one;
+      ShowsDelta-at_one set trace (after_stretch rows trace.last place.0) r.delta r.miss
+      (IsSupported-unopposed set trace rows place.0 r nothing place.1).miss one;
   gap = λ r c one.
       let place = row_at-from_Contains rows r c in
-      ShowsPhi-at_one set trace (after_stretch rows trace.last place.0) r.phi r.gap (IsSupported-unopposed set trace rows place.0 r nothing place.1).gap one;
+      ShowsPhi-at_one set trace (after_stretch rows trace.last place.0) r.phi r.gap
+      (IsSupported-unopposed set trace rows place.0 r nothing place.1).gap one;
 }
 
 -- a miss that refutes, from tick h, the bound that is one smaller than the least, shows that it is the least there
-ShowsDelta-refuting : (set : ℕ) (trace : Recorded) (h d : ℕ) (m : Miss) → 1 < d → IsDelta set trace h d → MissRefutes set trace h (d - 1) m → ShowsDelta set trace (h + 1) d (Some m)
+ShowsDelta-refuting : (set : ℕ) (trace : Recorded) (h d : ℕ) (m : Miss)
+    → 1 < d → IsDelta set trace h d → MissRefutes set trace h (d - 1) m → ShowsDelta set trace (h + 1) d (Some m)
 ShowsDelta-refuting set trace h d m more least refutes =
     let from = refutes.from in
     let short : tick_of trace m.missed < tick_of trace m.sent + d = elim (cases_lt (tick_of trace m.missed) (tick_of trace m.sent + d)) [
@@ -41,7 +45,8 @@ ShowsDelta-refuting set trace h d m more least refutes =
     (more, refutes.miss, omega (arith, refutes.long, short, more), omega (arith, from))
 
 -- and so does a gap
-ShowsPhi-refuting : (set : ℕ) (trace : Recorded) (h f : ℕ) (w : Gap) → 1 < f → IsPhi set trace h f → GapRefutes set trace h (f - 1) w → ShowsPhi set trace (h + 1) f (Some w)
+ShowsPhi-refuting : (set : ℕ) (trace : Recorded) (h f : ℕ) (w : Gap)
+    → 1 < f → IsPhi set trace h f → GapRefutes set trace h (f - 1) w → ShowsPhi set trace (h + 1) f (Some w)
 ShowsPhi-refuting set trace h f w more least refutes =
     let from = refutes.from in
     let short : w.to + 1 < w.from + f = elim (cases_lt (w.to + 1) (w.from + f)) [
@@ -51,11 +56,12 @@ ShowsPhi-refuting set trace h f w more least refutes =
     (more, refutes.gap, omega (arith, refutes.long, short, more), omega (arith, from))
 
 AreTheFront-certified : (set : ℕ) (trace : Recorded) (rows : List Row) → Certifies set trace rows → AreTheFront set trace rows
-AreTheFront-certified set trace rows certified = record { rising = certified.rising; sound = certified.sound; complete = certified.complete }
+AreTheFront-certified set trace rows certified =
+    record { rising = certified.rising; sound = certified.sound; complete = certified.complete }
 
 -- the witnesses of a certificate show, all over each stretch, that no smaller positive bounds hold
-ShowsDelta-certified : (set : ℕ) (trace : Recorded) (rows : List Row) (k : ℕ) (r : Row) → Certifies set trace rows → NamesNothingBesideOne rows → row_at rows k ≡ Some r
-    → ShowsDelta set trace (after_stretch rows trace.last k) r.delta r.miss
+ShowsDelta-certified : (set : ℕ) (trace : Recorded) (rows : List Row) (k : ℕ) (r : Row) → Certifies set trace rows
+    → NamesNothingBesideOne rows → row_at rows k ≡ Some r → ShowsDelta set trace (after_stretch rows trace.last k) r.delta r.miss
 ShowsDelta-certified set trace rows k r certified sparing here =
     let are = AreTheFront-certified set trace rows certified in
     let (h, serves, after) = last_served set trace rows k r are here in
@@ -68,8 +74,8 @@ ShowsDelta-certified set trace rows k r certified sparing here =
           rw (named, after) (ShowsDelta-refuting set trace h r.delta m (omega (arith, positive, more)) least refutes))
     ]
 
-ShowsPhi-certified : (set : ℕ) (trace : Recorded) (rows : List Row) (k : ℕ) (r : Row) → Certifies set trace rows → NamesNothingBesideOne rows → row_at rows k ≡ Some r
-    → ShowsPhi set trace (after_stretch rows trace.last k) r.phi r.gap
+ShowsPhi-certified : (set : ℕ) (trace : Recorded) (rows : List Row) (k : ℕ) (r : Row) → Certifies set trace rows
+    → NamesNothingBesideOne rows → row_at rows k ≡ Some r → ShowsPhi set trace (after_stretch rows trace.last k) r.phi r.gap
 ShowsPhi-certified set trace rows k r certified sparing here =
     let are = AreTheFront-certified set trace rows certified in
     let (h, serves, after) = last_served set trace rows k r are here in
@@ -83,6 +89,8 @@ ShowsPhi-certified set trace rows k r certified sparing here =
     ]
 
 -- no reason holds against a certificate that names nothing beside 1
-pub IsUnopposed-certified : (set : ℕ) (trace : Recorded) (rows : List Row) → Certifies set trace rows → NamesNothingBesideOne rows → (w : Reason) → ¬ Stands set trace rows w
+pub IsUnopposed-certified : (set : ℕ) (trace : Recorded) (rows : List Row)
+    → Certifies set trace rows → NamesNothingBesideOne rows → (w : Reason) → ¬ Stands set trace rows w
 IsUnopposed-certified set trace rows certified sparing = IsUnopposed-front set trace rows (AreTheFront-certified set trace rows certified)
-    (λ k r here. ShowsDelta-certified set trace rows k r certified sparing here) (λ k r here. ShowsPhi-certified set trace rows k r certified sparing here)
+    (λ k r here. ShowsDelta-certified set trace rows k r certified sparing here)
+    (λ k r here. ShowsPhi-certified set trace rows k r certified sparing here)

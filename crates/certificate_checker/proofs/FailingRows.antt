@@ -17,7 +17,8 @@ pub found_here : {X : Type 0} (P : ℕ → X → Type 0) (k : ℕ) (x : X) → P
 found_here P k x p = (omega arith, p, λ j y l q. omega (arith, l))
 
 -- or it isn't
-pub found_passed : {X : Type 0} (P : ℕ → X → Type 0) (k : ℕ) (o : Option (ℕ × X)) → ((x : X) → ¬ P (k + 1) x) → FoundAfter P (k + 1) o → FoundAfter P k o
+pub found_passed : {X : Type 0} (P : ℕ → X → Type 0) (k : ℕ) (o : Option (ℕ × X))
+    → ((x : X) → ¬ P (k + 1) x) → FoundAfter P (k + 1) o → FoundAfter P k o
 found_passed P k None other h = λ j x l p. elim (cases_eq j (k + 1)) [
   | inl e ↦ other x (subst (λ (i : ℕ). P i x) e p)
   | inr e ↦ h j x (omega (arith, e, l)) p
@@ -32,7 +33,8 @@ found_passed P k (Some f) other h = (
 )
 
 -- it is so of no number 0
-pub found_all : {X : Type 0} (P : ℕ → X → Type 0) (o : Option (ℕ × X)) → ((j : ℕ) (x : X) → P j x → 0 < j) → FoundAfter P 0 o → IsFirstWith P o
+pub found_all : {X : Type 0} (P : ℕ → X → Type 0) (o : Option (ℕ × X))
+    → ((j : ℕ) (x : X) → P j x → 0 < j) → FoundAfter P 0 o → IsFirstWith P o
 found_all P None positive h = λ j x p. h j x (positive j x p) p
 found_all P (Some f) positive h = (h.1, λ j x p. h.2 j x (positive j x p) p)
 
@@ -41,13 +43,16 @@ pub AreFrom-earlier : (t : Recorded) (done g h : ℕ) → g ≤ h → AreFrom t 
 AreFrom-earlier t done g h l a k x e b = let c = a k x e b in omega (arith, c, l)
 
 -- the stabilization time of a scanned row is at most the next one's
-pub gst_below : (rows : List Row) (last i j : ℕ) (r : Row) → AreInOrder rows last → i < length rows → j ≤ i → row_at rows j ≡ Some r → r.gst ≤ (get_or rows i no_row).gst
-gst_below rows last i j r order inside l e = let above = order.rising j (i + 1) r (get_or rows i no_row) (omega (arith, l)) e (row_at_next rows i no_row inside) in omega (arith, above)
+pub gst_below : (rows : List Row) (last i j : ℕ) (r : Row)
+    → AreInOrder rows last → i < length rows → j ≤ i → row_at rows j ≡ Some r → r.gst ≤ (get_or rows i no_row).gst
+gst_below rows last i j r order inside l e = let above =
+    order.rising j (i + 1) r (get_or rows i no_row) (omega (arith, l)) e (row_at_next rows i no_row inside) in omega (arith, above)
 
 -- so the steps that are from the one on are from the other on
-pub from_below : (t : Recorded) (rows : List Row) (i after : ℕ) → AreInOrder rows t.last → i < length rows → AreFrom t after (get_or rows i no_row).gst
-    → (j : ℕ) (r : Row) → j ≤ i → row_at rows j ≡ Some r → AreFrom t after r.gst
-from_below t rows i after order inside from j r l e = AreFrom-earlier t after r.gst (get_or rows i no_row).gst (gst_below rows t.last i j r order inside l e) from
+pub from_below : (t : Recorded) (rows : List Row) (i after : ℕ) → AreInOrder rows t.last → i < length rows
+    → AreFrom t after (get_or rows i no_row).gst → (j : ℕ) (r : Row) → j ≤ i → row_at rows j ≡ Some r → AreFrom t after r.gst
+from_below t rows i after order inside from j r l e =
+    AreFrom-earlier t after r.gst (get_or rows i no_row).gst (gst_below rows t.last i j r order inside l e) from
 
 -- a reason of a row speaks of a row
 pub delta_row_low : (set : ℕ) (t : Recorded) (rows : List Row) (j : ℕ) (m : Miss) → Stands set t rows (DeltaFails j m) → 0 < j

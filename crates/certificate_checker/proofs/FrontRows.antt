@@ -22,11 +22,13 @@ pub record AreTheFront (set : ℕ) (trace : Recorded) (rows : List Row) : Type 0
   pub sound : (r : Row) → Contains rows r → IsOnFront set trace (triple_of r)
   pub complete : (t : Triple) → IsOnFront set trace t → Contains (map triple_of rows) t
 
-front_row : (set : ℕ) (trace : Recorded) (rows : List Row) (k : ℕ) (r : Row) → AreTheFront set trace rows → row_at rows k ≡ Some r → IsOnFront set trace (triple_of r)
+front_row : (set : ℕ) (trace : Recorded) (rows : List Row) (k : ℕ) (r : Row)
+    → AreTheFront set trace rows → row_at rows k ≡ Some r → IsOnFront set trace (triple_of r)
 front_row set trace rows k r are here = are.sound r (Contains-row_at rows k r here)
 
 -- the row of a triple of the front
-row_of_front : (set : ℕ) (trace : Recorded) (rows : List Row) (t : Triple) → AreTheFront set trace rows → IsOnFront set trace t → (k : ℕ) × (r : Row) × (row_at rows k ≡ Some r) × (r.gst ≡ t.gst)
+row_of_front : (set : ℕ) (trace : Recorded) (rows : List Row) (t : Triple)
+    → AreTheFront set trace rows → IsOnFront set trace t → (k : ℕ) × (r : Row) × (row_at rows k ≡ Some r) × (r.gst ≡ t.gst)
 row_of_front set trace rows t are front =
     let member = Contains-from_map triple_of rows t (are.complete t front) in
     let place = row_at-from_Contains rows member.0 member.1 in
@@ -102,7 +104,8 @@ least_after set trace rows k r g are serves begun least = record {
   no_other d f delta phi other =
       let t : Triple = record { gst = suc g; delta = d; phi = f } in
       let e : suc g - 1 ≡ g = omega arith in
-      let front = IsOnFront-from_change set trace t (omega arith) (served_within rows trace.last k r (suc g) order serves) delta phi (λ later a b. other (
+      let front = IsOnFront-from_change set trace t
+      (omega arith) (served_within rows trace.last k r (suc g) order serves) delta phi (λ later a b. other (
         IsLeastBound-unique (DeltaHolds set trace g) d r.delta (rw e at a) least.delta,
         IsLeastBound-unique (PhiHolds set trace g) f r.phi (rw e at b) least.phi,
       )) in
@@ -111,7 +114,8 @@ least_after set trace rows k r g are serves begun least = record {
       let until = serves.until in
       begins_outside rows trace.last k row.0 r row.1 order serves.row row.2 (omega (arith, gst, begun)) (omega (arith, gst, until))
 
-pub least_served : (set : ℕ) (trace : Recorded) (rows : List Row) (k : ℕ) (r : Row) (g : ℕ) → AreTheFront set trace rows → Serves rows trace.last k r g → AreLeast set trace r g
+pub least_served : (set : ℕ) (trace : Recorded) (rows : List Row) (k : ℕ) (r : Row) (g : ℕ)
+    → AreTheFront set trace rows → Serves rows trace.last k r g → AreLeast set trace r g
 least_served set trace rows k r zero are serves = absurd (
     let start = (front_row set trace rows k r are serves.row).feasible.start in
     omega (arith, start, serves.from))
@@ -133,13 +137,18 @@ pub last_served : (set : ℕ) (trace : Recorded) (rows : List Row) (k : ℕ) (r 
     → row_at rows k ≡ Some r → (h : ℕ) × Serves rows trace.last k r h × (after_stretch rows trace.last k ≡ h + 1)
 last_served set trace rows k r are here =
     let own = begins_within rows trace.last k r (AreInOrder-front set trace rows are) here in
-    let until = own.until in
-    (after_stretch rows trace.last k - 1, record { row = here; from = omega (arith, until); until = omega (arith, until) }, omega (arith, until))
+    let until = own.until in (
+      after_stretch rows trace.last k - 1,
+      record { row = here; from = omega (arith, until); until = omega (arith, until) },
+      omega (arith, until),
+    )
 
 -- a row begins after the row before it
-follows : (set : ℕ) (trace : Recorded) (rows : List Row) (k : ℕ) (a : HasTwoRows rows k) → AreTheFront set trace rows → a.before.gst < a.row.gst
+follows : (set : ℕ) (trace : Recorded) (rows : List Row) (k : ℕ) (a : HasTwoRows rows k)
+    → AreTheFront set trace rows → a.before.gst < a.row.gst
 follows set trace rows zero a are = absurd (none-some a.row a.here)
-follows set trace rows (suc k) a are = let e : suc k - 1 ≡ k = omega arith in later_above rows k (suc k) a.before a.row are.rising (rw e at a.there) a.here (omega arith)
+follows set trace rows (suc k) a are = let e : suc k - 1 ≡ k = omega arith in
+    later_above rows k (suc k) a.before a.row are.rising (rw e at a.there) a.here (omega arith)
 
 -- no reason holds against the rows of the front if their witnesses show, all over each stretch, that no smaller
 -- positive bounds hold
@@ -150,8 +159,10 @@ pub IsUnopposed-front : (set : ℕ) (trace : Recorded) (rows : List Row) → Are
 IsUnopposed-front set trace rows are misses gaps NoRows s = row_of_one set trace rows are s.1
     (λ k r here one. Contains-nil r (subst (λ (rs : List Row). Contains rs r) s.0 (Contains-row_at rows k r here)))
 IsUnopposed-front set trace rows are misses gaps FirstNotOne s = s.1 ((AreInOrder-front set trace rows are).first s.0.row s.0.here)
-IsUnopposed-front set trace rows are misses gaps (NotRising k) s = let l = follows set trace rows k s.0 are in let m = s.1 in absurd (omega (arith, l, m))
-IsUnopposed-front set trace rows are misses gaps (BeyondEnd k) s = let l = (AreInOrder-front set trace rows are).end k s.0.row s.0.here in let m = s.1 in absurd (omega (arith, l, m))
+IsUnopposed-front set trace rows are misses gaps (NotRising k) s =
+    let l = follows set trace rows k s.0 are in let m = s.1 in absurd (omega (arith, l, m))
+IsUnopposed-front set trace rows are misses gaps (BeyondEnd k) s =
+    let l = (AreInOrder-front set trace rows are).end k s.0.row s.0.here in let m = s.1 in absurd (omega (arith, l, m))
 IsUnopposed-front set trace rows are misses gaps (NotNonIncreasing k) s =
     let before = front_row set trace rows (k - 1) s.0.before are s.0.there in
     let here = front_row set trace rows k s.0.row are s.0.here in

@@ -68,7 +68,8 @@ KnowsMissesAfter-earlier set t s (Some v) (Some w) low here later = go (nat_lt (
       omega (arith, ltb-false _ _ e, here.last o i q, at, same, i.late, later.miss.late, here.miss.late)) later
 
 -- the misses that are found have a length
-pub span_of_last : (set : ℕ) (t : Recorded) (s : ℕ) (o : Option Miss) → MatchOption o (HasNoMiss set t s) (IsLastMiss set t s) → IfSome o (HasSpan t)
+pub span_of_last : (set : ℕ) (t : Recorded) (s : ℕ) (o : Option Miss)
+    → MatchOption o (HasNoMiss set t s) (IsLastMiss set t s) → IfSome o (HasSpan t)
 span_of_last set t s None h = tt
 span_of_last set t s (Some m) h = HasSpan-of_miss set t m h.miss
 

@@ -96,7 +96,8 @@ no_miss set trace g none m i l = none_best Miss (IsMissFrom set trace g) (span_o
           })
 
 -- one miss is named as the longest
-pub IsLongestMiss-unique : (set : ℕ) (trace : Recorded) (g : ℕ) (m o : Miss) → IsTimed trace → IsLongestMiss set trace g m → IsLongestMiss set trace g o → m ≡ o
+pub IsLongestMiss-unique : (set : ℕ) (trace : Recorded) (g : ℕ) (m o : Miss)
+    → IsTimed trace → IsLongestMiss set trace g m → IsLongestMiss set trace g o → m ≡ o
 IsLongestMiss-unique set trace g m o time a b =
     let below = a.longest o b.miss b.from in
     let above = b.longest m a.miss a.from in
@@ -104,8 +105,10 @@ IsLongestMiss-unique set trace g m o time a b =
     let high = b.greatest m a.miss a.from (omega (arith, below, above)) in
     let sent : m.sent ≡ o.sent = omega (arith, low, high) in
     let tick = ap (tick_of trace) sent in
-    let to = IsMessage-receiver set trace.steps o.sent a.miss.to b.miss.to (subst (λ s. IsMessage set trace.steps s a.miss.to) sent a.miss.message) b.miss.message in
-    Miss-same m o sent (one_in_tick trace time m.missed o.missed _ _ a.miss.receive.step b.miss.receive.step to (omega (arith, tick, below, above)))
+    let to = IsMessage-receiver set trace.steps o.sent a.miss.to b.miss.to
+    (subst (λ s. IsMessage set trace.steps s a.miss.to) sent a.miss.message) b.miss.message in
+    Miss-same m o sent
+    (one_in_tick trace time m.missed o.missed _ _ a.miss.receive.step b.miss.receive.step to (omega (arith, tick, below, above)))
 
 -- if no gap is the longest from tick g on, there is none
 pub no_gap : (set : ℕ) (trace : Recorded) (g : ℕ) → ((w : Gap) → ¬ IsLongestGap set trace g w)

@@ -25,7 +25,8 @@ too_short_here closings rows i s inside longest some short = record {
 }
 
 -- two that are longest are equally long
-as_long : (closings : List ℕ) (g : ℕ) (s v : LongestSilence) → IsLongestSilence closings g s → IsLongestSilence closings g v → v.start < v.end → v.end - v.start ≤ s.end - s.start
+as_long : (closings : List ℕ) (g : ℕ) (s v : LongestSilence)
+    → IsLongestSilence closings g s → IsLongestSilence closings g v → v.start < v.end → v.end - v.start ≤ s.end - s.start
 as_long closings g s v l h some = omega (arith, l.longest v.start h.from (h.inside some), h.closed some, l.order, some)
 
 -- no row is too short if it isn't by the longest silence
@@ -42,8 +43,8 @@ too_short_not closings rows i s longest not v h =
     omega (arith, most, h.some, h.short, late, bound)
 
 -- in a tick that isn't closed by itself a gap begins that ends before the tick that closes it
-gap_of_closing : (set : ℕ) (t : Recorded) (closings : List ℕ) (x : ℕ) → AreClosings set t closings → 1 ≤ x → x ≤ t.last → x < slice_index closings x
-    → (w : Gap) × IsGap set t w × (w.from ≡ x) × (w.to + 1 ≡ slice_index closings x)
+gap_of_closing : (set : ℕ) (t : Recorded) (closings : List ℕ) (x : ℕ) → AreClosings set t closings
+    → 1 ≤ x → x ≤ t.last → x < slice_index closings x → (w : Gap) × IsGap set t w × (w.from ≡ x) × (w.to + 1 ≡ slice_index closings x)
 gap_of_closing set t closings x c low high some =
     let at = c.each x high in
     let h = at.unmet some in
@@ -61,13 +62,15 @@ gap_of_closing set t closings x c low high some =
     )
 
 -- no gap lasts longer
-gap_closes : (set : ℕ) (t : Recorded) (closings : List ℕ) (o : Gap) → AreClosings set t closings → IsGap set t o → o.to < slice_index closings o.from
+gap_closes : (set : ℕ) (t : Recorded) (closings : List ℕ) (o : Gap)
+    → AreClosings set t closings → IsGap set t o → o.to < slice_index closings o.from
 gap_closes set t closings o c g =
     let inside = g.inside in
     let at = c.each o.from (omega (arith, g.order, inside)) in
     elim (cases_lt o.to (slice_index closings o.from)) [
       | inl l ↦ l
-      | inr l ↦ absurd (let s = at.full (omega (arith, l, inside)) o.proc g.member in let until = s.until in g.silent s.tick s.from (omega (arith, until, l)) s.step)
+      | inr l ↦ absurd (let s = at.full (omega (arith, l, inside)) o.proc g.member in
+          let until = s.until in g.silent s.tick s.from (omega (arith, until, l)) s.step)
     ]
 
 -- if the longest silence begins, a gap begins
@@ -78,7 +81,8 @@ silence_has_gap set t closings g s c low l some none =
     let inside = l.inside some in
     let long = c.long in
     let closed = l.closed some in
-    let w = gap_of_closing set t closings s.start c (omega (arith, low, from)) (omega (arith, inside, long)) (omega (arith, closed, some)) in
+    let w = gap_of_closing set t closings s.start c
+    (omega (arith, low, from)) (omega (arith, inside, long)) (omega (arith, closed, some)) in
     none w.0 w.1 w.2
 
 -- the longest gap that begins there is the longest from the tick on
@@ -91,7 +95,8 @@ IsLongestGap-from_silence set t closings g s w c low l some at =
     let long = c.long in
     let closed = l.closed some in
     let here = at.from in
-    let v = gap_of_closing set t closings s.start c (omega (arith, low, from)) (omega (arith, inside, long)) (omega (arith, closed, some)) in
+    let v = gap_of_closing set t closings s.start c
+    (omega (arith, low, from)) (omega (arith, inside, long)) (omega (arith, closed, some)) in
     let least = at.longest v.0 v.1 v.2 in
     let w_at = ap (λ (x : ℕ). slice_index closings x) here in
     let end : w.to + 1 ≡ s.end = omega (arith, least, v.3, gap_closes set t closings w c at.gap, w_at, closed) in
@@ -158,8 +163,8 @@ PhiFails-from_silence set t closings rows k s w c order h at =
     )
 
 -- and a row that fails is too short
-pub too_short-from_PhiFails : (set : ℕ) (t : Recorded) (closings : List ℕ) (rows : List Row) (k : ℕ) (w : Gap) → AreClosings set t closings → AreInOrder rows t.last → Stands set t rows (PhiFails k w)
-    → IsTooShort closings rows k (record { start = w.from; end = w.to + 1 })
+pub too_short-from_PhiFails : (set : ℕ) (t : Recorded) (closings : List ℕ) (rows : List Row) (k : ℕ) (w : Gap) → AreClosings set t closings
+    → AreInOrder rows t.last → Stands set t rows (PhiFails k w) → IsTooShort closings rows k (record { start = w.from; end = w.to + 1 })
 too_short-from_PhiFails set t closings rows k w c order s =
     let low = order.start k s.0.row s.0.here in
     record {

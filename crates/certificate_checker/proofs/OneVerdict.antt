@@ -13,7 +13,8 @@ one_row rows j k a b e = same_Some a.row b.row (sym a.here ∙ ap (row_at rows) 
 
 -- two reasons that hold against the same rows, with the same place in the list of reasons and the same row, are
 -- one
-one_reason : (set : ℕ) (trace : Recorded) (rows : List Row) (w v : Reason) → IsTimed trace → Stands set trace rows w → Stands set trace rows v → place_of w ≡ place_of v → row_of w ≡ row_of v → w ≡ v
+one_reason : (set : ℕ) (trace : Recorded) (rows : List Row) (w v : Reason)
+    → IsTimed trace → Stands set trace rows w → Stands set trace rows v → place_of w ≡ place_of v → row_of w ≡ row_of v → w ≡ v
 one_reason set trace rows NoRows NoRows time a b p k = refl
 one_reason set trace rows FirstNotOne FirstNotOne time a b p k = refl
 one_reason set trace rows (NotRising i) (NotRising j) time a b p k = ap (λ (x : ℕ). NotRising x) k
@@ -40,7 +41,8 @@ same_place w v (inr l) (inl m) = absurd (let e = l.0 in omega (arith, m, e))
 same_place w v (inr l) (inr m) = (l.0, let x = l.1 in let y = m.1 in omega (arith, x, y))
 
 -- rows have one verdict
-pub IsVerdict-unique : (set : ℕ) (trace : Recorded) (rows : List Row) (a b : Verdict) → IsTrace trace → IsVerdict set trace rows a → IsVerdict set trace rows b → a ≡ b
+pub IsVerdict-unique : (set : ℕ) (trace : Recorded) (rows : List Row) (a b : Verdict)
+    → IsTrace trace → IsVerdict set trace rows a → IsVerdict set trace rows b → a ≡ b
 IsVerdict-unique set trace rows Yes Yes t a b = refl
 IsVerdict-unique set trace rows Yes (No v) t a b = absurd (a v b.0)
 IsVerdict-unique set trace rows (No w) Yes t a b = absurd (b w a.0)

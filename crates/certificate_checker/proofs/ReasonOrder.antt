@@ -38,7 +38,8 @@ place_low (BadGap k) = omega arith
 place_low (DeltaFails k x) = omega arith
 place_low (PhiFails k x) = omega arith
 
-pub verdict_some : (set : ℕ) (t : Recorded) (rows : List Row) (high : ℕ) (w : Reason) → IsFirstReason set t rows 1 high (Some w) → IsVerdict set t rows (No w)
+pub verdict_some : (set : ℕ) (t : Recorded) (rows : List Row) (high : ℕ) (w : Reason)
+    → IsFirstReason set t rows 1 high (Some w) → IsVerdict set t rows (No w)
 verdict_some set t rows high w h = (h.0, λ o s. h.1 o (place_low o) s)
 
 -- the first if the condition holds, else the second
@@ -73,18 +74,23 @@ at_place P (DeltaFails k x) h = h k x
 at_place P (PhiFails k x) h = h k x
 
 -- no reason with this place holds
-pub none_in : (set : ℕ) (t : Recorded) (rows : List Row) (i : ℕ) → AtPlace (λ o. ¬ Stands set t rows o) i → IsFirstReason set t rows i i None
+pub none_in : (set : ℕ) (t : Recorded) (rows : List Row) (i : ℕ)
+    → AtPlace (λ o. ¬ Stands set t rows o) i → IsFirstReason set t rows i i None
 none_in set t rows i none o low high s =
     let e : i ≡ place_of o = omega (arith, low, high) in
     at_place (λ w. ¬ Stands set t rows w) o (subst (λ (j : ℕ). AtPlace (λ w. ¬ Stands set t rows w) j) e none) s
 
 -- of those with its place this reason is the first
-pub first_in : (set : ℕ) (t : Recorded) (rows : List Row) (w : Reason) → Stands set t rows w → AtPlace (λ o. Stands set t rows o → row_of w ≤ row_of o) (place_of w)
-    → IsFirstReason set t rows (place_of w) (place_of w) (Some w)
+pub first_in : (set : ℕ) (t : Recorded) (rows : List Row) (w : Reason) → Stands set t rows w
+    → AtPlace (λ o. Stands set t rows o → row_of w ≤ row_of o) (place_of w) → IsFirstReason set t rows (place_of w) (place_of w) (Some w)
 first_in set t rows w s least = (
   s,
   λ o low q. elim (cases_eq (place_of w) (place_of o)) [
-    | inl e ↦ inr (e, at_place (λ v. Stands set t rows v → row_of w ≤ row_of v) o (subst (λ (j : ℕ). AtPlace (λ v. Stands set t rows v → row_of w ≤ row_of v) j) e least) q)
+    | inl e ↦ inr (
+      e,
+      at_place (λ v. Stands set t rows v → row_of w ≤ row_of v) o
+          (subst (λ (j : ℕ). AtPlace (λ v. Stands set t rows v → row_of w ≤ row_of v) j) e least) q,
+    )
     | inr e ↦ inl (omega (arith, low, e))
   ],
 )
@@ -125,6 +131,7 @@ pub some_rows : (set : ℕ) (t : Recorded) (rows : List Row) → (length rows �
 some_rows set t rows some = none_in set t rows 1 (λ s. some (ap (λ (list : List Row). length list) s.0))
 
 -- the first stabilization time is 1
-pub first_is_one : (set : ℕ) (t : Recorded) (rows : List Row) → (length rows ≡ 0 → ⊥) → (get_or rows 0 no_row).gst ≡ 1 → IsFirstReason set t rows 1 2 None
+pub first_is_one : (set : ℕ) (t : Recorded) (rows : List Row)
+    → (length rows ≡ 0 → ⊥) → (get_or rows 0 no_row).gst ≡ 1 → IsFirstReason set t rows 1 2 None
 first_is_one set t rows some one = first_after set t rows 1 1 2 2 None refl (some_rows set t rows some)
     (none_in set t rows 2 (λ s. s.1 (ap (λ (r : Row). r.gst) (row_at_same rows 0 s.0.row no_row s.0.here) ∙ one)))

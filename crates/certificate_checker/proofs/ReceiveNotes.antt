@@ -13,7 +13,8 @@ use Rattle.certificate_checker.proofs.Common.{IsWellFormed, Contains-from_takes,
 use Rattle.certificate_checker.proofs.Common.{Receives, IsLastBefore, KnowsReceives}
 
 -- a last Receive stays it after a step that is no Receive of its processor
-IsLastBefore-later : (steps : List Step) (p x r : ℕ) → (IsReceiveOf steps x p → ⊥) → IsLastBefore steps p x r → IsLastBefore steps p (x + 1) r
+IsLastBefore-later : (steps : List Step) (p x r : ℕ)
+    → (IsReceiveOf steps x p → ⊥) → IsLastBefore steps p x r → IsLastBefore steps p (x + 1) r
 IsLastBefore-later steps p x r other l = record {
   found = λ h. let f = l.found h in (let below = f.0 in omega (arith, below), f.1);
   last = λ y receive below. elim (cases_eq y x) [
@@ -30,7 +31,8 @@ IsLastBefore-here steps p x receive = record {
 }
 
 -- over a step that takes nothing, and is no Receive, nothing changes
-pub KnowsReceives-send : (t : Recorded) (x a b : ℕ) (r : Receives) → 1 ≤ x → step_at t.steps x ≡ Some (record { proc = a; act = Send b }) → KnowsReceives t (x - 1) r → KnowsReceives t x r
+pub KnowsReceives-send : (t : Recorded) (x a b : ℕ) (r : Receives)
+    → 1 ≤ x → step_at t.steps x ≡ Some (record { proc = a; act = Send b }) → KnowsReceives t (x - 1) r → KnowsReceives t x r
 KnowsReceives-send t x a b r low h k =
     let next : x - 1 + 1 ≡ x = omega arith in
     record {
@@ -49,18 +51,21 @@ KnowsReceives-send t x a b r low h k =
     }
 
 -- whether a Receive takes a message, by the test that the notes use
-takes_id : (t : Recorded) (x p s : ℕ) (ids : List ℕ) (ends : Bool) → step_at t.steps x ≡ Some (record { proc = p; act = Receive ends ids }) → list_any (λ i. i == s) ids ≡ true → TakesAt t.steps x s
+takes_id : (t : Recorded) (x p s : ℕ) (ids : List ℕ) (ends : Bool)
+    → step_at t.steps x ≡ Some (record { proc = p; act = Receive ends ids }) → list_any (λ i. i == s) ids ≡ true → TakesAt t.steps x s
 takes_id t x p s ids ends h e = (record { proc = p; act = Receive ends ids }, h, Contains-from_takes (Receive ends ids) s e)
 
-id_taken : (t : Recorded) (x p s : ℕ) (ids : List ℕ) (ends : Bool) → step_at t.steps x ≡ Some (record { proc = p; act = Receive ends ids }) → TakesAt t.steps x s → list_any (λ i. i == s) ids ≡ true
+id_taken : (t : Recorded) (x p s : ℕ) (ids : List ℕ) (ends : Bool)
+    → step_at t.steps x ≡ Some (record { proc = p; act = Receive ends ids }) → TakesAt t.steps x s → list_any (λ i. i == s) ids ≡ true
 id_taken t x p s ids ends h takes =
     let same = same_step t.steps x _ _ takes.1 h in
     act_takes-from_Contains (Receive ends ids) s (subst (λ (z : Step). Contains (act_ids z.act) s) same takes.2)
 
 -- the note of a message that some step up to x takes
-taken_of : (t : Recorded) (x p s j : ℕ) (ids : List ℕ) (ends : Bool) (old : Receives) → IsWellFormed t.config t.steps → p ≤ t.config.n → 1 ≤ x
-    → step_at t.steps x ≡ Some (record { proc = p; act = Receive ends ids }) → KnowsReceives t (x - 1) old → j ≤ x → (takes : TakesAt t.steps j s)
-    → (b : Bool) → list_any (λ i. i == s) ids ≡ b → IsLastBefore t.steps takes.0.proc j (cond b (get_or old.last.items p 0) (get_or old.before.items s 0))
+taken_of : (t : Recorded) (x p s j : ℕ) (ids : List ℕ) (ends : Bool) (old : Receives)
+    → IsWellFormed t.config t.steps → p ≤ t.config.n → 1 ≤ x → step_at t.steps x ≡ Some (record { proc = p; act = Receive ends ids })
+    → KnowsReceives t (x - 1) old → j ≤ x → (takes : TakesAt t.steps j s) → (b : Bool) → list_any (λ i. i == s) ids ≡ b
+    → IsLastBefore t.steps takes.0.proc j (cond b (get_or old.last.items p 0) (get_or old.before.items s 0))
 taken_of t x p s j ids ends old w within low h k u takes true e =
     let next : x - 1 + 1 ≡ x = omega arith in
     let here : j ≡ x = w.once j x s takes (takes_id t x p s ids ends h e) in
@@ -69,7 +74,8 @@ taken_of t x p s j ids ends old w within low h k u takes true e =
     subst (λ (q : ℕ). IsLastBefore t.steps q j (get_or old.last.items p 0)) (sym proc)
     (subst (λ (i : ℕ). IsLastBefore t.steps p i (get_or old.last.items p 0)) (sym here) (rw next at k.last p within))
 taken_of t x p s j ids ends old w within low h k u takes false e = elim (cases_eq j x) [
-  | inl here ↦ absurd (let some = id_taken t x p s ids ends h (takes.0, subst (λ (i : ℕ). step_at t.steps i ≡ Some takes.0) here takes.1, takes.2) in cc)
+  | inl here ↦ absurd
+      (let some = id_taken t x p s ids ends h (takes.0, subst (λ (i : ℕ). step_at t.steps i ≡ Some takes.0) here takes.1, takes.2) in cc)
   | inr other ↦ k.taken j s (omega (arith, other, u)) takes
 ]
 
@@ -83,22 +89,25 @@ known_of t x p s ids ends old low h k within true e some = (x, takes_id t x p s 
 known_of t x p s ids ends old low h k within false e some = let f = k.known s some within in let u = f.2 in (f.0, f.1, omega (arith, u))
 
 -- over a Receive the notes of the messages that it takes, and of its processor, are right again
-pub KnowsReceives-receive : (t : Recorded) (x p : ℕ) (ids : List ℕ) (ends : Bool) (old new : Receives) → IsWellFormed t.config t.steps → p ≤ t.config.n → 1 ≤ x
-    → step_at t.steps x ≡ Some (record { proc = p; act = Receive ends ids }) → KnowsReceives t (x - 1) old
-    → length new.before.items ≡ length old.before.items → AreNoted (get_or old.last.items p 0) ids old.before.items new.before.items → new.last.items ≡ set old.last.items p x
-    → KnowsReceives t x new
+pub KnowsReceives-receive : (t : Recorded) (x p : ℕ) (ids : List ℕ) (ends : Bool) (old new : Receives) → IsWellFormed t.config t.steps
+    → p ≤ t.config.n → 1 ≤ x → step_at t.steps x ≡ Some (record { proc = p; act = Receive ends ids }) → KnowsReceives t (x - 1) old
+    → length new.before.items ≡ length old.before.items → AreNoted (get_or old.last.items p 0) ids old.before.items new.before.items
+    → new.last.items ≡ set old.last.items p x → KnowsReceives t x new
 KnowsReceives-receive t x p ids ends old new w within low h k long notes lasts =
     let next : x - 1 + 1 ≡ x = omega arith in
     let receive : IsReceiveOf t.steps x p = record { ids = ids; ends = ends; step = h } in
     record {
       before_long = long ∙ k.before_long;
       last_long = ap length lasts ∙ length-set old.last.items p x ∙ k.last_long;
-      taken = λ j s u takes. subst (λ (r : ℕ). IsLastBefore t.steps takes.0.proc j r) (sym (notes s)) (taken_of t x p s j ids ends old w within low h k u takes (list_any (λ i. i == s) ids) refl);
+      taken = λ j s u takes. subst (λ (r : ℕ). IsLastBefore t.steps takes.0.proc j r)
+          (sym (notes s)) (taken_of t x p s j ids ends old w within low h k u takes (list_any (λ i. i == s) ids) refl);
       known = λ s some u. known_of t x p s ids ends old low h k u (list_any (λ i. i == s) ids) refl (λ e. some (notes s ∙ e));
       last = λ q u. rw lasts (elim (cases_eq q p) [
         | inl e ↦ (let l = k.last_long in let inside : p < length old.last.items = omega (arith, l, within) in
-            subst (λ (m : ℕ). IsLastBefore t.steps m (x + 1) (get_or (set old.last.items p x) m 0)) (sym e) (rw get_or-set_same (IsLastBefore-here t.steps p x receive)))
+            subst (λ (m : ℕ). IsLastBefore t.steps m (x + 1) (get_or (set old.last.items p x) m 0))
+            (sym e) (rw get_or-set_same (IsLastBefore-here t.steps p x receive)))
         | inr e ↦ (let apart : q ≢ p = e in
-            rw get_or-set_other (IsLastBefore-later t.steps q x _ (λ r. e (receive_unique t.steps x q p r receive)) (rw next at k.last q u)))
+            rw get_or-set_other
+            (IsLastBefore-later t.steps q x _ (λ r. e (receive_unique t.steps x q p r receive)) (rw next at k.last q u)))
       ]);
     }

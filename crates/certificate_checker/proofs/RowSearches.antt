@@ -31,7 +31,8 @@ row_found Q rows k d l q n = (
 pub row_passed : (Q : ℕ → Row → Type 0) (rows : List Row) (k : ℕ) (d : Row) → (¬ Q (k + 1) (get_or rows k d))
     → ((j : ℕ) → ((a : HasRow rows j) × Q j a.row) → k < j) → (j : ℕ) → ((a : HasRow rows j) × Q j a.row) → k + 1 < j
 row_passed Q rows k d other n j h = elim (cases_eq j (k + 1)) [
-  | inl e ↦ absurd (other (subst (λ (r : Row). Q (k + 1) r) (row_at_same rows k h.0.row d (subst (λ (i : ℕ). row_at rows i ≡ Some h.0.row) e h.0.here)) (subst (λ (i : ℕ). Q i h.0.row) e h.1)))
+  | inl e ↦ absurd (other (subst (λ (r : Row). Q (k + 1) r)
+      (row_at_same rows k h.0.row d (subst (λ (i : ℕ). row_at rows i ≡ Some h.0.row) e h.0.here)) (subst (λ (i : ℕ). Q i h.0.row) e h.1)))
   | inr e ↦ (let m = n j h in omega (arith, e, m))
 ]
 
@@ -45,11 +46,20 @@ pub row_first : (Q : ℕ → Row → Type 0) (rows : List Row) (j : ℕ) → ((a
 row_first Q rows j h = let w = row_at_within rows j h.0.row h.0.here in omega (arith, w.0)
 
 -- the same of a row and the row before it
-pub two_rows_found : (Q : Row → Row → Type 0) (rows : List Row) (k : ℕ) (d : Row) → 1 ≤ k → k < length rows → Q (get_or rows (k - 1) d) (get_or rows k d)
-    → ((j : ℕ) → ((a : HasTwoRows rows j) × Q a.before a.row) → k < j) → IsFirst (λ j. (a : HasTwoRows rows j) × Q a.before a.row) (Some (k + 1))
+pub two_rows_found : (Q : Row → Row → Type 0) (rows : List Row) (k : ℕ) (d : Row) → 1 ≤ k
+    → k < length rows → Q (get_or rows (k - 1) d) (get_or rows k d) → ((j : ℕ) → ((a : HasTwoRows rows j) × Q a.before a.row) → k < j)
+    → IsFirst (λ j. (a : HasTwoRows rows j) × Q a.before a.row) (Some (k + 1))
 two_rows_found Q rows k d o l q n =
     let back : k + 1 - 1 ≡ k - 1 + 1 = omega arith in (
-      (record { before = get_or rows (k - 1) d; row = get_or rows k d; there = rw back (row_at_next rows (k - 1) d (omega arith)); here = row_at_next rows k d l }, q),
+      (
+        record {
+          before = get_or rows (k - 1) d;
+          row = get_or rows k d;
+          there = rw back (row_at_next rows (k - 1) d (omega arith));
+          here = row_at_next rows k d l;
+        },
+        q,
+      ),
       λ j h. (let m = n j h in omega arith),
     )
 
@@ -59,7 +69,8 @@ pub two_rows_passed : (Q : Row → Row → Type 0) (rows : List Row) (k : ℕ) (
 two_rows_passed Q rows k d o other n j h = elim (cases_eq j (k + 1)) [
   | inl e ↦ absurd (let back : k + 1 - 1 ≡ k - 1 + 1 = omega arith in
       let row = row_at_same rows k h.0.row d (subst (λ (i : ℕ). row_at rows i ≡ Some h.0.row) e h.0.here) in
-      let before = row_at_same rows (k - 1) h.0.before d (subst (λ (i : ℕ). row_at rows i ≡ Some h.0.before) (ap (λ (i : ℕ). i - 1) e ∙ back) h.0.there) in
+      let before = row_at_same rows (k - 1) h.0.before d
+      (subst (λ (i : ℕ). row_at rows i ≡ Some h.0.before) (ap (λ (i : ℕ). i - 1) e ∙ back) h.0.there) in
       other (subst (λ (r : Row). Q (get_or rows (k - 1) d) r) row (subst (λ (r : Row). Q r h.0.row) before h.1)))
   | inr e ↦ (let m = n j h in omega (arith, e, m))
 ]

@@ -5,13 +5,15 @@ use Rattle.step_trace.proofs.BoundDecisions.{below}
 use Rattle.certificate_checker.proofs.Common.{Miss, Gap, Recorded, tick_of, DeltaHolds, PhiHolds, IsDelta, IsPhi, MissRefutes, GapRefutes, MissRefutes-sound, GapRefutes-sound, ShowsDelta, ShowsPhi}
 use Rattle.certificate_checker.proofs.WitnessDecisions.{all_or_not, at_most_or_not, miss_or_not, gap_or_not}
 
-pub ShowsDelta-or_not : (set : ℕ) (trace : Recorded) (after d : ℕ) (o : Option Miss) → ShowsDelta set trace after d o ⊎ (¬ ShowsDelta set trace after d o)
+pub ShowsDelta-or_not : (set : ℕ) (trace : Recorded) (after d : ℕ) (o : Option Miss)
+    → ShowsDelta set trace after d o ⊎ (¬ ShowsDelta set trace after d o)
 ShowsDelta-or_not set trace after d None = cases_eq d 1
 ShowsDelta-or_not set trace after d (Some m) =
     all_or_not (below 1 d) (miss_or_not set trace m)
     (cases_eq (tick_of trace m.sent + d) (tick_of trace m.missed + 1)) (at_most_or_not after (tick_of trace m.sent + 1))
 
-pub ShowsPhi-or_not : (set : ℕ) (trace : Recorded) (after f : ℕ) (o : Option Gap) → ShowsPhi set trace after f o ⊎ (¬ ShowsPhi set trace after f o)
+pub ShowsPhi-or_not : (set : ℕ) (trace : Recorded) (after f : ℕ) (o : Option Gap)
+    → ShowsPhi set trace after f o ⊎ (¬ ShowsPhi set trace after f o)
 ShowsPhi-or_not set trace after f None = cases_eq f 1
 ShowsPhi-or_not set trace after f (Some w) =
     all_or_not (below 1 f) (gap_or_not set trace w) (cases_eq (w.from + f) (w.to + 2)) (at_most_or_not after (w.from + 1))
@@ -26,20 +28,21 @@ ShowsPhi-positive set trace after f None s = omega (arith, s)
 ShowsPhi-positive set trace after f (Some w) s = let l = s.0 in omega (arith, l)
 
 -- from each tick before `after` it refutes every smaller positive bound
-pub ShowsDelta-refutes : (set : ℕ) (trace : Recorded) (after d : ℕ) (o : Option Miss) → ShowsDelta set trace after d o → (g e : ℕ) → g < after → 1 ≤ e → e < d
-    → (m : Miss) × (o ≡ Some m) × MissRefutes set trace g e m
+pub ShowsDelta-refutes : (set : ℕ) (trace : Recorded) (after d : ℕ) (o : Option Miss)
+    → ShowsDelta set trace after d o → (g e : ℕ) → g < after → 1 ≤ e → e < d → (m : Miss) × (o ≡ Some m) × MissRefutes set trace g e m
 ShowsDelta-refutes set trace after d None s g e before positive smaller = absurd (omega (arith, s, positive, smaller))
 ShowsDelta-refutes set trace after d (Some m) s g e before positive smaller =
     (m, refl, record { miss = s.1; from = omega (arith, s.3, before); long = omega (arith, s.2, smaller) })
 
-pub ShowsPhi-refutes : (set : ℕ) (trace : Recorded) (after f : ℕ) (o : Option Gap) → ShowsPhi set trace after f o → (g e : ℕ) → g < after → 1 ≤ e → e < f
-    → (w : Gap) × (o ≡ Some w) × GapRefutes set trace g e w
+pub ShowsPhi-refutes : (set : ℕ) (trace : Recorded) (after f : ℕ) (o : Option Gap)
+    → ShowsPhi set trace after f o → (g e : ℕ) → g < after → 1 ≤ e → e < f → (w : Gap) × (o ≡ Some w) × GapRefutes set trace g e w
 ShowsPhi-refutes set trace after f None s g e before positive smaller = absurd (omega (arith, s, positive, smaller))
 ShowsPhi-refutes set trace after f (Some w) s g e before positive smaller =
     (w, refl, record { gap = s.1; from = omega (arith, s.3, before); long = omega (arith, s.2, smaller) })
 
 -- so from each tick before `after` the bound is the least, if it holds there
-pub IsDelta-shown : (set : ℕ) (trace : Recorded) (after d g : ℕ) (o : Option Miss) → ShowsDelta set trace after d o → g < after → DeltaHolds set trace g d → IsDelta set trace g d
+pub IsDelta-shown : (set : ℕ) (trace : Recorded) (after d g : ℕ) (o : Option Miss)
+    → ShowsDelta set trace after d o → g < after → DeltaHolds set trace g d → IsDelta set trace g d
 IsDelta-shown set trace after d g o s before holds = record {
   positive = ShowsDelta-positive set trace after d o s;
   holds = holds;
@@ -49,7 +52,8 @@ IsDelta-shown set trace after d g o s before holds = record {
   ];
 }
 
-pub IsPhi-shown : (set : ℕ) (trace : Recorded) (after f g : ℕ) (o : Option Gap) → ShowsPhi set trace after f o → g < after → PhiHolds set trace g f → IsPhi set trace g f
+pub IsPhi-shown : (set : ℕ) (trace : Recorded) (after f g : ℕ) (o : Option Gap)
+    → ShowsPhi set trace after f o → g < after → PhiHolds set trace g f → IsPhi set trace g f
 IsPhi-shown set trace after f g o s before holds = record {
   positive = ShowsPhi-positive set trace after f o s;
   holds = holds;

@@ -9,7 +9,8 @@ use Rattle.certificate_checker.proofs.Common.{Gap, has_proc, Recorded, IsGap, Si
 -- the silence of a member, if it is read
 pub silence_of : (set : ℕ) (t : Recorded) (silences : List Silence) (p : ℕ) (s : Silence) → AreSilences set t silences
     → IsTrue (has_proc set p) → p ≤ t.config.n → s ≡ get_or silences p s → IsSilence t p s
-silence_of set t silences p s k member within e = let long = k.long in k.each p s member (slice_get_read silences (length silences) p s refl (omega (arith, long, within)) e)
+silence_of set t silences p s k member within e = let long = k.long in
+    k.each p s member (slice_get_read silences (length silences) p s refl (omega (arith, long, within)) e)
 
 -- one silence more at the end of a list
 pub pushed_long : (list new : List Silence) (s : Silence) (p : ℕ) → new ≡ list ++ s ∷ [] → length list ≡ p → length new ≡ p + 1
@@ -18,10 +19,11 @@ pushed_long list new s p e long = ap (λ (xs : List Silence). length xs) e ∙ l
 pub pushed_each : (Holds : ℕ → Silence → Type 0) (list new : List Silence) (s : Silence) (p : ℕ) → new ≡ list ++ s ∷ []
     → length list ≡ p → ((q : ℕ) (x : Silence) → slice_get list q ≡ Some x → Holds q x) → Holds p s
     → (q : ℕ) (x : Silence) → slice_get new q ≡ Some x → Holds q x
-pushed_each Holds list new s p e long each here q x h = elim (slice_get-push_cases list s x q (subst (λ (xs : List Silence). slice_get xs q ≡ Some x) e h)) [
-  | inl old ↦ each q x old
-  | inr last ↦ subst (λ (m : ℕ). Holds m x) (sym (last.0 ∙ long)) (subst (λ (y : Silence). Holds p y) last.1 here)
-]
+pushed_each Holds list new s p e long each here q x h =
+    elim (slice_get-push_cases list s x q (subst (λ (xs : List Silence). slice_get xs q ≡ Some x) e h)) [
+      | inl old ↦ each q x old
+      | inr last ↦ subst (λ (m : ℕ). Holds m x) (sym (last.0 ∙ long)) (subst (λ (y : Silence). Holds p y) last.1 here)
+    ]
 
 -- a member is no number 0
 pub member_low : (set p : ℕ) → IsTrue (has_proc set p) → 1 ≤ p
@@ -29,7 +31,8 @@ member_low set zero m = absurd (search (arith, m))
 member_low set (suc p) m = omega arith
 
 -- a member is silent up to before its next step
-pub gap_before : (set : ℕ) (t : Recorded) (p x y next : ℕ) → IsNextStep t p x next → IsTrue (has_proc set p) → 1 ≤ x → x ≤ y → y < next → IsGap set t (record { proc = p; from = x; to = y })
+pub gap_before : (set : ℕ) (t : Recorded) (p x y next : ℕ)
+    → IsNextStep t p x next → IsTrue (has_proc set p) → 1 ≤ x → x ≤ y → y < next → IsGap set t (record { proc = p; from = x; to = y })
 gap_before set t p x y next n member low order below = record {
   member = member;
   start = low;
@@ -57,10 +60,12 @@ pub record KnowsLongest (set : ℕ) (t : Recorded) (x p proc end : ℕ) : Type 0
 
 -- a gap of p that begins in x ends before its next step
 own_end : (set : ℕ) (t : Recorded) (x p next : ℕ) (o : Gap) → IsNextStep t p x next → IsGap set t o → o.from ≡ x → o.proc ≡ p → o.to < next
-own_end set t x p next o n g from proc = gap_ends set t o next (subst (λ (q : ℕ). IsNextStep t q o.from next) (sym proc) (subst (λ (y : ℕ). IsNextStep t p y next) (sym from) n)) g
+own_end set t x p next o n g from proc = gap_ends set t o next
+    (subst (λ (q : ℕ). IsNextStep t q o.from next) (sym proc) (subst (λ (y : ℕ). IsNextStep t p y next) (sym from) n)) g
 
 -- over a processor that is no member
-pub KnowsLongest-other : (set : ℕ) (t : Recorded) (x p proc end : ℕ) → (¬ IsTrue (has_proc set p)) → KnowsLongest set t x p proc end → KnowsLongest set t x (p + 1) proc end
+pub KnowsLongest-other : (set : ℕ) (t : Recorded) (x p proc end : ℕ)
+    → (¬ IsTrue (has_proc set p)) → KnowsLongest set t x p proc end → KnowsLongest set t x (p + 1) proc end
 KnowsLongest-other set t x p proc end outside k = record {
   within = k.within;
   inside = k.inside;
@@ -74,7 +79,8 @@ KnowsLongest-other set t x p proc end outside k = record {
 }
 
 -- over a member whose next step comes no later
-pub KnowsLongest-passed : (set : ℕ) (t : Recorded) (x p proc end next : ℕ) → IsNextStep t p x next → next ≤ end → KnowsLongest set t x p proc end → KnowsLongest set t x (p + 1) proc end
+pub KnowsLongest-passed : (set : ℕ) (t : Recorded) (x p proc end next : ℕ)
+    → IsNextStep t p x next → next ≤ end → KnowsLongest set t x p proc end → KnowsLongest set t x (p + 1) proc end
 KnowsLongest-passed set t x p proc end next n early k = record {
   within = k.within;
   inside = k.inside;
@@ -97,7 +103,10 @@ KnowsLongest-taken set t x p proc end next n member low later k =
       within = omega (arith, within, later);
       inside = n.until;
       alone = λ e. absurd (omega (arith, e, member_low set p member));
-      found = λ _. (gap_before set t p x (next - 1) next n member low (omega (arith, within, later)) (omega (arith, later)), omega (arith, within, later));
+      found = λ _. (
+        gap_before set t p x (next - 1) next n member low (omega (arith, within, later)) (omega (arith, later)),
+        omega (arith, within, later),
+      );
       shorter = λ o g e l. elim (cases_eq o.proc p) [
         | inl same ↦ own_end set t x p next o n g e same
         | inr other ↦ (let short = k.shorter o g e (omega (arith, other, l)) in omega (arith, short, later))

@@ -18,5 +18,6 @@ taker_receives c steps s a b place w h t = go t.0.act refl t.2 where
   go (Receive ends ids) e m = record {
     ids = ids;
     ends = ends;
-    step = t.1 ∙ ap (λ (v : Act). let z : Step = record { proc = t.0.proc; act = v } in Some z) e ∙ ap (λ (q : ℕ). let z : Step = record { proc = q; act = Receive ends ids } in Some z) proc;
+    step = t.1 ∙ ap (λ (v : Act). let z : Step = record { proc = t.0.proc; act = v } in Some z) e
+        ∙ ap (λ (q : ℕ). let z : Step = record { proc = q; act = Receive ends ids } in Some z) proc;
   }

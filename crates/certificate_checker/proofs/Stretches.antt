@@ -62,7 +62,8 @@ serving_row rows last (suc (suc n)) order start end = more (serving_row rows las
   ]
 
 -- the tick before a row, which isn't the first, lies in the stretch of the row before
-pub serves_before : (rows : List Row) (last k : ℕ) (b r : Row) → AreInOrder last rows → row_at rows k ≡ Some b → row_at rows (suc k) ≡ Some r → Serves rows last k b (r.gst - 1)
+pub serves_before : (rows : List Row) (last k : ℕ) (b r : Row)
+    → AreInOrder last rows → row_at rows k ≡ Some b → row_at rows (suc k) ≡ Some r → Serves rows last k b (r.gst - 1)
 serves_before rows last k b r order there here =
     let l = later_above rows k (suc k) b r order.rising there here (omega arith) in
     record {
@@ -77,10 +78,12 @@ serves_before rows last k b r order there here =
 -- a row has a number from 1 on, and up to a row's number there are rows
 row_up_to : (rows : List Row) (j k : ℕ) (r : Row) → row_at rows k ≡ Some r → suc j ≤ k → (b : Row) × (row_at rows (suc j) ≡ Some b)
 row_up_to rows j zero r e l = absurd (omega (arith, l))
-row_up_to rows j (suc k) r e l = let within = slice_get_within rows k r e in (get_or rows j r, slice_get-get_or rows j r (omega (arith, within, l)))
+row_up_to rows j (suc k) r e l = let within = slice_get_within rows k r e in
+    (get_or rows j r, slice_get-get_or rows j r (omega (arith, within, l)))
 
 -- no row begins within the stretch of another
-pub begins_outside : (rows : List Row) (last j k : ℕ) (a b : Row) → AreInOrder last rows → row_at rows j ≡ Some a → row_at rows k ≡ Some b → a.gst < b.gst → b.gst < after_stretch rows last j → ⊥
+pub begins_outside : (rows : List Row) (last j k : ℕ) (a b : Row)
+    → AreInOrder last rows → row_at rows j ≡ Some a → row_at rows k ≡ Some b → a.gst < b.gst → b.gst < after_stretch rows last j → ⊥
 begins_outside rows last j k a b order p q above below = elim (cases_lt j k) [
   | inr m ↦ elim (cases_eq j k) [
     | inl e ↦ (let same = ap (λ (x : Row). x.gst) (same_Some a b (sym p ∙ ap (row_at rows) e ∙ q)) in absurd (omega (arith, same, above)))
@@ -89,8 +92,10 @@ begins_outside rows last j k a b order p q above below = elim (cases_lt j k) [
   | inl later ↦ elim (after_cases rows last j) [
     | inr (none, e) ↦ (let next = row_up_to rows j k b q (omega (arith, later)) in none-some next.0 (sym none ∙ next.1))
     | inl (c, next, e) ↦ elim (cases_eq (suc j) k) [
-      | inl same ↦ (let gst = ap (λ (x : Row). x.gst) (same_Some c b (sym next ∙ ap (row_at rows) same ∙ q)) in absurd (omega (arith, gst, e, below)))
-      | inr d ↦ (let l = later_above rows (suc j) k c b order.rising next q (omega (arith, later, d)) in absurd (omega (arith, l, e, below)))
+      | inl same ↦ (let gst = ap (λ (x : Row). x.gst) (same_Some c b (sym next ∙ ap (row_at rows) same ∙ q)) in
+          absurd (omega (arith, gst, e, below)))
+      | inr d ↦ (let l = later_above rows (suc j) k c b order.rising next q (omega (arith, later, d)) in
+          absurd (omega (arith, l, e, below)))
     ]
   ]
 ]

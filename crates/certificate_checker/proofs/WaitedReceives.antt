@@ -10,7 +10,8 @@ use Rattle.certificate_checker.proofs.Common.{IsLastWaited, KnowsReceives, last_
 use Rattle.certificate_checker.proofs.StepFacts.{taker_receives}
 
 -- if no note was made of a message it is never taken
-never_taken : (t : Recorded) (s : ℕ) (r : Receives) → IsWellFormed t.config t.steps → KnowsReceives t (length t.steps) r → get_or r.before.items s 0 ≡ UNTAKEN → (k : ℕ) → ¬ TakesAt t.steps k s
+never_taken : (t : Recorded) (s : ℕ) (r : Receives) → IsWellFormed t.config t.steps
+    → KnowsReceives t (length t.steps) r → get_or r.before.items s 0 ≡ UNTAKEN → (k : ℕ) → ¬ TakesAt t.steps k s
 never_taken t s r w k e j takes =
     let inside = step_at_within t.steps j _ takes.1 in
     let last = subst (λ (m : ℕ). IsLastBefore t.steps takes.0.proc j m) e (k.taken j s inside.1 takes) in
@@ -25,7 +26,8 @@ IsLastWaited-from_known set t s b r w m within k = go (get_or r.before.items s 0
   receiver_of : (j : ℕ) (takes : TakesAt t.steps j s) → IsReceiveOf t.steps j b → takes.0.proc ≡ b
   receiver_of j takes receive = ap (λ (z : Step). z.proc) (same_step t.steps j _ _ takes.1 receive.step)
 
-  go : (c : Bool) → (get_or r.before.items s 0 == UNTAKEN) ≡ c → IsLastWaited t.steps s b (cond c (get_or r.last.items b 0) (get_or r.before.items s 0))
+  go : (c : Bool) → (get_or r.before.items s 0 == UNTAKEN) ≡ c
+      → IsLastWaited t.steps s b (cond c (get_or r.last.items b 0) (get_or r.before.items s 0))
   go true e =
       let never = never_taken t s r w k (eqb-true _ _ e) in
       let last = k.last b within in
@@ -40,7 +42,11 @@ IsLastWaited-from_known set t s b r w m within k = go (get_or r.before.items s 0
       let proc : f.1.0.proc ≡ b = receiver_of f.0 f.1 taker in
       let last = subst (λ (p : ℕ). IsLastBefore t.steps p f.0 (get_or r.before.items s 0)) proc (k.taken f.0 s f.2 f.1) in
       record {
-        found = λ some. ((last.found some).1, λ j l takes. (let here : j ≡ f.0 = w.once j f.0 s takes f.1 in let below = (last.found some).0 in omega (arith, here, l, below)));
+        found = λ some. (
+          (last.found some).1,
+          λ j l takes.
+              (let here : j ≡ f.0 = w.once j f.0 s takes f.1 in let below = (last.found some).0 in omega (arith, here, l, below)),
+        );
         last = λ y receive waits. last.last y receive (elim (cases_lt y f.0) [ inl l ↦ l | inr l ↦ absurd (waits f.0 l f.1) ]);
       }
 
@@ -76,8 +82,8 @@ waits_miss set t w s b r m receive late waits = record {
 }
 
 -- a miss is at a Receive of the receiver in a later tick, up to the last that the message waits through
-pub IsMiss-by_waited : (set : ℕ) (t : Recorded) → IsTrace t → (m : Miss) (b r : ℕ) → IsMessage set t.steps m.sent b → IsReceiveOf t.steps m.missed b → IsLastWaited t.steps m.sent b r
-    → IsMiss set t m ↔ ((tick_of t m.sent < tick_of t m.missed) × (m.missed ≤ r))
+pub IsMiss-by_waited : (set : ℕ) (t : Recorded) → IsTrace t → (m : Miss) (b r : ℕ) → IsMessage set t.steps m.sent b → IsReceiveOf
+    t.steps m.missed b → IsLastWaited t.steps m.sent b r → IsMiss set t m ↔ ((tick_of t m.sent < tick_of t m.missed) × (m.missed ≤ r))
 IsMiss-by_waited set t w m b r message receive l = (
   λ i. (i.late, l.last m.missed receive (miss_waits set t w m i)),
   λ h. (let inside = step_at_within t.steps m.missed _ receive.step in
@@ -86,10 +92,12 @@ IsMiss-by_waited set t w m b r message receive l = (
 )
 
 -- each miss of the message is at or before it
-pub own_last : (set : ℕ) (t : Recorded) → IsTrace t → (s b r : ℕ) (o : Miss) → IsMessage set t.steps s b → IsLastWaited t.steps s b r → IsMiss set t o → o.sent ≡ s → o.missed ≤ r
+pub own_last : (set : ℕ) (t : Recorded) → IsTrace t
+    → (s b r : ℕ) (o : Miss) → IsMessage set t.steps s b → IsLastWaited t.steps s b r → IsMiss set t o → o.sent ≡ s → o.missed ≤ r
 own_last set t w s b r o message l i e =
     let to = IsMessage-receiver set t.steps s i.to b (subst (λ (k : ℕ). IsMessage set t.steps k i.to) e i.message) message in
-    l.last o.missed (subst (λ (q : ℕ). IsReceiveOf t.steps o.missed q) to i.receive) (subst (λ (k : ℕ). WaitsAt t.steps k o.missed) e (miss_waits set t w o i))
+    l.last o.missed (subst (λ (q : ℕ). IsReceiveOf t.steps o.missed q) to i.receive)
+    (subst (λ (k : ℕ). WaitsAt t.steps k o.missed) e (miss_waits set t w o i))
 
 -- the last Receive that the message waits through is its last miss, if it comes in a later tick
 pub IsLastMiss-from_waited : (set : ℕ) (t : Recorded) → IsTrace t → (s b r : ℕ) → IsMessage set t.steps s b

@@ -37,8 +37,18 @@ message_or_not set steps s = at (step_at steps s) refl where
     by (Send b) h = elim (member_or_not set x.proc) [
       | inr n ↦ inr (λ c m. n (subst (λ p. IsTrue (has_proc set p)) (ap (λ (z : Step). z.proc) (same c m)) m.sender))
       | inl sender ↦ elim (member_or_not set b) [
-        | inr n ↦ inr (λ c m. let q = ap (λ (z : Step). z.act) (same c m) ∙ h in let d : c ≡ b = cc in n (subst (λ p. IsTrue (has_proc set p)) d m.receiver))
-        | inl receiver ↦ inl (b, record { from = x.proc; sent = e ∙ ap (λ (a : Act). let z : Step = record { proc = x.proc; act = a } in Some z) h; sender = sender; receiver = receiver })
+        | inr n ↦ inr (λ c m. let q = ap (λ (z : Step). z.act) (same c m)
+            ∙ h in let d : c ≡ b = cc in n (subst (λ p. IsTrue (has_proc set p)) d m.receiver))
+        | inl receiver ↦ inl (
+          b,
+          record {
+            from = x.proc;
+            sent = e
+                ∙ ap (λ (a : Act). let z : Step = record { proc = x.proc; act = a } in Some z) h;
+            sender = sender;
+            receiver = receiver;
+          },
+        )
       ]
     ]
 
@@ -57,7 +67,8 @@ pub miss_or_not : (set : ℕ) (trace : Recorded) (m : Miss) → IsMiss set trace
 miss_or_not set trace m = elim (message_or_not set trace.steps m.sent) [
   | inr n ↦ inr (λ i. n i.to i.message)
   | inl message ↦ elim (receive_or_not trace.steps m.missed message.0) [
-    | inr n ↦ inr (λ i. n (subst (IsReceiveOf trace.steps m.missed) (IsMessage-receiver set trace.steps m.sent _ _ i.message message.1) i.receive))
+    | inr n ↦ inr
+        (λ i. n (subst (IsReceiveOf trace.steps m.missed) (IsMessage-receiver set trace.steps m.sent _ _ i.message message.1) i.receive))
     | inl receive ↦ elim (cases_lt (tick_of trace m.sent) (tick_of trace m.missed)) [
       | inr n ↦ inr (λ i. let l = i.late in absurd (omega (arith, l, n)))
       | inl late ↦ elim (delivered_or_not trace m.sent (tick_of trace m.missed)) [

@@ -26,7 +26,8 @@ pub record AreCatches (set : ℕ) (t : Recorded) (i j : ℕ) (all : List Take) :
   pub sound : (x : Take) → Contains all x → IsAnyTake set t i x × (x.at.tick ≤ j)
   pub complete : (x : Take) → IsAnyTake set t i x → x.at.tick ≤ j → Contains all x
 
-pub any_takes_all : (set : ℕ) (t : Recorded) (i j b : ℕ) (all : List Take) → AreStepsBefore t (j + 1) b → AreTakesBy set t i b [] all → AreCatches set t i j all
+pub any_takes_all : (set : ℕ) (t : Recorded) (i j b : ℕ) (all : List Take)
+    → AreStepsBefore t (j + 1) b → AreTakesBy set t i b [] all → AreCatches set t i j all
 any_takes_all set t i j b all o l = record {
   rising = l.rising;
   sound = λ x k. (let h = l.sound x k in (
@@ -36,7 +37,8 @@ any_takes_all set t i j b all o l = record {
       | inr here ↦ absurd (Contains-nil x.sent.no here.1)
     ],
   ));
-  complete = λ x h u. l.complete x (record { own = h; until = inl (step_first t (j + 1) b x.at.no _ o h.receive.step (omega (arith, h.at_place, u))) });
+  complete = λ x h u.
+      l.complete x (record { own = h; until = inl (step_first t (j + 1) b x.at.no _ o h.receive.step (omega (arith, h.at_place, u))) });
 }
 
 -- of these the older ones
@@ -48,7 +50,8 @@ block_taken set t from j all low a = record {
       let y = Contains-from_filter (is_older from) all x k in
       let h = a.sound x y.0 in
       record { own = h.0; until = h.1; earlier = omega (arith, ltb-true x.sent.tick from y.1) };
-  complete = λ x h. Contains-filter (is_older from) all x (a.complete x h.own h.until) (is_older-true from x (omega (arith, h.earlier, low)));
+  complete = λ x h. Contains-filter (is_older from) all x
+      (a.complete x h.own h.until) (is_older-true from x (omega (arith, h.earlier, low)));
 }
 
 later_of-none : (o : Option Place) → later_of None o ≡ o
@@ -56,8 +59,8 @@ later_of-none None = refl
 later_of-none (Some r) = refl
 
 -- the messages of the block, from all its open ones
-pub block_sent : (set : ℕ) (t : Recorded) → IsTrace t → (i j : ℕ) (all : List Take) → AreCatches set t i j all → (b : ℕ) (opens : List Message) → AreStepsBefore t (j + 1) b → AreOpenBy set t i b opens
-    → IsListing SentBefore (IsSent set t i j) (map (settle all []) opens)
+pub block_sent : (set : ℕ) (t : Recorded) → IsTrace t → (i j : ℕ) (all : List Take) → AreCatches set t i j all → (b : ℕ) (opens : List
+    Message) → AreStepsBefore t (j + 1) b → AreOpenBy set t i b opens → IsListing SentBefore (IsSent set t i j) (map (settle all []) opens)
 block_sent set t sound i j all a b opens o l = record {
   rising = Rises-map SentBefore (settle all []) opens (λ x y p q h. settle_keeps_order all [] x y h) l.rising;
   sound = λ m k.
@@ -73,7 +76,8 @@ block_sent set t sound i j all a b opens o l = record {
         open_yet = refl;
       } in
       let same = settle-fate set t sound i i j all [] (with_fate m Open) (order _ own) (knows _ own) (known _ own) m.fate h.fate in
-      subst (Contains (map (settle all []) opens)) same (Contains-map (settle all []) opens (with_fate m Open) (l.complete (with_fate m Open) own));
+      subst (Contains (map (settle all []) opens)) same
+      (Contains-map (settle all []) opens (with_fate m Open) (l.complete (with_fate m Open) own));
 } where
   knows : (m : Message) → IsOpenBy set t i b m → KnowsTakes set t i j all [] m
   knows m h = record {
@@ -98,16 +102,19 @@ block_sent set t sound i j all a b opens o l = record {
 -- searches that are alike
 find_alike : {X : Type 0} (p q : X → Bool) (xs : List X) → ((x : X) → Contains xs x → p x ≡ q x) → find p xs ≡ find q xs
 find_alike p q [] h = refl
-find_alike p q (x ∷ xs) h = ap₂ (λ b rest. cond b (Some x) rest) (h x (Contains-head x xs)) (find_alike p q xs (λ y k. h y (Contains-rest x y xs k)))
+find_alike p q (x ∷ xs) h = ap₂ (λ b rest. cond b (Some x) rest)
+    (h x (Contains-head x xs)) (find_alike p q xs (λ y k. h y (Contains-rest x y xs k)))
 
 -- a take of the message's number is one of the message
 takes_alike : (t : Recorded) (m : Message) (x : Take) → IsPlace t m.sent → IsPlace t x.sent → takes_no m.sent.no x ≡ takes_of m x
 takes_alike t m x p q = grind (arith, p, q)
 
 -- the fate by a message's number is that by the message
-settled_as : (m : Message) (o : Option Take) → m.fate ≡ Open → ((x : Take) → o ≡ Some x → x.sent ≡ m.sent) → with_fate m (fate_by o) ≡ settled_by [] m o
+settled_as : (m : Message) (o : Option Take) → m.fate ≡ Open
+    → ((x : Take) → o ≡ Some x → x.sent ≡ m.sent) → with_fate m (fate_by o) ≡ settled_by [] m o
 settled_as m None e h = ap (λ f. with_fate m f) (sym e)
-settled_as m (Some x) e h = ap₂ (λ (s : Place) (o : Option Place). with_fate m (Taken (after s o))) (h x refl) (sym (later_of-none x.before))
+settled_as m (Some x) e h = ap₂ (λ (s : Place) (o : Option Place). with_fate m (Taken (after s o)))
+    (h x refl) (sym (later_of-none x.before))
 
 -- the messages with their fates from a list by number are those that settle
 pub fated_settled : (set : ℕ) (t : Recorded) (from j before b : ℕ) (all : List Take) (fates : List Fate)
@@ -120,11 +127,13 @@ fated_settled set t from j before b all fates opens low first long f a l = map-a
       let h = l.sound m k in
       let above : before < m.sent.no = elim (cases_lt before m.sent.no) [
         | inl n ↦ n
-        | inr n ↦ absurd (let early = step_early t from before m.sent.no _ first h.message.sent n in omega (arith, early, h.place, h.after, low))
+        | inr n ↦ absurd (let early = step_early t from before m.sent.no _ first h.message.sent n in
+            omega (arith, early, h.place, h.after, low))
       ] in
       let found = find_alike (takes_no m.sent.no) (takes_of m) all (λ x c. takes_alike t m x h.place (a.sound x c).0.sent_place) in
       let value = f.each m.sent.no above (omega (arith, above, h.until, long)) ∙ ap fate_by found in
       ap (λ (g : Fate). with_fate m g) value ∙ settled_as m (find (takes_of m) all) h.open_yet (λ x e.
       let c = Contains-found (takes_of m) all x e in
       let same = takes_of-same m x c.1 in
-      ap₂ (λ (n y : ℕ). let p : Place = record { no = n; tick = y } in p) same (sym (a.sound x c.0).0.sent_place ∙ ap (tick_of t) same ∙ h.place))
+      ap₂ (λ (n y : ℕ). let p : Place = record { no = n; tick = y } in p) same
+      (sym (a.sound x c.0).0.sent_place ∙ ap (tick_of t) same ∙ h.place))

@@ -34,12 +34,14 @@ step_first t x a k s o e l = elim (cases_lt a k) [
 ]
 
 -- the next step of a block is after its first cut
-pub step_after : (t : Recorded) (from a k : ℕ) → 1 ≤ from → AreStepsBefore t from a → a ≤ k → k < length t.steps → from - 1 < tick_of t (k + 1)
+pub step_after : (t : Recorded) (from a k : ℕ) → 1 ≤ from
+    → AreStepsBefore t from a → a ≤ k → k < length t.steps → from - 1 < tick_of t (k + 1)
 step_after t from a k low o l h = let r = o.rest (k + 1) (omega (arith, l)) (omega (arith, h)) in omega (arith, r, low)
 
 -- a Send between members adds its message
-pub opens_more : (t : Recorded) → IsTimed t → (set i k b : ℕ) (sent : List Message) → i < tick_of t (k + 1) → IsMessage set t.steps (k + 1) b
-    → AreOpenBy set t i k sent → AreOpenBy set t i (k + 1) (sent ++ record { sent = record { no = k + 1; tick = tick_of t (k + 1) }; to = b; fate = Open } ∷ [])
+pub opens_more : (t : Recorded) → IsTimed t → (set i k b : ℕ) (sent : List Message)
+    → i < tick_of t (k + 1) → IsMessage set t.steps (k + 1) b → AreOpenBy set t i k sent
+    → AreOpenBy set t i (k + 1) (sent ++ record { sent = record { no = k + 1; tick = tick_of t (k + 1) }; to = b; fate = Open } ∷ [])
 opens_more t time set i k b sent low message l =
     IsListing-push SentBefore (IsOpenBy set t i k) (IsOpenBy set t i (k + 1)) sent next l above
     (λ y o. record { message = o.message; place = o.place; after = o.after; until = omega (arith, o.until); open_yet = o.open_yet })
@@ -59,9 +61,11 @@ opens_more t time set i k b sent low message l =
 
     same : (y : Message) → IsOpenBy set t i (k + 1) y → y.sent.no ≡ k + 1 → next ≡ y
     same y o e =
-        let act = ap (λ (z : Step). z.act) (same_step t.steps (k + 1) _ _ message.sent (subst (λ n. step_at t.steps n ≡ Some (record { proc = o.message.from; act = Send y.to })) e o.message.sent)) in
+        let act = ap (λ (z : Step). z.act) (same_step t.steps (k + 1) _ _ message.sent
+        (subst (λ n. step_at t.steps n ≡ Some (record { proc = o.message.from; act = Send y.to })) e o.message.sent)) in
         let to : b ≡ y.to = cc in
-        alike (λ no tick to fate. record { sent = record { no = no; tick = tick }; to = to; fate = fate }) (sym e) (ap (tick_of t) (sym e) ∙ o.place) to (sym o.open_yet)
+        alike (λ no tick to fate. record { sent = record { no = no; tick = tick }; to = to; fate = fate })
+        (sym e) (ap (tick_of t) (sym e) ∙ o.place) to (sym o.open_yet)
       where
         alike : (make : ℕ → ℕ → ℕ → Fate → Message) → k + 1 ≡ y.sent.no → tick_of t (k + 1) ≡ y.sent.tick → b ≡ y.to
             → Open ≡ y.fate → make (k + 1) (tick_of t (k + 1)) b Open ≡ make y.sent.no y.sent.tick y.to y.fate
@@ -70,11 +74,13 @@ opens_more t time set i k b sent low message l =
     cases : (y : Message) → IsOpenBy set t i (k + 1) y → IsOpenBy set t i k y ⊎ (next ≡ y)
     cases y o = elim (cases_eq y.sent.no (k + 1)) [
       | inl e ↦ inr (same y o e)
-      | inr n ↦ inl (record { message = o.message; place = o.place; after = o.after; until = omega (arith, o.until, n); open_yet = o.open_yet })
+      | inr n ↦ inl
+          (record { message = o.message; place = o.place; after = o.after; until = omega (arith, o.until, n); open_yet = o.open_yet })
     ]
 
 -- another step adds none
-pub opens_same : (t : Recorded) (set i k : ℕ) (sent : List Message) → ((b : ℕ) → IsMessage set t.steps (k + 1) b → ⊥) → AreOpenBy set t i k sent → AreOpenBy set t i (k + 1) sent
+pub opens_same : (t : Recorded) (set i k : ℕ) (sent : List Message)
+    → ((b : ℕ) → IsMessage set t.steps (k + 1) b → ⊥) → AreOpenBy set t i k sent → AreOpenBy set t i (k + 1) sent
 opens_same t set i k sent none l = IsListing-same SentBefore (IsOpenBy set t i k) (IsOpenBy set t i (k + 1)) sent
     (λ y o. record { message = o.message; place = o.place; after = o.after; until = omega (arith, o.until); open_yet = o.open_yet })
     (λ y o. elim (cases_eq y.sent.no (k + 1)) [
@@ -96,32 +102,38 @@ last_before t time p i k high (Some r) f g h = record {
 }
 
 -- before a step of p it is the last one in earlier ticks
-pub last_at_step : (t : Recorded) → IsTimed t → (p i k : ℕ) (o : Option Place) → IsReceiveOf t.steps (k + 1) p → IsLastBy t p i k o → IsLastReceive t p i (tick_of t (k + 1)) o
+pub last_at_step : (t : Recorded) → IsTimed t → (p i k : ℕ) (o : Option Place)
+    → IsReceiveOf t.steps (k + 1) p → IsLastBy t p i k o → IsLastReceive t p i (tick_of t (k + 1)) o
 last_at_step t time p i k o r h = last_before t time p i k (tick_of t (k + 1)) o
     (λ y q l. (let n = number_below t time y (k + 1) _ _ q.step r.step l in omega (arith, n)))
     (λ y q l. own_ticks_rise t time y (k + 1) _ _ q.step r.step refl (omega (arith, l)))
     h
 
 -- after the block's last step all are
-pub last_all : (set : ℕ) (t : Recorded) → IsTimed t → (i j b : ℕ) (last : List (Option Place)) → AreStepsBefore t (j + 1) b → AreLastBy set t i b last → AreLastReceives set t i j last
+pub last_all : (set : ℕ) (t : Recorded) → IsTimed t
+    → (i j b : ℕ) (last : List (Option Place)) → AreStepsBefore t (j + 1) b → AreLastBy set t i b last → AreLastReceives set t i j last
 last_all set t time i j b last o a = record {
   long = a.long;
-  members = λ p m. last_before t time p i b (j + 1) (last_of last p) (λ y q l. step_first t (j + 1) b y _ o q.step l) (λ y q l. step_early t (j + 1) b y _ o q.step l) (a.members p m);
+  members = λ p m. last_before t time p i b (j + 1)
+      (last_of last p) (λ y q l. step_first t (j + 1) b y _ o q.step l) (λ y q l. step_early t (j + 1) b y _ o q.step l) (a.members p m);
   others = a.others;
 }
 
 -- before the first step none is known
-pub last_none : (set : ℕ) (t : Recorded) (from a : ℕ) (last : List (Option Place)) → 1 ≤ from → AreStepsBefore t from a → last ≡ replicate (MAX_MEMBER + 1) None → AreLastBy set t (from - 1) a last
+pub last_none : (set : ℕ) (t : Recorded) (from a : ℕ) (last : List (Option Place))
+    → 1 ≤ from → AreStepsBefore t from a → last ≡ replicate (MAX_MEMBER + 1) None → AreLastBy set t (from - 1) a last
 last_none set t from a last low s e = record {
   long = ap length e ∙ length-replicate {A = Option Place} (MAX_MEMBER + 1) None;
-  members = λ p m. subst (λ o. IsLastBy t p (from - 1) a o) (sym (none p)) (λ y r u v. (let l = step_early t from a y _ s r.step v in omega (arith, l, u)));
+  members = λ p m. subst (λ o. IsLastBy t p (from - 1) a o)
+      (sym (none p)) (λ y r u v. (let l = step_early t from a y _ s r.step v in omega (arith, l, u)));
   others = λ p m. none p;
 } where
   none : (p : ℕ) → last_of last p ≡ None
   none p = ap (λ xs. last_of xs p) e ∙ last_of-replicate (MAX_MEMBER + 1) p
 
 -- a step that isn't a Receive of this processor changes nothing for it
-last_kept : (t : Recorded) (p i k : ℕ) (o : Option Place) → (IsReceiveOf t.steps (k + 1) p → ⊥) → IsLastBy t p i k o → IsLastBy t p i (k + 1) o
+last_kept : (t : Recorded) (p i k : ℕ) (o : Option Place)
+    → (IsReceiveOf t.steps (k + 1) p → ⊥) → IsLastBy t p i k o → IsLastBy t p i (k + 1) o
 last_kept t p i k None none h = λ y r u v. elim (cases_eq y (k + 1)) [
   | inl f ↦ none (subst (λ n. IsReceiveOf t.steps n p) f r)
   | inr n ↦ h y r u (omega (arith, v, n))
@@ -138,7 +150,8 @@ last_kept t p i k (Some r) none h = record {
 }
 
 -- a Receive of a member is in the list for it
-pub last_more : (set : ℕ) (t : Recorded) (i k q : ℕ) (last : List (Option Place)) → IsTrue (has_proc set q) → IsReceiveOf t.steps (k + 1) q → i < tick_of t (k + 1) → AreLastBy set t i k last
+pub last_more : (set : ℕ) (t : Recorded) (i k q : ℕ) (last : List (Option Place))
+    → IsTrue (has_proc set q) → IsReceiveOf t.steps (k + 1) q → i < tick_of t (k + 1) → AreLastBy set t i k last
     → AreLastBy set t i (k + 1) (set_at last q (Some (record { no = k + 1; tick = tick_of t (k + 1) })))
 last_more set t i k q last m r low a = record {
   long = length-set last q _ ∙ a.long;
@@ -150,8 +163,8 @@ last_more set t i k q last m r low a = record {
       until = omega arith;
       latest = λ y u v. v;
     })
-    | inr other ↦ subst (λ o. IsLastBy t p i (k + 1) o) (sym other.1)
-        (last_kept t p i k (last_of last p) (λ u. other.0 (ap (λ (z : Step). z.proc) (same_step t.steps (k + 1) _ _ u.step r.step))) (a.members p h))
+    | inr other ↦ subst (λ o. IsLastBy t p i (k + 1) o) (sym other.1) (last_kept t p i k
+        (last_of last p) (λ u. other.0 (ap (λ (z : Step). z.proc) (same_step t.steps (k + 1) _ _ u.step r.step))) (a.members p h))
   ];
   others = λ p h. elim (cases p) [
     | inl same ↦ absurd (let f = ap (has_proc set) same.0 in cc)
@@ -170,7 +183,8 @@ last_more set t i k q last m r low a = record {
 pub last_same : (set : ℕ) (t : Recorded) (i k : ℕ) (last : List (Option Place))
     → ((p : ℕ) → IsTrue (has_proc set p) → IsReceiveOf t.steps (k + 1) p → ⊥) → AreLastBy set t i k last
     → AreLastBy set t i (k + 1) last
-last_same set t i k last none a = record { long = a.long; members = λ p m. last_kept t p i k (last_of last p) (none p m) (a.members p m); others = a.others }
+last_same set t i k last none a =
+    record { long = a.long; members = λ p m. last_kept t p i k (last_of last p) (none p m) (a.members p m); others = a.others }
 
 -- the same with fates from a list
 pub fated_more : (t : Recorded) → IsTimed t
@@ -191,9 +205,11 @@ fated_more t time set i before k b tick fate fates sent order low message e f a 
   index = omega (arith, order)
 
   one : (let m : Message = record { sent = record { no = k + 1; tick = tick }; to = b; fate = fate } in m) ≡ fated before fates next
-  one = ap₂ (λ (x : ℕ) (g : Fate). let m : Message = record { sent = record { no = k + 1; tick = x }; to = b; fate = g } in m) e (f ∙ ap (λ n. get_or fates n Open) index)
+  one = ap₂ (λ (x : ℕ) (g : Fate). let m : Message = record { sent = record { no = k + 1; tick = x }; to = b; fate = g } in m) e
+      (f ∙ ap (λ n. get_or fates n Open) index)
 
 pub fated_same : (t : Recorded) (set i before k : ℕ) (fates : List Fate) (sent : List Message)
     → ((b : ℕ) → IsMessage set t.steps (k + 1) b → ⊥) → AreFated set t i before k fates sent
     → AreFated set t i before (k + 1) fates sent
-fated_same t set i before k fates sent none a = record { opens = a.opens; listing = opens_same t set i k a.opens none a.listing; same = a.same }
+fated_same t set i before k fates sent none a =
+    record { opens = a.opens; listing = opens_same t set i k a.opens none a.listing; same = a.same }

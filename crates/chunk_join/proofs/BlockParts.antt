@@ -24,7 +24,8 @@ IsSummary-block set t sound from j before b s fates all low e f g first o long e
       members = e;
       from = f ∙ (let same : from ≡ from - 1 + 1 = omega (arith, low) in same);
       to = g;
-      sent = subst (λ xs. IsListing SentBefore (IsSent set t (from - 1) j) xs) (sym same) (block_sent set t sound (from - 1) j all takes b sent.opens o sent.listing);
+      sent = subst (λ xs. IsListing SentBefore (IsSent set t (from - 1) j) xs)
+          (sym same) (block_sent set t sound (from - 1) j all takes b sent.opens o sent.listing);
       taken = subst (λ xs. IsListing TakenBefore (IsTake set t (from - 1) j) xs) (sym q) (block_taken set t from j all low takes);
       last = last_all set t sound.time (from - 1) j b s.last o last;
       silent = silent;

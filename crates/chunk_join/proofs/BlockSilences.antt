@@ -23,8 +23,8 @@ steps_in : (t : Recorded) (x n p y : ℕ) → StepsDone t x n p y → StepsIn t 
 steps_in t x n p y s = record { place = s.place; step = s.step; tick = s.tick }
 
 -- if the same steps of members are done, the same silences ended
-module _ (set : ℕ) (t : Recorded) (i x n y m : ℕ) (forth : (k p : ℕ) → IsTrue (has_proc set p) → IsStepOf t.steps k p → IsDone t x n k → IsDone t y m k)
-    (back : (k p : ℕ) → IsTrue (has_proc set p) → IsStepOf t.steps k p → IsDone t y m k → IsDone t x n k) where
+module _ (set : ℕ) (t : Recorded) (i x n y m : ℕ) (forth : (k p : ℕ) → IsTrue (has_proc set p) → IsStepOf t.steps k p → IsDone t x n k
+    → IsDone t y m k) (back : (k p : ℕ) → IsTrue (has_proc set p) → IsStepOf t.steps k p → IsDone t y m k → IsDone t x n k) where
   moved : (p z : ℕ) → IsTrue (has_proc set p) → StepsDone t x n p z → StepsDone t y m p z
   moved p z k s = record { place = s.place; step = s.step; tick = s.tick; done = forth s.place p k s.step s.done }
 
@@ -50,10 +50,9 @@ module _ (set : ℕ) (t : Recorded) (i x n y m : ℕ) (forth : (k p : ℕ) → I
 -- before tick x all its steps are to come, after it none is
 pub ended_before : (set : ℕ) (t : Recorded) (i x b : ℕ) (silent : List Gap) (begun : List ℕ)
     → AreStepsBefore t (x + 1) b → AreEnded set t i x (length t.steps) silent begun → AreEnded set t i x b silent begun
-ended_before set t i x b silent begun o a = ended_alike set t i x (length t.steps) x b
-    (λ k p m s d. elim d [ inl l ↦ inl l | inr e ↦ absurd (let w = (step_at_within t.steps k _ s.1).1 in omega (arith, w, e.1)) ])
-    (λ k p m s d. elim d [ inl l ↦ inl l | inr e ↦ absurd (let r = o.rest k e.1 (step_at_within t.steps k _ s.1).1 in omega (arith, r, e.0)) ])
-    silent begun a
+ended_before set t i x b silent begun o a = ended_alike set t i x (length t.steps) x b (λ k p m s d.
+    elim d [ inl l ↦ inl l | inr e ↦ absurd (let w = (step_at_within t.steps k _ s.1).1 in omega (arith, w, e.1)) ]) (λ k p m s d. elim d
+    [ inl l ↦ inl l | inr e ↦ absurd (let r = o.rest k e.1 (step_at_within t.steps k _ s.1).1 in omega (arith, r, e.0)) ]) silent begun a
 
 pub ended_after : (set : ℕ) (t : Recorded) (i x a : ℕ) (silent : List Gap) (begun : List ℕ) → AreStepsBefore t x a
     → AreEnded set t i x a silent begun → AreEnded set t i (x + 1) (length t.steps) silent begun
@@ -100,7 +99,8 @@ begin_one t set i x n p v w b early done own end gap after left = elim (cases_lt
     | inl l ↦ absurd (elim left [
       | inl e ↦ omega (arith, e, l, b.low)
       | inr s ↦ (
-          let step : IsStepOf t.steps s.place p = (s.step.0, subst (λ q. step_at t.steps s.place ≡ Some (record { proc = q; act = s.step.0 })) own s.step.1) in
+          let step : IsStepOf t.steps s.place p =
+          (s.step.0, subst (λ q. step_at t.steps s.place ≡ Some (record { proc = q; act = s.step.0 })) own s.step.1) in
           let q = b.quiet s.place step (done s.place step (omega (arith, s.tick, gap.order, end))) in
           omega (arith, q, s.tick, l))
     ])
@@ -114,7 +114,8 @@ alike w p v z e f g = join (λ proc from to. record { proc = proc; from = from; 
   join make e f g = cc
 
 -- one step of tick x, going back
-module _ (set : ℕ) (t : Recorded) (time : IsTimed t) (i x n p : ℕ) (low : i < x) (high : x ≤ t.last) (member : IsTrue (has_proc set p)) (step : IsStepOf t.steps (n + 1) p) (tick : tick_of t (n + 1) ≡ x) where
+module _ (set : ℕ) (t : Recorded) (time : IsTimed t) (i x n p : ℕ) (low : i < x)
+    (high : x ≤ t.last) (member : IsTrue (has_proc set p)) (step : IsStepOf t.steps (n + 1) p) (tick : tick_of t (n + 1) ≡ x) where
   more : (k : ℕ) → IsDone t x (n + 1) k → IsDone t x n k
   more k d = elim d [ inl l ↦ inl l | inr e ↦ inr (e.0, omega (arith, e.1)) ]
 
@@ -140,7 +141,8 @@ module _ (set : ℕ) (t : Recorded) (time : IsTimed t) (i x n p : ℕ) (low : i 
   begun_own : IsBegun t i x n p (x + 1)
   begun_own = record {
     low = omega (arith, low);
-    left = inr (record { place = n + 1; step = step; tick = (let e : x ≡ x + 1 - 1 = omega arith in tick ∙ e); done = inr (tick, omega arith) });
+    left = inr
+        (record { place = n + 1; step = step; tick = (let e : x ≡ x + 1 - 1 = omega arith in tick ∙ e); done = inr (tick, omega arith) });
     quiet = λ k s d. elim d [ inl l ↦ omega (arith, l) | inr e ↦ omega (arith, e.0) ];
   }
 
@@ -150,7 +152,8 @@ module _ (set : ℕ) (t : Recorded) (time : IsTimed t) (i x n p : ℕ) (low : i 
     left = elim b.left [ inl e ↦ inl e | inr s ↦ inr (step_more q (v - 1) s) ];
     quiet = λ k s done. elim (less k done) [
       | inl old ↦ b.quiet k s old
-      | inr e ↦ absurd (d (ap (λ (z : Step). z.proc) (same_step t.steps (n + 1) _ _ (subst (λ m. step_at t.steps m ≡ Some (record { proc = q; act = s.0 })) e s.1) step.1)))
+      | inr e ↦ absurd (d (ap (λ (z : Step). z.proc)
+          (same_step t.steps (n + 1) _ _ (subst (λ m. step_at t.steps m ≡ Some (record { proc = q; act = s.0 })) e s.1) step.1)))
     ];
   }
 
@@ -168,20 +171,27 @@ module _ (set : ℕ) (t : Recorded) (time : IsTimed t) (i x n p : ℕ) (low : i 
   ended_more w e = record { gap = e.gap; after = e.after; left = e.left; right = step_more w.proc (w.to + 1) e.right }
 
   -- a silence that is new was ended by this step
-  ended_less : (v : ℕ) → IsBegun t i x (n + 1) p v → (w : Gap) → IsEnded set t i x n w → IsEnded set t i x (n + 1) w ⊎ ((p ≡ w.proc) × (v ≡ w.from) × (w.to + 1 ≡ x))
+  ended_less : (v : ℕ) → IsBegun t i x (n + 1) p v
+      → (w : Gap) → IsEnded set t i x n w → IsEnded set t i x (n + 1) w ⊎ ((p ≡ w.proc) × (v ≡ w.from) × (w.to + 1 ≡ x))
   ended_less v b w e = elim (less e.right.place e.right.done) [
-    | inl old ↦ inl (record { gap = e.gap; after = e.after; left = e.left; right = record { place = e.right.place; step = e.right.step; tick = e.right.tick; done = old } })
+    | inl old ↦ inl (record {
+      gap = e.gap;
+      after = e.after;
+      left = e.left;
+      right = record { place = e.right.place; step = e.right.step; tick = e.right.tick; done = old };
+    })
     | inr f ↦ (
-        let own : w.proc ≡ p = ap (λ (z : Step). z.proc) (same_step t.steps (n + 1) _ _ (subst (λ m. step_at t.steps m ≡ Some (record { proc = w.proc; act = e.right.step.0 })) f e.right.step.1) step.1) in
+        let own : w.proc ≡ p = ap (λ (z : Step). z.proc) (same_step t.steps
+        (n + 1) _ _ (subst (λ m. step_at t.steps m ≡ Some (record { proc = w.proc; act = e.right.step.0 })) f e.right.step.1) step.1) in
         let end : w.to + 1 ≡ x = sym e.right.tick ∙ ap (tick_of t) f ∙ tick in
         inr (sym own, begin_one t set i x (n + 1) p v w b own_early (λ k s l. inl l) own end e.gap e.after e.left, end))
   ]
 
-  pub ended_push : (silent : List Gap) (begun : List ℕ) → length begun ≡ MAX_MEMBER + 1 → get_or begun p 0 < x → AreEnded set t i x (n + 1) silent begun
-      → AreEnded set t i x n (silent ++ record { proc = p; from = get_or begun p 0; to = x - 1 } ∷ []) (set_at begun p (x + 1))
+  pub ended_push : (silent : List Gap) (begun : List ℕ) → length begun ≡ MAX_MEMBER + 1 → get_or begun p 0 < x → AreEnded set t i x (n + 1)
+      silent begun → AreEnded set t i x n (silent ++ record { proc = p; from = get_or begun p 0; to = x - 1 } ∷ []) (set_at begun p (x + 1))
   ended_push silent begun long short a = record {
-    ended = IsListing-push EndsBefore (IsEnded set t i x (n + 1)) (IsEnded set t i x n) silent (record { proc = p; from = get_or begun p 0; to = x - 1 }) a.ended above ended_more own
-        (λ w e. elim (ended_less v b w e) [
+    ended = IsListing-push EndsBefore (IsEnded set t i x (n + 1)) (IsEnded set t i x n) silent
+        (record { proc = p; from = get_or begun p 0; to = x - 1 }) a.ended above ended_more own (λ w e. elim (ended_less v b w e) [
           | inl old ↦ inl old
           | inr f ↦ inr (alike w p v (x - 1) f.0 f.1 (omega (arith, f.2)))
         ]);
@@ -218,7 +228,12 @@ module _ (set : ℕ) (t : Recorded) (time : IsTimed t) (i x n p : ℕ) (low : i 
       };
       after = b.low;
       left = elim b.left [ inl e ↦ inl e | inr s ↦ inr (steps_in t x (n + 1) p (v - 1) s) ];
-      right = record { place = n + 1; step = step; tick = (let e : x ≡ x - 1 + 1 = omega (arith, low) in tick ∙ e); done = inr (tick, omega arith) };
+      right = record {
+        place = n + 1;
+        step = step;
+        tick = (let e : x ≡ x - 1 + 1 = omega (arith, low) in tick ∙ e);
+        done = inr (tick, omega arith);
+      };
     }
 
   pub ended_step : (silent : List Gap) (begun : List ℕ) → length begun ≡ MAX_MEMBER + 1 → x ≤ get_or begun p 0
@@ -233,10 +248,11 @@ module _ (set : ℕ) (t : Recorded) (time : IsTimed t) (i x n p : ℕ) (low : i 
   }
 
   -- the same for a number that is that beginning
-  pub ended_push_at : (silent : List Gap) (begun : List ℕ) (v : ℕ) → v ≡ get_or begun p 0 → length begun ≡ MAX_MEMBER + 1 → v < x → AreEnded set t i x (n + 1) silent begun
+  pub ended_push_at : (silent : List Gap) (begun : List ℕ) (v : ℕ)
+      → v ≡ get_or begun p 0 → length begun ≡ MAX_MEMBER + 1 → v < x → AreEnded set t i x (n + 1) silent begun
       → AreEnded set t i x n (silent ++ record { proc = p; from = v; to = x - 1 } ∷ []) (set_at begun p (x + 1))
-  ended_push_at silent begun v e long short a =
-      subst (λ u. AreEnded set t i x n (silent ++ record { proc = p; from = u; to = x - 1 } ∷ []) (set_at begun p (x + 1))) (sym e) (ended_push silent begun long (subst (λ u. u < x) e short) a)
+  ended_push_at silent begun v e long short a = subst (λ u. AreEnded set t i x n (silent ++ record { proc = p; from = u; to = x - 1 } ∷ [])
+      (set_at begun p (x + 1))) (sym e) (ended_push silent begun long (subst (λ u. u < x) e short) a)
 
 -- a step of another processor ends none that counts
 pub ended_same : (set : ℕ) (t : Recorded) (i x n : ℕ) (silent : List Gap) (begun : List ℕ)
@@ -258,12 +274,19 @@ module _ (set : ℕ) (t : Recorded) (i j : ℕ) (low : i < j) (high : j ≤ t.la
   early : (k p : ℕ) → IsStepOf t.steps k p → IsDone t (j + 1) (length t.steps) k → tick_of t k < j + 1
   early k p s d = elim d [ inl l ↦ l | inr e ↦ absurd (let w = (step_at_within t.steps k _ s.1).1 in omega (arith, w, e.1)) ]
 
-  pub tails_none : (silent : List Gap) (begun : List ℕ) → AreEnded set t i (j + 1) (length t.steps) silent begun → AreLongestFrom set t i j (MAX_MEMBER + 1) silent
-  tails_none silent begun a = IsListing-same EndsBefore (IsEnded set t i (j + 1) (length t.steps)) (IsLongestFrom set t i j (MAX_MEMBER + 1)) silent
-      (λ w e.
+  pub tails_none : (silent : List Gap) (begun : List ℕ)
+      → AreEnded set t i (j + 1) (length t.steps) silent begun → AreLongestFrom set t i j (MAX_MEMBER + 1) silent
+  tails_none silent begun a = IsListing-same EndsBefore
+      (IsEnded set t i (j + 1) (length t.steps)) (IsLongestFrom set t i j (MAX_MEMBER + 1)) silent (λ w e.
       let u = early e.right.place w.proc e.right.step e.right.done in
       record {
-        longest = record { gap = e.gap; after = e.after; until = omega (arith, e.right.tick, u); left = e.left; right = inr (steps_in t (j + 1) (length t.steps) w.proc (w.to + 1) e.right) };
+        longest = record {
+          gap = e.gap;
+          after = e.after;
+          until = omega (arith, e.right.tick, u);
+          left = e.left;
+          right = inr (steps_in t (j + 1) (length t.steps) w.proc (w.to + 1) e.right);
+        };
         from = inl (omega (arith, e.right.tick, u));
       })
       (λ w h. record {
@@ -280,16 +303,18 @@ module _ (set : ℕ) (t : Recorded) (i j : ℕ) (low : i < j) (high : j ≤ t.la
       }) a.ended
 
   pub tails_all : (silent : List Gap) → AreLongestFrom set t i j 1 silent → IsListing EndsBefore (IsLongest set t i j) silent
-  tails_all silent l = IsListing-same EndsBefore (IsLongestFrom set t i j 1) (IsLongest set t i j) silent (λ w h. h.longest) (λ w h. record { longest = h; from = inr (member_range set w.proc h.gap.member).0 }) l
+  tails_all silent l = IsListing-same EndsBefore (IsLongestFrom set t i j 1)
+      (IsLongest set t i j) silent (λ w h. h.longest) (λ w h. record { longest = h; from = inr (member_range set w.proc h.gap.member).0 }) l
 
   -- a silence of p up to the last tick begins where p's next one does
   tail_one : (p v : ℕ) → IsBegun t i (j + 1) (length t.steps) p v → (w : Gap) → IsLongest set t i j w → w.proc ≡ p → w.to ≡ j → v ≡ w.from
-  tail_one p v b w h own end = begin_one t set i (j + 1) (length t.steps) p v w b (λ k s d. early k p s d) (λ k s l. inl l) own (omega (arith, end)) h.gap h.after h.left
+  tail_one p v b w h own end = begin_one t set i (j + 1)
+      (length t.steps) p v w b (λ k s d. early k p s d) (λ k s l. inl l) own (omega (arith, end)) h.gap h.after h.left
 
-  pub tails_push : (p v : ℕ) (silent : List Gap) → IsTrue (has_proc set p) → IsBegun t i (j + 1) (length t.steps) p v → v ≤ j → AreLongestFrom set t i j (p + 1) silent
-      → AreLongestFrom set t i j p (silent ++ record { proc = p; from = v; to = j } ∷ [])
-  tails_push p v silent member b short l = IsListing-push EndsBefore (IsLongestFrom set t i j (p + 1)) (IsLongestFrom set t i j p) silent (record { proc = p; from = v; to = j }) l
-      (λ w h. elim (cases_lt w.to j) [
+  pub tails_push : (p v : ℕ) (silent : List Gap) → IsTrue (has_proc set p) → IsBegun t i (j + 1) (length t.steps) p v
+      → v ≤ j → AreLongestFrom set t i j (p + 1) silent → AreLongestFrom set t i j p (silent ++ record { proc = p; from = v; to = j } ∷ [])
+  tails_push p v silent member b short l = IsListing-push EndsBefore (IsLongestFrom set t i j (p + 1))
+      (IsLongestFrom set t i j p) silent (record { proc = p; from = v; to = j }) l (λ w h. elim (cases_lt w.to j) [
         | inl e ↦ inl e
         | inr n ↦ elim h.from [
           | inl e ↦ inl e
@@ -304,7 +329,8 @@ module _ (set : ℕ) (t : Recorded) (i j : ℕ) (low : i < j) (high : j ≤ t.la
           | inr d ↦ inl (record { longest = h.longest; from = inr (omega (arith, m, d)) })
           | inl e ↦ elim (cases_lt w.to j) [
             | inl f ↦ inl (record { longest = h.longest; from = inl f })
-            | inr n ↦ (let end : w.to ≡ j = omega (arith, h.longest.until, n) in inr (alike w p v j (sym e) (tail_one p v b w h.longest e end) (sym end)))
+            | inr n ↦ (let end : w.to ≡ j = omega (arith, h.longest.until, n) in
+                inr (alike w p v j (sym e) (tail_one p v b w h.longest e end) (sym end)))
           ]
         ]
       ])

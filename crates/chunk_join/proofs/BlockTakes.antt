@@ -34,10 +34,16 @@ any_takes_none set t from a low s = IsListing-none TakenBefore (IsAnyTakeBy set 
 ])
 
 -- the Receive of the next step, by a member, takes one id more
-module _ (set : ℕ) (t : Recorded) (time : IsTimed t) (i k p : ℕ) (b : Option Place) (low : i < tick_of t (k + 1)) (ends : Bool) (all : List ℕ) (n : ℕ) (inside : n < length all) (rising : IsStrictlyIncreasing all)
-    (step : step_at t.steps (k + 1) ≡ Some (record { proc = p; act = Receive ends all })) (member : IsTrue (has_proc set p)) (last : IsLastReceive t p i (tick_of t (k + 1)) b) where
+module _ (set : ℕ) (t : Recorded) (time : IsTimed t) (i k p : ℕ) (b : Option Place) (low : i < tick_of t (k + 1)) (ends : Bool)
+    (all : List ℕ) (n : ℕ) (inside : n < length all) (rising : IsStrictlyIncreasing all) (step : step_at t.steps (k + 1) ≡ Some (record
+    { proc = p; act = Receive ends all })) (member : IsTrue (has_proc set p)) (last : IsLastReceive t p i (tick_of t (k + 1)) b) where
   abbrev next : Take
-  next = record { at = record { no = k + 1; tick = tick_of t (k + 1) }; by = p; sent = record { no = get_or all n 0; tick = tick_of t (get_or all n 0) }; before = b }
+  next = record {
+    at = record { no = k + 1; tick = tick_of t (k + 1) };
+    by = p;
+    sent = record { no = get_or all n 0; tick = tick_of t (get_or all n 0) };
+    before = b;
+  }
 
   next_take : IsAnyTake set t i next
   next_take = record {
@@ -64,8 +70,11 @@ module _ (set : ℕ) (t : Recorded) (time : IsTimed t) (i k p : ℕ) (b : Option
       (subst (λ v. step_at t.steps v ≡ Some
       (record { proc = y.by; act = Receive own.receive.ends own.receive.ids })) e own.receive.step)) in
       let sent : tick_of t (get_or all n 0) ≡ y.sent.tick = ap (λ v. tick_of t v) f ∙ own.sent_place in
-      let before : b ≡ y.before = IsLastReceive-one t time y.by i y.at.tick b y.before (subst (λ v. IsLastReceive t y.by i v b) at (subst (λ q. IsLastReceive t q i (tick_of t (k + 1)) b) by last)) own.before in
-      alike y (λ no tick by id place before. record { at = record { no = no; tick = tick }; by = by; sent = record { no = id; tick = place }; before = before }) (sym e) at by f sent before
+      let before : b ≡ y.before = IsLastReceive-one t time y.by i y.at.tick b y.before
+      (subst (λ v. IsLastReceive t y.by i v b) at (subst (λ q. IsLastReceive t q i (tick_of t (k + 1)) b) by last)) own.before in
+      alike y (λ no tick by id place before.
+      record { at = record { no = no; tick = tick }; by = by; sent = record { no = id; tick = place }; before = before })
+      (sym e) at by f sent before
     where
       alike : (y : Take) (make : ℕ → ℕ → ℕ → ℕ → ℕ → Option Place → Take) → k + 1 ≡ y.at.no
           → tick_of t (k + 1) ≡ y.at.tick → p ≡ y.by → get_or all n 0 ≡ y.sent.no
@@ -74,30 +83,43 @@ module _ (set : ℕ) (t : Recorded) (time : IsTimed t) (i k p : ℕ) (b : Option
           ≡ make y.at.no y.at.tick y.by y.sent.no y.sent.tick y.before
       alike y make e f g h i j = cc
 
-  pub one_take_more : (taken : List Take) → AreTakesBy set t i k (take n all) taken → AreTakesBy set t i k (take (n + 1) all) (taken ++ next ∷ [])
-  one_take_more taken l = IsListing-push TakenBefore (IsAnyTakeBy set t i k (take n all)) (IsAnyTakeBy set t i k (take (n + 1) all)) taken next l next_above
-      (λ y h. record {
+  pub one_take_more : (taken : List Take) → AreTakesBy set t i k (take n all) taken
+      → AreTakesBy set t i k (take (n + 1) all) (taken ++ next ∷ [])
+  one_take_more taken l = IsListing-push TakenBefore
+      (IsAnyTakeBy set t i k (take n all)) (IsAnyTakeBy set t i k (take (n + 1) all)) taken next l next_above (λ y h. record {
         own = h.own;
         until = elim h.until [
           | inl before ↦ inl before
-          | inr here ↦ inr (here.0, subst (λ ids. Contains ids y.sent.no) (sym (take_more all n 0 inside)) (Contains-append_left (take n all) (get_or all n 0 ∷ []) y.sent.no here.1))
+          | inr here ↦ inr (
+            here.0,
+            subst (λ ids. Contains ids y.sent.no)
+                (sym (take_more all n 0 inside)) (Contains-append_left (take n all) (get_or all n 0 ∷ []) y.sent.no here.1),
+          )
         ];
       })
-      (record { own = next_take; until = inr (refl, subst (λ ids. Contains ids (get_or all n 0)) (sym (take_more all n 0 inside)) (Contains-push (take n all) (get_or all n 0))) })
+      (record {
+        own = next_take;
+        until = inr (
+          refl,
+          subst (λ ids. Contains ids (get_or all n 0)) (sym (take_more all n 0 inside)) (Contains-push (take n all) (get_or all n 0)),
+        );
+      })
       (λ y h. elim h.until [
         | inl before ↦ inl (record { own = h.own; until = inl before })
-        | inr here ↦ elim (Contains-push_cases (take n all) (get_or all n 0) y.sent.no (subst (λ ids. Contains ids y.sent.no) (take_more all n 0 inside) here.1)) [
-          | inl earlier ↦ inl (record { own = h.own; until = inr (here.0, earlier) })
-          | inr same ↦ inr (next_one y h.own here.0 same)
-        ]
+        | inr here ↦ elim (Contains-push_cases (take n all)
+            (get_or all n 0) y.sent.no (subst (λ ids. Contains ids y.sent.no) (take_more all n 0 inside) here.1)) [
+              | inl earlier ↦ inl (record { own = h.own; until = inr (here.0, earlier) })
+              | inr same ↦ inr (next_one y h.own here.0 same)
+            ]
       ])
 
 -- once all its ids are scanned, the step counts as scanned
 any_takes_done : (set : ℕ) (t : Recorded) (i k p : ℕ) (ends : Bool) (all : List ℕ) (taken : List Take)
     → step_at t.steps (k + 1) ≡ Some (record { proc = p; act = Receive ends all }) → AreTakesBy set t i k all taken
     → AreTakesBy set t i (k + 1) [] taken
-any_takes_done set t i k p ends all taken step l = IsListing-same TakenBefore (IsAnyTakeBy set t i k all) (IsAnyTakeBy set t i (k + 1) []) taken
-    (λ y h. record { own = h.own; until = elim h.until [ inl before ↦ inl (omega (arith, before)) | inr here ↦ inl (omega (arith, here.0)) ] })
+any_takes_done set t i k p ends all taken step l =
+    IsListing-same TakenBefore (IsAnyTakeBy set t i k all) (IsAnyTakeBy set t i (k + 1) []) taken (λ y h.
+    record { own = h.own; until = elim h.until [ inl before ↦ inl (omega (arith, before)) | inr here ↦ inl (omega (arith, here.0)) ] })
     (λ y h. record {
       own = h.own;
       until = elim h.until [
@@ -116,11 +138,14 @@ any_takes_done set t i k p ends all taken step l = IsListing-same TakenBefore (I
         subst (λ (z : Step). Contains (act_ids z.act) y.sent.no) same at.2
 
 -- a step that isn't a Receive of a member takes none
-pub any_takes_same : (set : ℕ) (t : Recorded) (i k : ℕ) (taken : List Take) → ((p : ℕ) → IsTrue (has_proc set p) → IsReceiveOf t.steps (k + 1) p → ⊥) → AreTakesBy set t i k [] taken
-    → AreTakesBy set t i (k + 1) [] taken
+pub any_takes_same : (set : ℕ) (t : Recorded) (i k : ℕ) (taken : List Take) → ((p : ℕ)
+    → IsTrue (has_proc set p) → IsReceiveOf t.steps (k + 1) p → ⊥) → AreTakesBy set t i k [] taken → AreTakesBy set t i (k + 1) [] taken
 any_takes_same set t i k taken none l = IsListing-same TakenBefore (IsAnyTakeBy set t i k []) (IsAnyTakeBy set t i (k + 1) []) taken
-    (λ y h. record { own = h.own; until = elim h.until [ inl before ↦ inl (omega (arith, before)) | inr here ↦ absurd (Contains-nil y.sent.no here.1) ] })
     (λ y h. record {
+      own = h.own;
+      until = elim h.until
+          [ inl before ↦ inl (omega (arith, before)) | inr here ↦ absurd (Contains-nil y.sent.no here.1) ];
+    }) (λ y h. record {
       own = h.own;
       until = elim h.until [
         | inl before ↦ elim (cases_eq y.at.no (k + 1)) [
@@ -138,30 +163,37 @@ any_takes_upto : (set : ℕ) (t : Recorded) → IsTimed t → (i k p : ℕ) (b :
     → IsLastReceive t p i (tick_of t (k + 1)) b → (taken : List Take) → AreTakesBy set t i k [] taken → (n : ℕ)
     → n ≤ length all → AreTakesBy set t i k (take n all)
     (taken ++ map (take_of t (record { no = k + 1; tick = tick_of t (k + 1) }) p b) (take n all))
-any_takes_upto set t time i k p b low ends all rising step member last taken l zero h = subst (AreTakesBy set t i k []) (sym (append-nil taken)) l
+any_takes_upto set t time i k p b low ends all rising step member last taken l zero h =
+    subst (AreTakesBy set t i k []) (sym (append-nil taken)) l
 any_takes_upto set t time i k p b low ends all rising step member last taken l (suc n) h =
     let before = any_takes_upto set t time i k p b low ends all rising step member last taken l n (omega (arith, h)) in
     let inside : n < length all = omega (arith, h) in
     let more = one_take_more set t time i k p b low ends all n inside rising step member last (taken ++ map f (take n all)) before in
     let same : take (n + 1) all ≡ take n all ++ get_or all n 0 ∷ [] = take_more all n 0 inside in
     let next : n + 1 ≡ suc n = omega arith in
-    let list = append_assoc taken (map f (take n all)) (f (get_or all n 0) ∷ []) ∙ ap (λ ys. taken ++ ys) (sym (map-append f (take n all) (get_or all n 0 ∷ [])) ∙ ap (map f) (sym same)) in
-    subst (λ m. AreTakesBy set t i k (take m all) (taken ++ map f (take m all))) next (subst (λ ys. AreTakesBy set t i k (take (n + 1) all) ys) list more)
+    let list = append_assoc taken (map f (take n all)) (f (get_or all n 0) ∷ [])
+    ∙ ap (λ ys. taken ++ ys) (sym (map-append f (take n all) (get_or all n 0 ∷ [])) ∙ ap (map f) (sym same)) in
+    subst (λ m. AreTakesBy set t i k (take m all) (taken ++ map f (take m all))) next
+    (subst (λ ys. AreTakesBy set t i k (take (n + 1) all) ys) list more)
   where
     f : ℕ → Take
     f = take_of t (record { no = k + 1; tick = tick_of t (k + 1) }) p b
 
 -- the next step, a Receive of a member, takes what it takes
-pub any_takes_step : (set : ℕ) (t : Recorded) → IsWellFormed t.config t.steps → IsTimed t → (i k p : ℕ) (b : Option Place) → i < tick_of t (k + 1) → IsReceiveOf t.steps (k + 1) p
-    → IsTrue (has_proc set p) → IsLastReceive t p i (tick_of t (k + 1)) b → (taken : List Take) → AreTakesBy set t i k [] taken
-    → AreTakesBy set t i (k + 1) [] (taken ++ map (take_of t (record { no = k + 1; tick = tick_of t (k + 1) }) p b) (ids_at t.steps (k + 1)))
+pub any_takes_step : (set : ℕ) (t : Recorded) → IsWellFormed t.config t.steps
+    → IsTimed t → (i k p : ℕ) (b : Option Place) → i < tick_of t (k + 1) → IsReceiveOf t.steps (k + 1) p
+    → IsTrue (has_proc set p) → IsLastReceive t p i (tick_of t (k + 1)) b → (taken : List Take) → AreTakesBy set t i k [] taken → AreTakesBy
+    set t i (k + 1) [] (taken ++ map (take_of t (record { no = k + 1; tick = tick_of t (k + 1) }) p b) (ids_at t.steps (k + 1)))
 any_takes_step set t sound time i k p b low r member last taken l =
     let ids = r.ids in
     let all : length ids ≤ length ids = omega arith in
-    let upto = any_takes_upto set t time i k p b low r.ends ids (sound.rising (k + 1) _ r.step) r.step member last taken l (length ids) all in
-    let whole = subst (λ ys. AreTakesBy set t i k ys (taken ++ map (take_of t (record { no = k + 1; tick = tick_of t (k + 1) }) p b) ys)) (take_all (length ids) ids all) upto in
+    let upto = any_takes_upto set t time i k p b low r.ends ids
+    (sound.rising (k + 1) _ r.step) r.step member last taken l (length ids) all in
+    let whole = subst (λ ys. AreTakesBy set t i k ys (taken ++ map (take_of t (record { no = k + 1; tick = tick_of t (k + 1) }) p b) ys))
+    (take_all (length ids) ids all) upto in
     let same : ids ≡ ids_at t.steps (k + 1) = sym (ap (λ o. option_map_or (λ (x : Step). act_ids x.act) o []) r.step) in
-    subst (λ ys. AreTakesBy set t i (k + 1) [] (taken ++ map (take_of t (record { no = k + 1; tick = tick_of t (k + 1) }) p b) ys)) same (any_takes_done set t i k p r.ends ids _ r.step whole)
+    subst (λ ys. AreTakesBy set t i (k + 1) [] (taken ++ map (take_of t (record { no = k + 1; tick = tick_of t (k + 1) }) p b) ys)) same
+    (any_takes_done set t i k p r.ends ids _ r.step whole)
 
 -- so do the last Receives with it
 pub receives_more : (set : ℕ) (t : Recorded) → IsTrace t → (i k p tick : ℕ) (b : Option Place) → i < tick_of t (k + 1)
@@ -172,7 +204,9 @@ pub receives_more : (set : ℕ) (t : Recorded) → IsTrace t → (i k p tick : �
     (ids_at t.steps (k + 1))) × AreLastBy set t i (k + 1)
     (set_at last p (Some (record { no = k + 1; tick = tick })))
 receives_more set t sound i k p tick b low e r member taken last f l a = (
-  subst (λ x. AreTakesBy set t i (k + 1) [] (taken ++ map (take_of t (record { no = k + 1; tick = x }) p b) (ids_at t.steps (k + 1)))) (sym e)
-      (any_takes_step set t sound.steps sound.time i k p b low r member (last_at_step t sound.time p i k b r (subst (λ o. IsLastBy t p i k o) (sym f) (a.members p member))) taken l),
-  subst (λ (x : ℕ). AreLastBy set t i (k + 1) (set_at last p (Some (record { no = k + 1; tick = x })))) (sym e) (last_more set t i k p last member r low a),
+  subst (λ x. AreTakesBy set t i (k + 1) [] (taken ++ map (take_of t (record { no = k + 1; tick = x }) p b) (ids_at t.steps (k + 1))))
+      (sym e) (any_takes_step set t sound.steps sound.time i k p b low r member
+      (last_at_step t sound.time p i k b r (subst (λ o. IsLastBy t p i k o) (sym f) (a.members p member))) taken l),
+  subst (λ (x : ℕ). AreLastBy set t i (k + 1) (set_at last p (Some (record { no = k + 1; tick = x }))))
+      (sym e) (last_more set t i k p last member r low a),
 )

@@ -21,7 +21,8 @@ IsConsistent-joined l r seam a b = record {
   order = omega (arith, low, high, seam);
   end = b.end;
   long = length-later_each l.last r.last ∙ a.long;
-  sent_rising = Rises-append SentBefore settled r.sent (settled_rise r.taken l.last l.sent a.sent_rising) b.sent_rising (λ x y p q. inl (omega (arith, (left_sent x p).1, (b.sent_inside y q).0, seam)));
+  sent_rising = Rises-append SentBefore settled r.sent (settled_rise r.taken l.last l.sent a.sent_rising) b.sent_rising
+      (λ x y p q. inl (omega (arith, (left_sent x p).1, (b.sent_inside y q).0, seam)));
   sent_inside = λ x k. elim (Contains-append_cases settled r.sent x k) [
     | inl p ↦ (let u = left_sent x p in (u.0, omega (arith, u.1, seam, high)))
     | inr p ↦ (let u = b.sent_inside x p in (omega (arith, u.0, seam, low), u.1))
@@ -69,7 +70,8 @@ pub seam_of : (l r : Summary) → parts_refusal l r ≡ None → l.to + 1 ≡ r.
 seam_of l r h = grind (arith, h)
 
 -- what holds of the lists of every summary holds of that of a part
-pub IsConsistent-summary : (set : ℕ) (t : Recorded) → IsTimed t → (i j : ℕ) (s : Summary) → i < j → j ≤ t.last → IsSummary set t i j s → IsConsistent s
+pub IsConsistent-summary : (set : ℕ) (t : Recorded)
+    → IsTimed t → (i j : ℕ) (s : Summary) → i < j → j ≤ t.last → IsSummary set t i j s → IsConsistent s
 IsConsistent-summary set t time i j s low high a = record {
   start = omega (arith, a.from);
   order = omega (arith, a.from, a.to, low);

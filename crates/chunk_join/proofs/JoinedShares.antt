@@ -11,8 +11,9 @@ use Rattle.chunk_join.specs.Digests.{IsDigestOf}
 use Rattle.chunk_join.specs.Analyses.{ArePromised, IsPromised, IsDigestBetween, cut}
 
 -- a kept promise, in the terms of the trace and the workers
-share_digest : {E G : Type 0} (p : DigestOf G) (set : ℕ) (trace : Recorded) (gate : G) (workers n : ℕ) → IsPromised set trace gate workers (n + 1) p → (right : Result (Option Summary) E)
-    → IfOk right (IsDigestBetween p.set p.trace.value (p.share.from - 1) p.share.to) → IfOk right (IsDigestBetween set trace (cut trace.last workers n) (cut trace.last workers (n + 1)))
+share_digest : {E G : Type 0} (p : DigestOf G) (set : ℕ) (trace : Recorded) (gate : G) (workers n : ℕ) → IsPromised set trace gate workers
+    (n + 1) p → (right : Result (Option Summary) E) → IfOk right (IsDigestBetween p.set p.trace.value (p.share.from - 1) p.share.to)
+    → IfOk right (IsDigestBetween set trace (cut trace.last workers n) (cut trace.last workers (n + 1)))
 share_digest p set trace gate workers n is right kept =
     let e : n + 1 - 1 ≡ n = omega arith in
     let from : p.share.from ≡ cut trace.last workers n + 1 = is.share.from ∙ ap (λ m. cut trace.last workers m + 1) e in
@@ -30,7 +31,8 @@ cut_all ticks workers some = mul-div_cancel_left ticks some
 
 -- both as one
 after : {E : Type 0} (all right more : Result (Option Summary) E) (set : ℕ) (trace : Recorded) (i j k : ℕ)
-    → IfOk more (λ digest. (set : ℕ) (trace : Recorded) (i j k : ℕ) → IfOk all (IsDigestBetween set trace i j) → IfOk right (IsDigestBetween set trace j k) → IsDigestBetween set trace i k digest)
+    → IfOk more (λ digest. (set : ℕ) (trace : Recorded) (i j k : ℕ)
+    → IfOk all (IsDigestBetween set trace i j) → IfOk right (IsDigestBetween set trace j k) → IsDigestBetween set trace i k digest)
     → IfOk all (IsDigestBetween set trace i j) → IfOk right (IsDigestBetween set trace j k) → IfOk more (IsDigestBetween set trace i k)
 after all right (Ok digest) set trace i j k both a b = both set trace i j k a b
 after all right (Err e) set trace i j k both a b = tt
@@ -42,12 +44,14 @@ module _ {T G : Type 0} where
       (length threads + 1) thread.promise → ArePromised set trace gate workers (threads ++ thread ∷ [])
   ArePromised-push set trace gate workers threads thread are is = λ k other h. elim (slice_get-push_cases threads thread other k h) [
     | inl old ↦ are k other old
-    | inr new ↦ subst (λ x. IsPromised set trace gate workers (k + 1) x.promise) new.1 (subst (λ n. IsPromised set trace gate workers (n + 1) thread.promise) (sym new.0) is)
+    | inr new ↦ subst (λ x. IsPromised set trace gate workers (k + 1) x.promise) new.1
+        (subst (λ n. IsPromised set trace gate workers (n + 1) thread.promise) (sym new.0) is)
   ]
 
   module _ {E : Type 0} where
     -- Some of these threads were joined, and the rest are left.
-    pub record AreJoined (threads : List (PromisedHandle T (DigestOf G))) (all : Result (Option Summary) E) (rest : List (PromisedHandle T (DigestOf G))) : Type 0 where
+    pub record AreJoined (threads : List (PromisedHandle T (DigestOf G)))
+        (all : Result (Option Summary) E) (rest : List (PromisedHandle T (DigestOf G))) : Type 0 where
       pub done : ℕ
       pub count : done + length rest ≡ length threads
       pub left : (k : ℕ) → slice_get rest k ≡ slice_get threads (done + k)
@@ -55,12 +59,14 @@ module _ {T G : Type 0} where
           → ArePromised set trace gate workers threads
           → IfOk all (IsDigestBetween set trace 0 (cut trace.last workers done))
 
-    pub AreJoined-none : (threads : List (PromisedHandle T (DigestOf G))) (unit : Option Summary) → unit ≡ None → AreJoined threads (Ok unit) threads
+    pub AreJoined-none : (threads : List (PromisedHandle T (DigestOf G))) (unit : Option Summary)
+        → unit ≡ None → AreJoined threads (Ok unit) threads
     AreJoined-none threads unit e = record {
       done = 0;
       count = omega arith;
       left = λ k. ap (slice_get threads) (omega arith);
-      digest = λ set trace gate workers some are sound. subst (IsDigestOf (record { set = set; trace = trace; sound = sound }) 0 (cut trace.last workers 0)) (sym e) (cut_zero trace.last workers);
+      digest = λ set trace gate workers some are sound. subst (IsDigestOf (record { set = set; trace = trace; sound = sound }) 0
+          (cut trace.last workers 0)) (sym e) (cut_zero trace.last workers);
     }
 
     pub AreJoined-more : (threads : List (PromisedHandle T (DigestOf G))) (all right more : Result (Option Summary) E)
@@ -74,12 +80,14 @@ module _ {T G : Type 0} where
     AreJoined-more threads all right more thread rest was kept both = record {
       done = was.done + 1;
       count = let c : was.done + suc (length rest) ≡ length threads = was.count in omega (arith, c);
-      left = λ k. (let l : slice_get rest k ≡ slice_get threads (was.done + suc k) = was.left (suc k) in let e : was.done + suc k ≡ was.done + 1 + k = omega arith in l ∙ ap (slice_get threads) e);
+      left = λ k. (let l : slice_get rest k ≡ slice_get threads (was.done + suc k) = was.left (suc k) in
+          let e : was.done + suc k ≡ was.done + 1 + k = omega arith in l ∙ ap (slice_get threads) e);
       digest = λ set trace gate workers some are. (
           let e : was.done + 0 ≡ was.done = omega arith in
           let at : slice_get threads was.done ≡ Some thread = ap (slice_get threads) (sym e) ∙ sym (was.left 0) in
           let own = share_digest thread.promise set trace gate workers was.done (are was.done thread at) right kept in
-          after all right more set trace 0 (cut trace.last workers was.done) (cut trace.last workers (was.done + 1)) both (was.digest set trace gate workers some are) own);
+          after all right more set trace 0 (cut trace.last workers was.done)
+          (cut trace.last workers (was.done + 1)) both (was.digest set trace gate workers some are) own);
     }
 
     pub AreJoined-all : (threads : List (PromisedHandle T (DigestOf G))) (all : Result (Option Summary) E)
@@ -99,6 +107,6 @@ module _ {T G : Type 0} where
         → IfOk all (λ digest. (set : ℕ) (trace : Recorded) (gate : G) (workers : ℕ) → 0 < workers
         → ArePromised set trace gate workers threads → IsDigestBetween set trace 0
         (cut trace.last workers (length threads)) digest) → IfOk all (IsDigestBetween set trace 0 trace.last)
-    IsDigestBetween-whole threads (Ok digest) set trace gate workers some count are joined =
-        subst (λ n. IsDigestBetween set trace 0 n digest) (ap (cut trace.last workers) count ∙ cut_all trace.last workers some) (joined set trace gate workers some are)
+    IsDigestBetween-whole threads (Ok digest) set trace gate workers some count are joined = subst (λ n. IsDigestBetween
+        set trace 0 n digest) (ap (cut trace.last workers) count ∙ cut_all trace.last workers some) (joined set trace gate workers some are)
     IsDigestBetween-whole threads (Err e) set trace gate workers some count are joined = tt

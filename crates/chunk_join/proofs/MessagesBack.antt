@@ -35,10 +35,12 @@ use Rattle.chunk_join.proofs.Places.{Rises-at}
 pub slice-Contains : {X : Type 0} (xs : List X) (x : X) → Contains xs x → (k : ℕ) × (slice_get xs k ≡ Some x)
 slice-Contains xs x c = (c.0, slice_get-get_or xs c.0 x c.1 ∙ ap (λ y. Some y) c.2)
 
-pub Rises-slices : {X : Type 0} (Before : X → X → Type 0) (xs : List X) (i j : ℕ) (x y : X) → Rises Before xs → slice_get xs i ≡ Some x → slice_get xs j ≡ Some y → i < j → Before x y
+pub Rises-slices : {X : Type 0} (Before : X → X → Type 0) (xs : List X) (i j : ℕ) (x y : X)
+    → Rises Before xs → slice_get xs i ≡ Some x → slice_get xs j ≡ Some y → i < j → Before x y
 Rises-slices Before xs i j x y r h k l =
     let both = Rises-at Before xs i j x r l (slice_get_within xs j y k) in
-    subst (λ u. Before u y) (get_or_from_slice_get xs i x x h) (subst (λ v. Before (get_or xs i x) v) (get_or_from_slice_get xs j y x k) both)
+    subst (λ u. Before u y) (get_or_from_slice_get xs i x x h)
+    (subst (λ v. Before (get_or xs i x) v) (get_or_from_slice_get xs j y x k) both)
 
 pub last_at-Contains : {X : Type 0} (xs : List X) (n : ℕ) (x : X) → last_at xs n ≡ Some x → Contains xs x
 last_at-Contains xs zero x h = absurd (none-some x h)
@@ -47,7 +49,8 @@ last_at-Contains xs (suc n) x h = Contains-slice_get xs n x h
 -- For any miss, the level with it may come before the one without.
 
 pub StandsBefore-with_miss : (level : Level) (m : Miss) (long : ℕ) → StandsBefore (with_miss level m long) level
-StandsBefore-with_miss level m long = record { delta = grind arith; phi = grind arith; miss = λ same. grind (arith, same); gap = λ same. grind arith }
+StandsBefore-with_miss level m long =
+    record { delta = grind arith; phi = grind arith; miss = λ same. grind (arith, same); gap = λ same. grind arith }
 
 with_miss-phi : (level : Level) (m : Miss) (long : ℕ) → (with_miss level m long).phi ≡ level.phi
 with_miss-phi level m long = grind arith
@@ -82,8 +85,8 @@ StandsBefore-through a b c h k =
 
 -- what is known of misses after one number is known after a smaller one, if misses between are covered by later ones
 KnowsMissesAfter-moved : (set : ℕ) (t : Recorded) (old new d : ℕ) (o : Option Miss) → new ≤ old
-    → ((n : Miss) → IsMiss set t n → new < n.sent → (m : Miss) × IsMiss set t m × (old < m.sent) × (tick_of t n.missed + tick_of t m.sent ≤ tick_of t m.missed + tick_of t n.sent))
-    → KnowsMissesAfter set t old d o → KnowsMissesAfter set t new d o
+    → ((n : Miss) → IsMiss set t n → new < n.sent → (m : Miss) × IsMiss set t m × (old < m.sent) × (tick_of t n.missed + tick_of t m.sent
+    ≤ tick_of t m.missed + tick_of t n.sent)) → KnowsMissesAfter set t old d o → KnowsMissesAfter set t new d o
 KnowsMissesAfter-moved set t old new d o less cover k = record {
   shorter = λ n i l. (let c = cover n i l in omega (arith, k.shorter c.0 c.1 c.2, c.3));
   named = go o k.named;
@@ -104,10 +107,9 @@ KnowsMissesAfter-moved set t old new d o less cover k = record {
   )
 
 -- and of the misses from a tick on, if they are those after the number
-KnowsMisses-from_number : (set : ℕ) (t : Recorded) (done g d : ℕ) (o : Option Miss)
-    → ((m : Miss) → IsNamedAfter set t done d m → g ≤ tick_of t m.sent) → ((m : Miss) → IsMiss set t m → g ≤ tick_of t m.sent → done < m.sent)
-    → ((m n : Miss) → IsMiss set t m → IsMiss set t n → m.sent ≤ n.sent → tick_of t m.sent ≤ tick_of t n.sent)
-    → KnowsMissesAfter set t done d o → KnowsMisses set t g d o
+KnowsMisses-from_number : (set : ℕ) (t : Recorded) (done g d : ℕ) (o : Option Miss) → ((m : Miss) → IsNamedAfter set t done d m
+    → g ≤ tick_of t m.sent) → ((m : Miss) → IsMiss set t m → g ≤ tick_of t m.sent → done < m.sent) → ((m n : Miss) → IsMiss set t m
+    → IsMiss set t n → m.sent ≤ n.sent → tick_of t m.sent ≤ tick_of t n.sent) → KnowsMissesAfter set t done d o → KnowsMisses set t g d o
 KnowsMisses-from_number set t done g d o to from rise k = record {
   shorter = λ m i f. k.shorter m i (from m i f);
   named = go o k.named;
@@ -135,23 +137,32 @@ pub record IsLastMissed (set : ℕ) (t : Recorded) (m : Message) (o : Option Pla
   pub last : IsLastMissOf set t m.sent.no (number_of_missed o)
   pub inside : (r : Place) → o ≡ Some r → (tick_of t r.no ≡ r.tick) × (r.tick ≤ t.last)
 
-IsLastMissed-from_last : (set : ℕ) (t : Recorded) (m : Message) (high : ℕ) (o : Option Place) → IsMessage set t.steps m.sent.no m.to → tick_of t m.sent.no ≡ m.sent.tick → high ≤ t.last + 1
-    → ((y : ℕ) → IsDelivered t m.sent.no (tick_of t y) → tick_of t y < high → ⊥)
+IsLastMissed-from_last : (set : ℕ) (t : Recorded) (m : Message) (high : ℕ) (o : Option Place) → IsMessage set t.steps m.sent.no m.to
+    → tick_of t m.sent.no ≡ m.sent.tick → high ≤ t.last + 1 → ((y : ℕ) → IsDelivered t m.sent.no (tick_of t y) → tick_of t y < high → ⊥)
     → ((y : ℕ) → IsMiss set t (record { sent = m.sent.no; missed = y }) → tick_of t y < high)
     → IsLastReceive t m.to m.sent.tick high o → IsLastMissed set t m o
 IsLastMissed-from_last set t m high None message place end undelivered below l = record {
   last = record {
     found = λ late. (let none : tick_of t m.sent.no < 0 = late in absurd (omega (arith, none)));
-    last = λ y i. absurd (l y (subst (λ (q : ℕ). IsReceiveOf t.steps y q) (message_unique set t.steps m.sent.no _ m.to i.to message.sent i.message) i.receive) (omega (arith, i.late, place)) (below y i));
+    last = λ y i. absurd (l y (subst (λ (q : ℕ). IsReceiveOf t.steps y q)
+        (message_unique set t.steps m.sent.no _ m.to i.to message.sent i.message) i.receive) (omega (arith, i.late, place)) (below y i));
   };
   inside = λ r e. cc;
 }
 IsLastMissed-from_last set t m high (Some r) message place end undelivered below l = record {
   last = record {
-    found = λ late. record { to = m.to; message = message; receive = l.receive; late = late; undelivered = λ d. undelivered r.no d (omega (arith, at, until)) };
-    last = λ y i. (let b = l.latest y (subst (λ (q : ℕ). IsReceiveOf t.steps y q) (message_unique set t.steps m.sent.no _ m.to i.to message.sent i.message) i.receive) (below y i) in omega (arith, b, at));
+    found = λ late. record {
+      to = m.to;
+      message = message;
+      receive = l.receive;
+      late = late;
+      undelivered = λ d. undelivered r.no d (omega (arith, at, until));
+    };
+    last = λ y i. (let b = l.latest y (subst (λ (q : ℕ). IsReceiveOf t.steps y q)
+        (message_unique set t.steps m.sent.no _ m.to i.to message.sent i.message) i.receive) (below y i) in omega (arith, b, at));
   };
-  inside = λ q e. (let same = same_Some r q e in subst (λ (p : Place). (tick_of t p.no ≡ p.tick) × (p.tick ≤ t.last)) same (at, omega (arith, until, end)));
+  inside = λ q e. (let same = same_Some r q e in
+      subst (λ (p : Place). (tick_of t p.no ≡ p.tick) × (p.tick ≤ t.last)) same (at, omega (arith, until, end)));
 } where
   at : tick_of t r.no ≡ r.tick
   at = l.place
@@ -174,10 +185,12 @@ IsLastMissed-summary set t sound s a m sent = go m.fate sent.fate where
   go (Taken missed) fate =
       let until = fate.2 in
       IsLastMissed-from_last set t m (tick_of t fate.0) missed sent.message sent.place (omega (arith, until))
-      (λ y d l. (let same = ap (λ n. tick_of t n) (sound.steps.once d.place fate.0 m.sent.no d.takes fate.1) in omega (arith, same, d.until, l)))
+      (λ y d l. (let same = ap (λ n. tick_of t n) (sound.steps.once d.place fate.0 m.sent.no d.takes fate.1) in
+      omega (arith, same, d.until, l)))
       (λ y i. elim (cases_lt (tick_of t y) (tick_of t fate.0)) [
         | inl l ↦ l
-        | inr late ↦ absurd (i.undelivered (record { place = fate.0; after = sound.time.later fate.0 m.sent.no fate.1; until = omega (arith, late); takes = fate.1 }))
+        | inr late ↦ absurd (i.undelivered
+            (record { place = fate.0; after = sound.time.later fate.0 m.sent.no fate.1; until = omega (arith, late); takes = fate.1 }))
       ])
       fate.3
 
@@ -200,13 +213,15 @@ pub record IsListed (t : Recorded) (sent : List Message) (s : ℕ) : Type 0 wher
   pub no : message.sent.no ≡ s
   pub tick : message.sent.tick ≡ tick_of t s
 
-pub IsListed-message : (set : ℕ) (t : Recorded) → IsTrace t → (s : Summary) → IsSummary set t 0 t.last s → (x b : ℕ) → IsMessage set t.steps x b → IsListed t s.sent x
+pub IsListed-message : (set : ℕ) (t : Recorded) → IsTrace t
+    → (s : Summary) → IsSummary set t 0 t.last s → (x b : ℕ) → IsMessage set t.steps x b → IsListed t s.sent x
 IsListed-message set t sound s a x b m =
     let place : Place = record { no = x; tick = tick_of t x } in
     let fate = fate_exists set t sound place b in
     let own : Message = record { sent = place; to = b; fate = fate.0 } in
     let inside = sound.time.inside x _ m.sent in
-    let at = slice-Contains s.sent own (a.sent.complete own (record { message = m; place = refl; after = omega (arith, inside.0); until = inside.1; fate = fate.1 })) in
+    let at = slice-Contains s.sent own
+    (a.sent.complete own (record { message = m; place = refl; after = omega (arith, inside.0); until = inside.1; fate = fate.1 })) in
     record { place = at.0; message = own; at = at.1; no = refl; tick = refl }
 
 -- numbers rise as the places do
@@ -221,8 +236,10 @@ numbers_rise set t sound s a i j x y h k l = elim (Rises-slices SentBefore s.sen
 ]
 
 -- the messages from place n on have greater numbers than those before
-number_after : (set : ℕ) (t : Recorded) → IsTrace t → (s : Summary) → Suffices set t s → (n j : ℕ) (y : Message) → slice_get s.sent j ≡ Some y → n ≤ j → number_at s.sent n < y.sent.no
-number_after set t sound s a zero j y h l = (step_at_within t.steps y.sent.no _ (a.sent_sound y (Contains-slice_get s.sent j y h)).message.sent).0
+number_after : (set : ℕ) (t : Recorded) → IsTrace t
+    → (s : Summary) → Suffices set t s → (n j : ℕ) (y : Message) → slice_get s.sent j ≡ Some y → n ≤ j → number_at s.sent n < y.sent.no
+number_after set t sound s a zero j y h l =
+    (step_at_within t.steps y.sent.no _ (a.sent_sound y (Contains-slice_get s.sent j y h)).message.sent).0
 number_after set t sound s a (suc n) j y h l = go (slice_get s.sent n) refl where
   go : (o : Option Message) → slice_get s.sent n ≡ o → number_of o < y.sent.no
   go None e = (step_at_within t.steps y.sent.no _ (a.sent_sound y (Contains-slice_get s.sent j y h)).message.sent).0
@@ -254,7 +271,8 @@ with_missed-lowered set t end m level None last place low known is =
     let miss : Miss = record { sent = m.sent.no; missed = 0 } in
     let positive = after_positive set t m.sent.no level.delta level.miss known.named in
     let none : tick_of t 0 - tick_of t m.sent.no ≡ 0 = (let e : 0 - tick_of t m.sent.no ≡ 0 = omega arith in e) in
-    subst (λ (l : Level). KnowsMissesAfter set t (m.sent.no - 1) l.delta l.miss) (ap (λ n. with_miss level miss n) none ∙ with_miss-none level miss positive)
+    subst (λ (l : Level). KnowsMissesAfter set t (m.sent.no - 1) l.delta l.miss)
+    (ap (λ n. with_miss level miss n) none ∙ with_miss-none level miss positive)
     (MissesLowered-with_miss set t m.sent.no 0 level low known is.last).misses
 with_missed-lowered set t end m level (Some r) last place low known is =
     let miss : Miss = record { sent = m.sent.no; missed = r.no } in
@@ -275,7 +293,8 @@ HasMissesFrom-back part j m level at h = λ set t sound a.
     let before = number_after set t sound part a j j m at (omega arith) in
     KnowsMissesAfter-moved set t (m.sent.no - 1) (number_at part.sent j) _ _ (omega (arith, before)) (cover set t sound a) lowered) where
       cover : (set : ℕ) (t : Recorded) → IsTrace t → Suffices set t part → (n : Miss) → IsMiss set t n → number_at part.sent j < n.sent
-          → (u : Miss) × IsMiss set t u × (m.sent.no - 1 < u.sent) × (tick_of t n.missed + tick_of t u.sent ≤ tick_of t u.missed + tick_of t n.sent)
+          → (u : Miss) × IsMiss set t u × (m.sent.no - 1 < u.sent)
+          × (tick_of t n.missed + tick_of t u.sent ≤ tick_of t u.missed + tick_of t n.sent)
       cover set t sound a n i l =
           let c = a.missed n i in
           let place = slice-Contains part.sent c.message c.listed in
@@ -283,9 +302,11 @@ HasMissesFrom-back part j m level at h = λ set t sound a.
             c.miss,
             c.is,
             elim (cases_lt place.0 j) [
-              | inl below ↦ absurd (let until = number_until set t sound part a j place.0 c.message place.1 (omega (arith, long)) below in omega (arith, until, c.sent_in, c.later, l))
+              | inl below ↦ absurd (let until = number_until set t sound part a j place.0 c.message place.1 (omega (arith, long)) below in
+                  omega (arith, until, c.sent_in, c.later, l))
               | inr above ↦ elim (cases_lt j place.0) [
-                | inl after ↦ (let rise = numbers_rise set t sound part a j place.0 m c.message at place.1 after in omega (arith, rise, c.sent_in))
+                | inl after ↦ (let rise = numbers_rise set t sound part a j place.0 m c.message at place.1 after in
+                    omega (arith, rise, c.sent_in))
                 | inr b ↦ (let e : place.0 ≡ j = omega (arith, above, b) in
                     let same = ap (λ (x : Message). x.sent.no) (same_Some _ _ (sym place.1 ∙ ap (slice_get part.sent) e ∙ at)) in
                     let own = (step_at_within t.steps m.sent.no _ (a.sent_sound m (Contains-slice_get part.sent j m at)).message.sent).0 in
@@ -311,7 +332,8 @@ pub KnowsMisses-from_left : (part : Summary) (g left : ℕ) (level : Level) → 
     → SentFrom part.sent g left → ((x : Message) → last_at part.sent left ≡ Some x → x.sent.tick < g)
     → HasMissesFrom part left level → (set : ℕ) (t : Recorded) → IsTrace t → Suffices set t part
     → KnowsMisses set t g level.delta level.miss
-KnowsMisses-from_left part g left level long sent_later earlier h set t sound a = KnowsMisses-from_number set t (number_at part.sent left) g level.delta level.miss to from
+KnowsMisses-from_left part g left level long sent_later earlier h set t sound a =
+    KnowsMisses-from_number set t (number_at part.sent left) g level.delta level.miss to from
     (λ m n i j l. ticks_rise t sound.time m.sent n.sent _ _ i.message.sent j.message.sent l) (h set t sound a) where
       known : KnowsMissesAfter set t (number_at part.sent left) level.delta level.miss
       known = h set t sound a
@@ -325,8 +347,10 @@ KnowsMisses-from_left part g left level long sent_later earlier h set t sound a 
           let tick = (a.sent_sound c.message c.listed).place in
           let place = slice-Contains part.sent c.message c.listed in
           elim (cases_lt place.0 left) [
-            | inl below ↦ absurd (let until = number_until set t sound part a left place.0 c.message place.1 long below in omega (arith, until, same, named.after))
-            | inr above ↦ (let at = sent_later place.0 c.message (omega (arith, above)) place.1 in omega (arith, at, tick, ap (tick_of t) same))
+            | inl below ↦ absurd (let until = number_until set t sound part a left place.0 c.message place.1 long below in
+                omega (arith, until, same, named.after))
+            | inr above ↦ (let at = sent_later place.0 c.message (omega (arith, above)) place.1 in
+                omega (arith, at, tick, ap (tick_of t) same))
           ]
 
       from : (m : Miss) → IsMiss set t m → g ≤ tick_of t m.sent → number_at part.sent left < m.sent

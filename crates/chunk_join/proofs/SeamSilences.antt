@@ -30,23 +30,27 @@ ended_stops : (seam : ℕ) (right : List Gap) (w : Gap) → w.to < seam → stop
 ended_stops seam right w l = ap not (none_any (λ v. meets seam w v) right (λ v. meets-early seam w v l))
 
 -- so a filter keeps them, and a search passes over them
-filter_past : (seam : ℕ) (right first rest : List Gap) → ((w : Gap) → Contains first w → w.to < seam) → filter (stops seam right) (first ++ rest) ≡ first ++ filter (stops seam right) rest
+filter_past : (seam : ℕ) (right first rest : List Gap)
+    → ((w : Gap) → Contains first w → w.to < seam) → filter (stops seam right) (first ++ rest) ≡ first ++ filter (stops seam right) rest
 filter_past seam right [] rest h = refl
 filter_past seam right (w ∷ first) rest h =
     let e = ended_stops seam right w (h w (Contains-head w first)) in
     ap (λ (b : Bool). cond b (w ∷ filter (stops seam right) (first ++ rest)) (filter (stops seam right) (first ++ rest))) e
     ∙ ap (λ ys. w ∷ ys) (filter_past seam right first rest (λ x k. h x (Contains-rest w x first k)))
 
-find_past_ended : (seam : ℕ) (v : Gap) (first rest : List Gap) → ((w : Gap) → Contains first w → w.to < seam) → find (λ w. meets seam w v) (first ++ rest) ≡ find (λ w. meets seam w v) rest
+find_past_ended : (seam : ℕ) (v : Gap) (first rest : List Gap)
+    → ((w : Gap) → Contains first w → w.to < seam) → find (λ w. meets seam w v) (first ++ rest) ≡ find (λ w. meets seam w v) rest
 find_past_ended seam v [] rest h = refl
 find_past_ended seam v (w ∷ first) rest h =
     let e = meets-early seam w v (h w (Contains-head w first)) in
     ap (λ (b : Bool). cond b (Some w) (find (λ w. meets seam w v) (first ++ rest))) e
     ∙ find_past_ended seam v first rest (λ x k. h x (Contains-rest w x first k))
 
-map_reach_past : (seam : ℕ) (first rest right : List Gap) → ((w : Gap) → Contains first w → w.to < seam) → map (reach_back seam (first ++ rest)) right ≡ map (reach_back seam rest) right
+map_reach_past : (seam : ℕ) (first rest right : List Gap)
+    → ((w : Gap) → Contains first w → w.to < seam) → map (reach_back seam (first ++ rest)) right ≡ map (reach_back seam rest) right
 map_reach_past seam first rest [] h = refl
-map_reach_past seam first rest (v ∷ right) h = ap₂ (λ y ys. y ∷ ys) (ap (λ o. from_seam v o) (find_past_ended seam v first rest h)) (map_reach_past seam first rest right h)
+map_reach_past seam first rest (v ∷ right) h = ap₂
+    (λ y ys. y ∷ ys) (ap (λ o. from_seam v o) (find_past_ended seam v first rest h)) (map_reach_past seam first rest right h)
 
 -- the silences of both parts, if those up to a place ended before the seam
 pub join_from : (seam n : ℕ) (left tail right joined : List Gap) → ((w : Gap) → Contains (take n left) w → w.to < seam) → tail ≡ drop n left
@@ -59,4 +63,5 @@ join_from seam n left tail right joined h e f =
     let g : joined ≡ (take n left ++ filter (stops seam right) (drop n left))
     ++ map (reach_back seam (drop n left)) right =
     subst (λ t. joined ≡ (take n left ++ filter (stops seam right) t) ++ map (reach_back seam t) right) e f in
-    g ∙ ap₂ (λ a b. a ++ b) (sym kept ∙ ap (λ xs. filter (stops seam right) xs) whole) (sym reached ∙ ap (λ xs. map (reach_back seam xs) right) whole)
+    g ∙ ap₂ (λ a b. a ++ b) (sym kept ∙ ap (λ xs. filter (stops seam right) xs) whole)
+    (sym reached ∙ ap (λ xs. map (reach_back seam xs) right) whole)

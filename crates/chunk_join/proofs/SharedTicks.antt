@@ -35,10 +35,12 @@ back t p k a = record { forth = a.back; back = a.forth }
 
 -- What holds for the steps of one holds for the other.
 
-takes : (t p : Recorded) (k : ℕ) → ShareTicks t p k → (x s : ℕ) → TakesAt t.steps x s → tick_of t x ≤ k → TakesAt p.steps x s × (tick_of p x ≡ tick_of t x)
+takes : (t p : Recorded) (k : ℕ) → ShareTicks t p k
+    → (x s : ℕ) → TakesAt t.steps x s → tick_of t x ≤ k → TakesAt p.steps x s × (tick_of p x ≡ tick_of t x)
 takes t p k a x s h l = let f = a.forth x h.0 h.1 l in ((h.0, f.0, h.2), f.1)
 
-receives : (t p : Recorded) (k : ℕ) → ShareTicks t p k → (r q : ℕ) → IsReceiveOf t.steps r q → tick_of t r ≤ k → IsReceiveOf p.steps r q × (tick_of p r ≡ tick_of t r)
+receives : (t p : Recorded) (k : ℕ) → ShareTicks t p k
+    → (r q : ℕ) → IsReceiveOf t.steps r q → tick_of t r ≤ k → IsReceiveOf p.steps r q × (tick_of p r ≡ tick_of t r)
 receives t p k a r q h l = let f = a.forth r _ h.step l in (record { ids = h.ids; ends = h.ends; step = f.0 }, f.1)
 
 steps_in : (t p : Recorded) (k : ℕ) → ShareTicks t p k → (x q : ℕ) → x ≤ k → StepsIn t x q → StepsIn p x q
@@ -47,7 +49,8 @@ steps_in t p k a x q l h =
     let f = a.forth h.place _ h.step.1 (omega (arith, tick, l)) in
     record { place = h.place; step = (h.step.0, f.0); tick = f.1 ∙ tick }
 
-last_receive : (t p : Recorded) (k : ℕ) → ShareTicks t p k → (q low high : ℕ) (o : Option Place) → high ≤ k + 1 → IsLastReceive t q low high o → IsLastReceive p q low high o
+last_receive : (t p : Recorded) (k : ℕ) → ShareTicks t p k
+    → (q low high : ℕ) (o : Option Place) → high ≤ k + 1 → IsLastReceive t q low high o → IsLastReceive p q low high o
 last_receive t p k a q low high None l h = λ y r u v. (
     let own = receives p t k (back t p k a) y q r (omega (arith, v, l)) in
     h y own.0 (omega (arith, own.1, u)) (omega (arith, own.1, v)))
@@ -122,20 +125,29 @@ longest t p k a inside set w h =
     }
 
 -- So they have one summary.
-pub IsSummary-shared : (t p : Recorded) (k : ℕ) → ShareTicks t p k → IsTrace t → IsTrace p → k ≤ t.last → k ≤ p.last → (set : ℕ) (s : Summary) → IsSummary set t 0 k s → IsSummary set p 0 k s
+pub IsSummary-shared : (t p : Recorded) (k : ℕ) → ShareTicks t p k
+    → IsTrace t → IsTrace p → k ≤ t.last → k ≤ p.last → (set : ℕ) (s : Summary) → IsSummary set t 0 k s → IsSummary set p 0 k s
 IsSummary-shared t p k a sound is low high set s h = record {
   members = h.members;
   from = h.from;
   to = h.to;
   sent = IsListing-same SentBefore (IsSent set t 0 k) (IsSent set p 0 k) s.sent (sent t p k a set) (sent p t k (back t p k a) set) h.sent;
-  taken = IsListing-same TakenBefore (IsTake set t 0 k) (IsTake set p 0 k) s.taken (λ x g. absurd (no_take t sound set k x g)) (λ x g. absurd (no_take p is set k x g)) h.taken;
-  last = record { long = h.last.long; members = λ q m. last_receive t p k a q 0 (k + 1) (last_of s.last q) (omega arith) (h.last.members q m); others = h.last.others };
-  silent = IsListing-same EndsBefore (IsLongest set t 0 k) (IsLongest set p 0 k) s.silent (longest t p k a high set) (longest p t k (back t p k a) low set) h.silent;
+  taken = IsListing-same TakenBefore (IsTake set t 0 k)
+      (IsTake set p 0 k) s.taken (λ x g. absurd (no_take t sound set k x g)) (λ x g. absurd (no_take p is set k x g)) h.taken;
+  last = record {
+    long = h.last.long;
+    members = λ q m.
+        last_receive t p k a q 0 (k + 1) (last_of s.last q) (omega arith) (h.last.members q m);
+    others = h.last.others;
+  };
+  silent = IsListing-same EndsBefore (IsLongest set t 0 k)
+      (IsLongest set p 0 k) s.silent (longest t p k a high set) (longest p t k (back t p k a) low set) h.silent;
 }
 
 -- A trace that goes on shares the ticks before its further steps.
 
-ShareTicks-extended : (t seen : Recorded) (k : ℕ) → Extends t seen → IsTimed seen → ((s : ℕ) (x : Step) → length seen.steps < s → step_at t.steps s ≡ Some x → k < tick_of t s) → ShareTicks seen t k
+ShareTicks-extended : (t seen : Recorded) (k : ℕ) → Extends t seen
+    → IsTimed seen → ((s : ℕ) (x : Step) → length seen.steps < s → step_at t.steps s ≡ Some x → k < tick_of t s) → ShareTicks seen t k
 ShareTicks-extended t seen k e time later = record {
   forth = λ s x h l. kept s x h;
   back = λ s x h l. elim (cases_lt (length seen.steps) s) [
@@ -149,13 +161,14 @@ ShareTicks-extended t seen k e time later = record {
       (step_kept t.steps seen.steps e.steps s inside ∙ h, tick_kept t.ticks seen.ticks e.ticks s (omega (arith, inside, time.each)))
 
 -- the summary up to tick k is that of the trace cut there
-pub IsSummary-cut : (set : ℕ) (t cut : Recorded) (k : ℕ) (s : Summary) → IsTrace t → IsTrace cut → IsCutAt t k cut → k ≤ t.last → IsSummary set t 0 k s → IsSummary set cut 0 cut.last s
-IsSummary-cut set t cut k s sound is at low h =
-    subst (λ n. IsSummary set cut 0 n s) (sym at.last)
-    (IsSummary-shared t cut k (back cut t k (ShareTicks-extended t cut k at.extends is.time at.after)) sound is low (omega (arith, at.last)) set s h)
+pub IsSummary-cut : (set : ℕ) (t cut : Recorded) (k : ℕ) (s : Summary)
+    → IsTrace t → IsTrace cut → IsCutAt t k cut → k ≤ t.last → IsSummary set t 0 k s → IsSummary set cut 0 cut.last s
+IsSummary-cut set t cut k s sound is at low h = subst (λ n. IsSummary set cut 0 n s) (sym at.last) (IsSummary-shared t cut k
+    (back cut t k (ShareTicks-extended t cut k at.extends is.time at.after)) sound is low (omega (arith, at.last)) set s h)
 
 -- and so is the digest
-pub IsDigestUpTo-cut : (set : ℕ) (t cut : Recorded) (k : ℕ) (digest : Option Summary) → IsTrace t → IsTrace cut → IsCutAt t k cut → IsDigestUpTo set t k digest → IsDigestUpTo set cut cut.last digest
+pub IsDigestUpTo-cut : (set : ℕ) (t cut : Recorded) (k : ℕ) (digest : Option Summary)
+    → IsTrace t → IsTrace cut → IsCutAt t k cut → IsDigestUpTo set t k digest → IsDigestUpTo set cut cut.last digest
 IsDigestUpTo-cut set t cut k None sound is at h = λ w. h sound ∙ sym at.last
 IsDigestUpTo-cut set t cut k (Some d) sound is at h = λ w. (
     let own = h sound in
@@ -166,7 +179,8 @@ pub IsDigestUpTo-extended : (set : ℕ) (t seen : Recorded) (k : ℕ) (digest : 
     → Extends t seen → k ≤ seen.last - 1 → IsDigestUpTo set seen k digest → IsDigestUpTo set t k digest
 IsDigestUpTo-extended set t seen k None w e l h = λ sound. h w
 IsDigestUpTo-extended set t seen k (Some d) w e l h = λ sound. extended sound (h w) where
-  extended : (sound : IsTrace t) → IsDigestOf (record { set = set; trace = seen; sound = w }) 0 k (Some d) → IsDigestOf (record { set = set; trace = t; sound = sound }) 0 k (Some d)
+  extended : (sound : IsTrace t) → IsDigestOf (record { set = set; trace = seen; sound = w }) 0 k (Some d)
+      → IsDigestOf (record { set = set; trace = t; sound = sound }) 0 k (Some d)
   extended sound (some, high, (s, is, same)) =
       let inside : k ≤ t.last = omega (arith, e.last, high) in
       let shared = ShareTicks-extended t seen k e w.time (λ n x past at. omega (arith, e.later n x past at, some, l)) in
@@ -214,11 +228,13 @@ pub closed-passed : {A E : Type 0} (set : ℕ) (seen new : Recorded) (k tick : �
     (r : Result A E) → IsTrace seen → OnOk r (new ≡ with_last seen tick)
     → OnOk r ((seen.last ≤ tick) × (tick ≤ MAX_TICKS)) → OnErr r (new ≡ seen) → k ≤ seen.last - 1
     → IsDigestUpTo set seen k digest → (k ≤ new.last - 1) × IsDigestUpTo set new k digest
-closed-passed set seen new k tick digest (Ok a) w passed ok err l h = rw passed (closed_by set (with_last seen tick) seen k digest w (Extends-with_last seen tick ok.0) l h)
+closed-passed set seen new k tick digest (Ok a) w passed ok err l h =
+    rw passed (closed_by set (with_last seen tick) seen k digest w (Extends-with_last seen tick ok.0) l h)
 closed-passed set seen new k tick digest (Err e) w passed ok err l h = rw err (l, h)
 
 -- the digests of ticks and of those that follow make one
 pub IsDigestUpTo-joined : (set : ℕ) (t : Recorded) (k l : ℕ) (left right : Option Summary) → IsDigestUpTo set t k left
     → ((sound : IsTrace t) → IsDigestOf (record { set = set; trace = t; sound = sound }) k l right)
     → IsDigestUpTo set t l (joined_digests left right)
-IsDigestUpTo-joined set t k l left right h more = λ sound. digests_join.part (record { set = set; trace = t; sound = sound }) 0 k l left right (h sound) (more sound)
+IsDigestUpTo-joined set t k l left right h more = λ sound.
+    digests_join.part (record { set = set; trace = t; sound = sound }) 0 k l left right (h sound) (more sound)

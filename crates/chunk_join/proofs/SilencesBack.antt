@@ -21,7 +21,8 @@ use Rattle.chunk_join.proofs.MessagesBack.{slice-Contains, Rises-slices, last_at
 -- For any silence, the level with it may come before the one without.
 
 StandsBefore-with_gap : (level : Level) (p g until : ℕ) → StandsBefore (with_gap level p g until) level
-StandsBefore-with_gap level p g until = record { delta = grind arith; phi = grind arith; miss = λ same. grind arith; gap = λ same. grind (arith, same) }
+StandsBefore-with_gap level p g until =
+    record { delta = grind arith; phi = grind arith; miss = λ same. grind arith; gap = λ same. grind (arith, same) }
 
 pub StandsBefore-with_silence : (level : Level) (g : ℕ) (o : Option Gap) → StandsBefore (with_silence level g o) level
 StandsBefore-with_silence level g None = StandsBefore-itself level
@@ -87,7 +88,8 @@ record IsTopped (w u : Gap) : Type 0 where
 
 -- what covers a silence ends no earlier, and at one end is of no greater processor
 ends_later : (v w : Gap) → (v ≡ w) ⊎ EndsBefore v w → (v.to ≤ w.to) × (v.to ≡ w.to → w.proc ≤ v.proc)
-ends_later v w (inl same) = let p = ap (λ (x : Gap). x.to) same in let q = ap (λ (x : Gap). x.proc) same in (omega (arith, p), λ e. omega (arith, q))
+ends_later v w (inl same) = let p = ap (λ (x : Gap). x.to) same in
+    let q = ap (λ (x : Gap). x.proc) same in (omega (arith, p), λ e. omega (arith, q))
 ends_later v w (inr (inl l)) = (omega (arith, l), λ e. absurd (omega (arith, e, l)))
 ends_later v w (inr (inr e)) = (omega (arith, e.0), λ f. omega (arith, e.1))
 
@@ -127,13 +129,19 @@ topped set t s a n g f o long later known u gap from = elim (cases_lt g c.by.fro
           | inr inside ↦ elim (cases_lt at.0 n) [
             | inl below ↦ elim (Rises-slices EndsBefore s.silent at.0 n c.by _ a.silent_rising at.1 own below) [
               | inl e ↦ record { until = omega (arith, e, to, until); proc = λ same. absurd (omega (arith, e, to, until, same)) }
-              | inr e ↦ (record { until = omega (arith, e.0, to, until); proc = λ f. (let p = tie (omega (arith, f, e.0, to, until)) in omega (arith, e.1, proc, p)) })
+              | inr e ↦ (record {
+                until = omega (arith, e.0, to, until);
+                proc = λ f. (let p = tie (omega (arith, f, e.0, to, until)) in omega (arith, e.1, proc, p));
+              })
             ]
             | inr above ↦ (let e : at.0 ≡ n = omega (arith, above, inside) in
                 let same = same_Some _ _ (sym at.1 ∙ ap (slice_get s.silent) e ∙ own) in
                 let p = ap (λ (x : Gap). x.proc) same in
                 let q = ap (λ (x : Gap). x.to) same in
-                record { until = omega (arith, q, to, until); proc = λ f. (let r = tie (omega (arith, f, q, to, until)) in omega (arith, p, proc, r)) })
+                record {
+                  until = omega (arith, q, to, until);
+                  proc = λ f. (let r = tie (omega (arith, f, q, to, until)) in omega (arith, p, proc, r));
+                })
           ]
         ],
       )
@@ -182,11 +190,13 @@ IsLongestOver-none set t s a n g f o long later known top = record {
 }
 
 -- One tick back the level takes that gap.
-pub GapsLowered-with_silence : (set : ℕ) (t : Recorded) (s : Summary) → Suffices set t s → (n g : ℕ) (level : Level) → 1 ≤ g → 1 ≤ level.phi → n ≤ length s.silent → BeginAfter s.silent g n
-    → ((w : Gap) → last_at s.silent n ≡ Some w → w.from ≤ g) → KnowsGaps set t (g + 1) level.phi level.gap → GapsLowered set t g level (with_silence level g (last_at s.silent n))
+pub GapsLowered-with_silence : (set : ℕ) (t : Recorded) (s : Summary) → Suffices set t s → (n g : ℕ) (level : Level)
+    → 1 ≤ g → 1 ≤ level.phi → n ≤ length s.silent → BeginAfter s.silent g n → ((w : Gap) → last_at s.silent n ≡ Some w → w.from ≤ g)
+    → KnowsGaps set t (g + 1) level.phi level.gap → GapsLowered set t g level (with_silence level g (last_at s.silent n))
 GapsLowered-with_silence set t s a n g level start positive long later begun known = go (last_at s.silent n) refl where
   go : (o : Option Gap) → last_at s.silent n ≡ o → GapsLowered set t g level (with_silence level g o)
   go None e = subst (λ (l : Level). GapsLowered set t g level l) (with_gap-none level 0 g positive)
       (GapsLowered-with_over set t g 0 g level
       (IsLongestOver-none set t s a n g level.phi level.gap long later known e) known)
-  go (Some w) e = GapsLowered-with_over set t g w.proc (w.to + 1) level (IsLongestOver-top set t s a n g level.phi level.gap w start long later known e (begun w e)) known
+  go (Some w) e = GapsLowered-with_over set t g w.proc
+      (w.to + 1) level (IsLongestOver-top set t s a n g level.phi level.gap w start long later known e (begun w e)) known

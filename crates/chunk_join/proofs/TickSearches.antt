@@ -37,6 +37,7 @@ steps_inside t x a b k o l h =
 
 pub steps_order : (t : Recorded) (x a b : ℕ) → AreStepsOf t x a b → a ≤ b
 steps_order t x a b o = elim (cases_lt b a) [
-  | inl l ↦ absurd (let within = o.first.within in let below = o.first.before a (omega (arith, l)) (omega arith) in omega (arith, o.next.rest a l within, below))
+  | inl l ↦ absurd (let within = o.first.within in
+      let below = o.first.before a (omega (arith, l)) (omega arith) in omega (arith, o.next.rest a l within, below))
   | inr n ↦ n
 ]

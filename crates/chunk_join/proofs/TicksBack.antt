@@ -54,8 +54,8 @@ pub record IsTickBack (part : Summary) (g messages silences : ℕ) (new : Level)
   pub falling : CanStandBefore new levels
   pub known : IsGoneOver part g messages silences new (new ∷ levels)
 
-pub IsTickBack-read : (part : Summary) (g m s n o : ℕ) (old mid : Level) (levels : List Level) → IsGoneOver part (g + 1) m s old levels → IsTickRead part g n o old mid
-    → IsTickBack part g n o (with_silence mid g (last_at part.silent o)) levels
+pub IsTickBack-read : (part : Summary) (g m s n o : ℕ) (old mid : Level) (levels : List Level) → IsGoneOver part (g + 1) m s old levels
+    → IsTickRead part g n o old mid → IsTickBack part g n o (with_silence mid g (last_at part.silent o)) levels
 IsTickBack-read part g m s n o old mid levels known read = record {
   falling = CanStandBefore-through new old levels falling known.falling;
   known = record {
@@ -73,7 +73,8 @@ IsTickBack-read part g m s n o old mid levels known read = record {
           let d = l.delta in
           let w = l.miss in
           AreLevelsFrom-before set t g new levels
-          (IsLevelAt-from_known set t g new read.start (rw (d, w) (KnowsMisses-from_left part g n mid read.messages_within read.sent read.earlier read.misses set t sound a)) l.gaps)
+          (IsLevelAt-from_known set t g new read.start
+          (rw (d, w) (KnowsMisses-from_left part g n mid read.messages_within read.sent read.earlier read.misses set t sound a)) l.gaps)
           (known.ticks.each set t sound a));
     };
   };
@@ -89,11 +90,13 @@ IsTickBack-read part g m s n o old mid levels known read = record {
 
   lowered : (set : ℕ) (t : Recorded) → IsTrace t → Suffices set t part → GapsLowered set t g mid new
   lowered set t sound a =
-      let gaps : KnowsGaps set t (g + 1) mid.phi mid.gap = (let p = read.phi in let q = read.gap in rw (p, q) (known.ticks.gaps set t sound a)) in
+      let gaps : KnowsGaps set t (g + 1) mid.phi mid.gap =
+      (let p = read.phi in let q = read.gap in rw (p, q) (known.ticks.gaps set t sound a)) in
       GapsLowered-with_silence set t part a o g mid read.start positive read.silences_within read.silent read.begun gaps
 
 -- a silence that gives no longer gap leaves the level unchanged
-with_silence-short : (level : Level) (g : ℕ) (o : Option Gap) → 1 ≤ level.phi → ((w : Gap) → o ≡ Some w → w.to + 1 < g + level.phi) → with_silence level g o ≡ level
+with_silence-short : (level : Level) (g : ℕ) (o : Option Gap)
+    → 1 ≤ level.phi → ((w : Gap) → o ≡ Some w → w.to + 1 < g + level.phi) → with_silence level g o ≡ level
 with_silence-short level g None positive h = refl
 with_silence-short level g (Some w) positive h = let short = h w refl in grind (arith, short, positive)
 
@@ -124,8 +127,10 @@ pub IsGoneOver-repeated : (part : Summary) (k low m s : ℕ) (level : Level) (le
     → IsGoneOver part (low + k) m s level (level ∷ levels) → IsQuietFrom part low m s level.phi
     → IsGoneOver part low m s level (repeated k (level ∷ levels))
 IsGoneOver-repeated part k low m s level levels known quiet = down k low (omega arith) known where
-  down : (n x : ℕ) → low ≤ x → IsGoneOver part (x + n) m s level (level ∷ levels) → IsGoneOver part x m s level (replicate n level ++ level ∷ levels)
+  down : (n x : ℕ) → low ≤ x → IsGoneOver part (x + n) m s level (level ∷ levels)
+      → IsGoneOver part x m s level (replicate n level ++ level ∷ levels)
   down zero x above here = let same : x + 0 ≡ x = omega arith in rw same at here
   down (suc n) x above here =
       let next : x + suc n ≡ x + 1 + n = omega arith in
-      IsGoneOver-quiet part x low m s level (replicate n level ++ level ∷ levels) above (down n (x + 1) (omega (arith, above)) (rw next at here)) quiet
+      IsGoneOver-quiet part x low m s level (replicate n level ++ level ∷ levels) above
+      (down n (x + 1) (omega (arith, above)) (rw next at here)) quiet

@@ -10,7 +10,8 @@ use Rattle.chunk_join.specs.Digests.{is_open, miss_long, reaches_edge, gap_long,
 use Rattle.chunk_join.specs.Laws.Thinned.{Contains-from_thinned, Rises-thinned, kept_or_needless}
 use Rattle.chunk_join.specs.Laws.PiecesJoined.{sent_strict, ends_strict}
 
-module _ {X : Type 0} (Before : X → X → Type 0) (strict : (x y : X) → Before x y → Before y x → ⊥) (pending : X → Bool) (weight : X → ℕ) where
+module _ {X : Type 0} (Before : X → X → Type 0) (strict : (x y : X) → Before x y → Before y x → ⊥)
+    (pending : X → Bool) (weight : X → ℕ) where
   abbrev Undominated : (X → Type 0) → X → Type 0
   Undominated = IsUndominated Before pending weight
 
@@ -64,7 +65,8 @@ module _ {X : Type 0} (Before : X → X → Type 0) (strict : (x y : X) → Befo
       );
     }
 
-    go : (Contains (kept zs) x → Heavy (z ∷ zs) x) → (b : Bool) → stays pending weight (top zs) z ≡ b → Contains (cond b (z ∷ kept zs) (kept zs)) x → Heavy (z ∷ zs) x
+    go : (Contains (kept zs) x → Heavy (z ∷ zs) x)
+        → (b : Bool) → stays pending weight (top zs) z ≡ b → Contains (cond b (z ∷ kept zs) (kept zs)) x → Heavy (z ∷ zs) x
     go later false e k = later k
     go later true e k = elim (Contains-cons_cases z x (kept zs) k) [
       | inl same ↦ subst (Heavy (z ∷ zs)) same (first (pending z) refl e)
@@ -85,7 +87,8 @@ module _ {X : Type 0} (Before : X → X → Type 0) (strict : (x y : X) → Befo
         | inl e ↦ absurd (true≢false (sym e ∙ n.settled))
         | inr h ↦ elim n.covered [
           | inl none ↦ absurd (omega (arith, none, h.0))
-          | inr c ↦ absurd (let l = h.1 c.by (all.sound c.by (Contains-from_thinned pending weight xs c.by c.listed)) c.later c.settled in omega (arith, c.as_heavy, l))
+          | inr c ↦ absurd (let l = h.1 c.by (all.sound c.by (Contains-from_thinned pending weight xs c.by c.listed)) c.later c.settled in
+              omega (arith, c.as_heavy, l))
         ]
       ]
     ];
@@ -94,10 +97,13 @@ module _ {X : Type 0} (Before : X → X → Type 0) (strict : (x y : X) → Befo
 digest_keeps : (set : ℕ) (t : Recorded) (i j : ℕ) (s : Summary) → IsSummary set t i j s → HasUndominated set t i j (digest s)
 digest_keeps set t i j s a = record {
   sent = thinned_listing SentBefore sent_strict is_open miss_long (IsSent set t i j) s.sent a.sent;
-  silent = rw (← a.from, ← a.to) (thinned_listing EndsBefore ends_strict (reaches_edge s.from s.to) gap_long (IsLongest set t i s.to) s.silent (rw a.to a.silent));
+  silent = rw (← a.from, ← a.to)
+      (thinned_listing EndsBefore ends_strict (reaches_edge s.from s.to) gap_long (IsLongest set t i s.to) s.silent (rw a.to a.silent));
 }
 
 -- so a digest keeps them
-pub IsDigestOf-keeps : (whole : Whole) (i j : ℕ) (d : Option Summary) → IsDigestOf whole i j d → KeepsUndominated whole.set whole.trace i j d
+pub IsDigestOf-keeps : (whole : Whole) (i j : ℕ) (d : Option Summary)
+    → IsDigestOf whole i j d → KeepsUndominated whole.set whole.trace i j d
 IsDigestOf-keeps whole i j None h = h
-IsDigestOf-keeps whole i j (Some d) (low, high, (s, is, e)) = subst (HasUndominated whole.set whole.trace i j) (sym e) (digest_keeps whole.set whole.trace i j s is)
+IsDigestOf-keeps whole i j (Some d) (low, high, (s, is, e)) =
+    subst (HasUndominated whole.set whole.trace i j) (sym e) (digest_keeps whole.set whole.trace i j s is)

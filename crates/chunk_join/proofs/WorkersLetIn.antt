@@ -27,7 +27,8 @@ pub on_ok : {X E : Type 0} (r : Result X E) (P Q : Type 0) → (P → Q) → OnO
 on_ok (Ok x) P Q h p = h p
 on_ok (Err e) P Q h p = tt
 
-pub on_held : {X : Type 0} (r : Result X Stop) (P Q : Type 0) → (P → Q) → IfErr r (λ stop. stop ≡ stopped.Held → P) → IfErr r (λ stop. stop ≡ stopped.Held → Q)
+pub on_held : {X : Type 0} (r : Result X Stop) (P Q : Type 0)
+    → (P → Q) → IfErr r (λ stop. stop ≡ stopped.Held → P) → IfErr r (λ stop. stop ≡ stopped.Held → Q)
 on_held (Ok x) P Q h p = tt
 on_held (Err e) P Q h p = λ is. h (p is)
 
@@ -41,8 +42,8 @@ unstarted_held others stop P cause held is = elim cause [
 
 module _ {T G : Type 0} (lets : G → ℕ → Bool → Type 0) where
   -- these are the threads of the first workers, one of which was held back
-  pub one_held : (set : ℕ) (trace : Recorded) (gate : G) (workers : ℕ) (threads : List (PromisedHandle T (DigestOf G))) → length threads ≤ workers → ArePromised set trace gate workers threads
-      → IsOneHeld lets threads → IsHeldBack (lets gate) workers
+  pub one_held : (set : ℕ) (trace : Recorded) (gate : G) (workers : ℕ) (threads : List (PromisedHandle T (DigestOf G)))
+      → length threads ≤ workers → ArePromised set trace gate workers threads → IsOneHeld lets threads → IsHeldBack (lets gate) workers
   one_held set trace gate workers threads few are h =
       let promised = are h.place h.thread h.at in
       let within = slice_get_within threads h.place h.thread h.at in
@@ -50,19 +51,21 @@ module _ {T G : Type 0} (lets : G → ℕ → Bool → Type 0) where
         worker = h.place + 1;
         low = omega arith;
         high = omega (arith, within, few);
-        held = subst (λ w. lets gate w false) promised.worker_is (subst (λ x. lets x h.thread.promise.worker false) promised.gate_is h.held);
+        held = subst (λ w. lets gate w false) promised.worker_is
+            (subst (λ x. lets x h.thread.promise.worker false) promised.gate_is h.held);
       }
 
   -- the worker of the thread at a place
-  own_in : (set : ℕ) (trace : Recorded) (gate : G) (workers : ℕ) (threads : List (PromisedHandle T (DigestOf G))) → ArePromised set trace gate workers threads → AreAnswered lets threads
+  own_in : (set : ℕ) (trace : Recorded) (gate : G) (workers : ℕ) (threads : List (PromisedHandle T (DigestOf G)))
+      → ArePromised set trace gate workers threads → AreAnswered lets threads
       → (k : ℕ) (thread : PromisedHandle T (DigestOf G)) → slice_get threads k ≡ Some thread → lets gate (k + 1) true
   own_in set trace gate workers threads are each k thread is =
       let promised = are k thread is in
       subst (λ w. lets gate w true) promised.worker_is (subst (λ x. lets x thread.promise.worker true) promised.gate_is (each k thread is))
 
   -- these are the threads of all workers, each of which was let in
-  pub all_in : (set : ℕ) (trace : Recorded) (gate : G) (workers : ℕ) (threads : List (PromisedHandle T (DigestOf G))) → length threads ≡ workers → ArePromised set trace gate workers threads
-      → AreAnswered lets threads → AreLetIn (lets gate) workers
+  pub all_in : (set : ℕ) (trace : Recorded) (gate : G) (workers : ℕ) (threads : List (PromisedHandle T (DigestOf G)))
+      → length threads ≡ workers → ArePromised set trace gate workers threads → AreAnswered lets threads → AreLetIn (lets gate) workers
   all_in set trace gate workers threads count are each = λ w low high. (
       let within : w - 1 < length threads = omega (arith, low, high, count) in
       let found = some_at threads (w - 1) within in
@@ -70,7 +73,8 @@ module _ {T G : Type 0} (lets : G → ℕ → Bool → Type 0) where
       subst (λ n. lets gate n true) e (own_in set trace gate workers threads are each (w - 1) found.0 found.1))
 
   -- all before were let in, one more too
-  one_more_in : (threads : List (PromisedHandle T (DigestOf G))) (done : ℕ) (thread : PromisedHandle T (DigestOf G)) → slice_get threads done ≡ Some thread → IsAnswered lets thread true
+  one_more_in : (threads : List (PromisedHandle T (DigestOf G))) (done : ℕ) (thread : PromisedHandle T (DigestOf G))
+      → slice_get threads done ≡ Some thread → IsAnswered lets thread true
       → ((k : ℕ) → k < done → (other : PromisedHandle T (DigestOf G)) → slice_get threads k ≡ Some other → IsAnswered lets other true)
       → (k : ℕ) → k < done + 1 → (other : PromisedHandle T (DigestOf G)) → slice_get threads k ≡ Some other → IsAnswered lets other true
   one_more_in threads done thread at own before =
@@ -79,11 +83,13 @@ module _ {T G : Type 0} (lets : G → ℕ → Bool → Type 0) where
 
   module _ {X : Type 0} where
     -- Some of these threads were joined, and the rest are left: what the gate may have answered their workers.
-    pub record AreHeard (threads : List (PromisedHandle T (DigestOf G))) (all : Result X Stop) (rest : List (PromisedHandle T (DigestOf G))) : Type 0 where
+    pub record AreHeard (threads : List (PromisedHandle T (DigestOf G)))
+        (all : Result X Stop) (rest : List (PromisedHandle T (DigestOf G))) : Type 0 where
       pub done : ℕ
       pub count : done + length rest ≡ length threads
       pub left : (k : ℕ) → slice_get rest k ≡ slice_get threads (done + k)
-      pub entered : OnOk all ((k : ℕ) → k < done → (thread : PromisedHandle T (DigestOf G)) → slice_get threads k ≡ Some thread → IsAnswered lets thread true)
+      pub entered : OnOk all ((k : ℕ) → k < done → (thread : PromisedHandle T (DigestOf G))
+          → slice_get threads k ≡ Some thread → IsAnswered lets thread true)
       pub held : IfErr all (λ stop. stop ≡ stopped.Held → IsOneHeld lets threads)
 
     pub AreHeard-none : (threads : List (PromisedHandle T (DigestOf G))) (unit : X) → AreHeard threads (Ok unit) threads
@@ -96,39 +102,50 @@ module _ {T G : Type 0} (lets : G → ℕ → Bool → Type 0) where
     }
 
     -- the next thread, at its place
-    next_at : (threads : List (PromisedHandle T (DigestOf G))) (all : Result X Stop) (thread : PromisedHandle T (DigestOf G)) (rest : List (PromisedHandle T (DigestOf G)))
-        → (was : AreHeard threads all (thread ∷ rest)) → slice_get threads was.done ≡ Some thread
+    next_at : (threads : List (PromisedHandle T (DigestOf G))) (all : Result X Stop) (thread : PromisedHandle T (DigestOf G)) (rest : List
+        (PromisedHandle T (DigestOf G))) → (was : AreHeard threads all (thread ∷ rest)) → slice_get threads was.done ≡ Some thread
     next_at threads all thread rest was =
         let e : was.done + 0 ≡ was.done = omega arith in
         ap (slice_get threads) (sym e) ∙ sym (was.left 0)
 
-    more_in : (threads : List (PromisedHandle T (DigestOf G))) (all right more : Result X Stop) (thread : PromisedHandle T (DigestOf G)) (rest : List (PromisedHandle T (DigestOf G)))
-        → (was : AreHeard threads all (thread ∷ rest)) → IsAnswered lets thread (was_let_in right) → OnOk more (IsOk all × IsOk right)
-        → OnOk more ((k : ℕ) → k < was.done + 1 → (other : PromisedHandle T (DigestOf G)) → slice_get threads k ≡ Some other → IsAnswered lets other true)
-    more_in threads (Ok a) (Ok b) (Ok m) thread rest was kept ok = one_more_in threads was.done thread (next_at threads (Ok a) thread rest was) kept was.entered
+    more_in : (threads : List (PromisedHandle T (DigestOf G))) (all right more : Result X Stop) (thread : PromisedHandle T (DigestOf G))
+        (rest : List (PromisedHandle T (DigestOf G))) → (was : AreHeard threads all (thread ∷ rest))
+        → IsAnswered lets thread (was_let_in right) → OnOk more (IsOk all × IsOk right) → OnOk more ((k : ℕ)
+        → k < was.done + 1 → (other : PromisedHandle T (DigestOf G)) → slice_get threads k ≡ Some other → IsAnswered lets other true)
+    more_in threads (Ok a) (Ok b) (Ok m) thread rest was kept ok =
+        one_more_in threads was.done thread (next_at threads (Ok a) thread rest was) kept was.entered
     more_in threads (Ok a) (Err b) (Ok m) thread rest was kept ok = let no : false ≡ true = ok.1 in cc
     more_in threads (Err a) right (Ok m) thread rest was kept ok = let no : false ≡ true = ok.0 in cc
     more_in threads all right (Err e) thread rest was kept ok = tt
 
-    more_held : (threads : List (PromisedHandle T (DigestOf G))) (all right more : Result X Stop) (thread : PromisedHandle T (DigestOf G)) (rest : List (PromisedHandle T (DigestOf G)))
-        → AreHeard threads all (thread ∷ rest) → IsAnswered lets thread (was_let_in right)
-        → IfErr more (λ stop. (all ≡ Err stop) ⊎ (right ≡ Err stop) ⊎ (stop ≡ stopped.Memory)) → IfErr more (λ stop. stop ≡ stopped.Held → IsOneHeld lets threads)
+    more_held : (threads : List (PromisedHandle T (DigestOf G))) (all right more : Result X Stop) (thread : PromisedHandle T (DigestOf G))
+        (rest : List (PromisedHandle T (DigestOf G))) → AreHeard threads all (thread ∷ rest) → IsAnswered lets thread (was_let_in right)
+        → IfErr more (λ stop. (all ≡ Err stop) ⊎ (right ≡ Err stop) ⊎ (stop ≡ stopped.Memory))
+        → IfErr more (λ stop. stop ≡ stopped.Held → IsOneHeld lets threads)
     more_held threads all right (Ok m) thread rest was kept cause = tt
     more_held threads all right (Err stop) thread rest was kept cause = λ is. elim cause [
-      | inl one ↦ (let before : stop ≡ stopped.Held → IsOneHeld lets threads = subst (λ x. IfErr x (λ s. s ≡ stopped.Held → IsOneHeld lets threads)) one was.held in before is)
+      | inl one ↦ (let before : stop ≡ stopped.Held
+          → IsOneHeld lets threads = subst (λ x. IfErr x (λ s. s ≡ stopped.Held → IsOneHeld lets threads)) one was.held in before is)
       | inr others ↦ elim others [
-        | inl other ↦ record { place = was.done; thread = thread; at = next_at threads all thread rest was; held = subst (λ x. IsAnswered lets thread (was_let_in x)) (other ∙ ap Err is) kept }
+        | inl other ↦ record {
+          place = was.done;
+          thread = thread;
+          at = next_at threads all thread rest was;
+          held = subst (λ x. IsAnswered lets thread (was_let_in x)) (other ∙ ap Err is) kept;
+        }
         | inr memory ↦ absurd (held_is_no_memory (sym is ∙ memory))
       ]
     ]
 
-    pub AreHeard-more : (threads : List (PromisedHandle T (DigestOf G))) (all right more : Result X Stop) (thread : PromisedHandle T (DigestOf G)) (rest : List (PromisedHandle T (DigestOf G)))
+    pub AreHeard-more : (threads : List (PromisedHandle T (DigestOf G)))
+        (all right more : Result X Stop) (thread : PromisedHandle T (DigestOf G)) (rest : List (PromisedHandle T (DigestOf G)))
         → AreHeard threads all (thread ∷ rest) → IsAnswered lets thread (was_let_in right) → OnOk more (IsOk all × IsOk right)
         → IfErr more (λ stop. (all ≡ Err stop) ⊎ (right ≡ Err stop) ⊎ (stop ≡ stopped.Memory)) → AreHeard threads more rest
     AreHeard-more threads all right more thread rest was kept ok cause = record {
       done = was.done + 1;
       count = let c : was.done + suc (length rest) ≡ length threads = was.count in omega (arith, c);
-      left = λ k. (let l : slice_get rest k ≡ slice_get threads (was.done + suc k) = was.left (suc k) in let e : was.done + suc k ≡ was.done + 1 + k = omega arith in l ∙ ap (slice_get threads) e);
+      left = λ k. (let l : slice_get rest k ≡ slice_get threads (was.done + suc k) = was.left (suc k) in
+          let e : was.done + suc k ≡ was.done + 1 + k = omega arith in l ∙ ap (slice_get threads) e);
       entered = more_in threads all right more thread rest was kept ok;
       held = more_held threads all right more thread rest was kept cause;
     }

@@ -16,8 +16,11 @@ lead-more events from to (g ∷ hops) hop l h = (l.0, lead-more events (clock_at
 pub lead-next : (events : List Event) (from to at : ℕ) (hops items : List ClockHop) (hop : ClockHop)
     → LeadFrom events from hops to → IsClockHop events to hop → items ≡ hops ++ hop ∷ []
     → at ≡ clock_at events hop.event → LeadFrom events from items at
-lead-next events from to at hops items hop l h e f = subst (λ xs. LeadFrom events from xs at) (sym e) (subst (LeadFrom events from (hops ++ hop ∷ [])) (sym f) (lead-more events from to hops hop l h))
+lead-next events from to at hops items hop l h e f = subst (λ xs. LeadFrom events from xs at)
+    (sym e) (subst (LeadFrom events from (hops ++ hop ∷ [])) (sym f) (lead-more events from to hops hop l h))
 
 -- and they take as much longer together
-pub took-next : (total sum : ℤ) (hops items : List ClockHop) (hop : ClockHop) → total ≡ took_together hops → sum ≡ total +ℤ hop.took → items ≡ hops ++ hop ∷ [] → sum ≡ took_together items
-took-next total sum hops items hop t s e = s ∙ ap (λ x. x +ℤ hop.took) t ∙ sym (ap took_together e ∙ fold-append (λ x (h : ClockHop). x +ℤ h.took) (pos 0) hops (hop ∷ []))
+pub took-next : (total sum : ℤ) (hops items : List ClockHop) (hop : ClockHop)
+    → total ≡ took_together hops → sum ≡ total +ℤ hop.took → items ≡ hops ++ hop ∷ [] → sum ≡ took_together items
+took-next total sum hops items hop t s e = s ∙ ap (λ x. x +ℤ hop.took) t
+    ∙ sym (ap took_together e ∙ fold-append (λ x (h : ClockHop). x +ℤ h.took) (pos 0) hops (hop ∷ []))

@@ -92,23 +92,26 @@ module _ (needs : Needs) (k : ℕ) (diag : (a : ℤ) → through needs k k k ≡
       reaches-less (new i j) (a +ℤ b) (p.0 +ℤ q.0) (let u = p.2 in let v = q.2 in omega (arith, ints)) (by-way i j p.0 q.0 p.1 q.1)
 
   triangle-before : (m : ℕ) → IsTriangle old m → IsTriangle new m
-  triangle-before m t i j a b e f = go (greater-either (old i m) (plus (old i k) (old k m)) a e) (greater-either (old m j) (plus (old m k) (old k j)) b f) where
-    go : (old i m ≡ Some a) ⊎ (plus (old i k) (old k m) ≡ Some a) → (old m j ≡ Some b) ⊎ (plus (old m k) (old k j) ≡ Some b) → Reaches (new i j) (a +ℤ b)
-    go (inl x) (inl y) = stays i j (a +ℤ b) (t i j a b x y)
-    go (inl x) (inr y) =
-        let q = plus-parts (old m k) (old k j) b y in
-        let c = t i k a q.0 x q.2 in
-        reaches-less (new i j) (a +ℤ b) (c.0 +ℤ q.1) (let u = c.2 in let s = q.4 in omega (arith, ints)) (by-way i j c.0 q.1 c.1 q.3)
-    go (inr x) (inl y) =
-        let p = plus-parts (old i k) (old k m) a x in
-        let c = t k j p.1 b p.3 y in
-        reaches-less (new i j) (a +ℤ b) (p.0 +ℤ c.0) (let u = c.2 in let s = p.4 in omega (arith, ints)) (by-way i j p.0 c.0 p.2 c.1)
-    go (inr x) (inr y) =
-        let p = plus-parts (old i k) (old k m) a x in
-        let q = plus-parts (old m k) (old k j) b y in
-        let c = t k k p.1 q.0 p.3 q.2 in
-        let n = diag c.0 c.1 in
-        reaches-less (new i j) (a +ℤ b) (p.0 +ℤ q.1) (let u = c.2 in let s = p.4 in let r = q.4 in omega (arith, ints)) (by-way i j p.0 q.1 p.2 q.3)
+  triangle-before m t i j a b e f = go (greater-either (old i m) (plus (old i k) (old k m)) a e)
+      (greater-either (old m j) (plus (old m k) (old k j)) b f) where
+        go : (old i m ≡ Some a) ⊎ (plus (old i k) (old k m) ≡ Some a)
+            → (old m j ≡ Some b) ⊎ (plus (old m k) (old k j) ≡ Some b) → Reaches (new i j) (a +ℤ b)
+        go (inl x) (inl y) = stays i j (a +ℤ b) (t i j a b x y)
+        go (inl x) (inr y) =
+            let q = plus-parts (old m k) (old k j) b y in
+            let c = t i k a q.0 x q.2 in
+            reaches-less (new i j) (a +ℤ b) (c.0 +ℤ q.1) (let u = c.2 in let s = q.4 in omega (arith, ints)) (by-way i j c.0 q.1 c.1 q.3)
+        go (inr x) (inl y) =
+            let p = plus-parts (old i k) (old k m) a x in
+            let c = t k j p.1 b p.3 y in
+            reaches-less (new i j) (a +ℤ b) (p.0 +ℤ c.0) (let u = c.2 in let s = p.4 in omega (arith, ints)) (by-way i j p.0 c.0 p.2 c.1)
+        go (inr x) (inr y) =
+            let p = plus-parts (old i k) (old k m) a x in
+            let q = plus-parts (old m k) (old k j) b y in
+            let c = t k k p.1 q.0 p.3 q.2 in
+            let n = diag c.0 c.1 in
+            reaches-less (new i j) (a +ℤ b) (p.0 +ℤ q.1)
+            (let u = c.2 in let s = p.4 in let r = q.4 in omega (arith, ints)) (by-way i j p.0 q.1 p.2 q.3)
 
 -- if no clock is to be ahead of itself, no need by way of a clock is greater
 triangles : (n : ℕ) (needs : Needs) (k : ℕ) → HaveNoCycle n needs → k ≤ n → (m : ℕ) → m < k → IsTriangle (through needs k) m
@@ -126,10 +129,12 @@ needs-through : (needs : Needs) (k i j : ℕ) (a : ℤ) → needs i j ≡ Some a
 needs-through needs zero i j a h = (a, h, below-itself a)
 needs-through needs (suc k) i j a h =
     let r = needs-through needs k i j a h in
-    reaches-less (through needs (suc k) i j) a r.0 r.2 (greater-left (through needs k i j) (plus (through needs k i k) (through needs k k j)) r.0 r.1)
+    reaches-less (through needs (suc k) i j) a r.0 r.2
+    (greater-left (through needs k i j) (plus (through needs k i k) (through needs k k j)) r.0 r.1)
 
 -- right offsets meet the needs that follow
-through-met : (n : ℕ) (needs : Needs) (y : ℕ → ℤ) (k i j : ℕ) (a : ℤ) → AreRight n needs y → k ≤ n → i < n → j < n → through needs k i j ≡ Some a → (y i +ℤ a) ≤ℤ y j
+through-met : (n : ℕ) (needs : Needs) (y : ℕ → ℤ) (k i j : ℕ) (a : ℤ)
+    → AreRight n needs y → k ≤ n → i < n → j < n → through needs k i j ≡ Some a → (y i +ℤ a) ≤ℤ y j
 through-met n needs y zero i j a r l li lj h = r i j a li lj h
 through-met n needs y (suc k) i j a r l li lj h =
     go (greater-either (through needs k i j) (plus (through needs k i k) (through needs k k j)) a h)
@@ -169,7 +174,8 @@ best-each f (suc n) i a l e = go (cases_lt i n) (f n) refl (λ b. best-each f n 
 best-some : (f : ℕ → Option ℤ) (n : ℕ) → (best_of f n ≡ pos 0) ⊎ ((i : ℕ) × (i < n) × (f i ≡ Some (best_of f n)))
 best-some f zero = inl refl
 best-some f (suc n) = go (f n) refl (best-some f n) where
-  more : (best_of f n ≡ pos 0) ⊎ ((i : ℕ) × (i < n) × (f i ≡ Some (best_of f n))) → (best_of f n ≡ pos 0) ⊎ ((i : ℕ) × (i < suc n) × (f i ≡ Some (best_of f n)))
+  more : (best_of f n ≡ pos 0) ⊎ ((i : ℕ) × (i < n) × (f i ≡ Some (best_of f n)))
+      → (best_of f n ≡ pos 0) ⊎ ((i : ℕ) × (i < suc n) × (f i ≡ Some (best_of f n)))
   more (inl e) = inl e
   more (inr r) = inr (r.0, (let b = r.1 in omega arith), r.2)
 
@@ -177,7 +183,8 @@ best-some f (suc n) = go (f n) refl (best-some f n) where
       → (best_with (best_of f n) o ≡ pos 0) ⊎ ((i : ℕ) × (i < suc n) × (f i ≡ Some (best_with (best_of f n) o)))
   go None h rest = more rest
   go (Some a) h rest = which (max-either (best_of f n) a) where
-    which : (int_max (best_of f n) a ≡ best_of f n) ⊎ (int_max (best_of f n) a ≡ a) → (int_max (best_of f n) a ≡ pos 0) ⊎ ((i : ℕ) × (i < suc n) × (f i ≡ Some (int_max (best_of f n) a)))
+    which : (int_max (best_of f n) a ≡ best_of f n) ⊎ (int_max (best_of f n) a ≡ a)
+        → (int_max (best_of f n) a ≡ pos 0) ⊎ ((i : ℕ) × (i < suc n) × (f i ≡ Some (int_max (best_of f n) a)))
     which (inl e) = subst (λ x. (x ≡ pos 0) ⊎ ((i : ℕ) × (i < suc n) × (f i ≡ Some x))) (sym e) (more rest)
     which (inr e) = inr (n, omega arith, h ∙ ap (λ x. Some x) (sym e))
 
@@ -187,7 +194,8 @@ module _ (n : ℕ) (needs : Needs) (h : HaveNoCycle n needs) where
     r : Reaches (through needs n i j) by
     r = needs-through needs n i j by e
 
-    go : (offset_of n needs i ≡ pos 0) ⊎ ((m : ℕ) × (m < n) × (through needs n m i ≡ Some (offset_of n needs i))) → (offset_of n needs i +ℤ by) ≤ℤ offset_of n needs j
+    go : (offset_of n needs i ≡ pos 0) ⊎ ((m : ℕ) × (m < n) × (through needs n m i ≡ Some (offset_of n needs i)))
+        → (offset_of n needs i +ℤ by) ≤ℤ offset_of n needs j
     go (inl z) = let b = best-each (λ m. through needs n m j) n i r.0 li r.1 in let u = r.2 in omega (arith, ints)
     go (inr s) =
         let c = triangles n needs n h (omega arith) i li s.0 j (offset_of n needs i) r.0 s.2 r.1 in
@@ -198,9 +206,11 @@ module _ (n : ℕ) (needs : Needs) (h : HaveNoCycle n needs) where
 
   least : (y : ℕ → ℤ) → AreRight n needs y → AreForward n y → (i : ℕ) → i < n → offset_of n needs i ≤ℤ y i
   least y r f i l = go (best-some (λ m. through needs n m i) n) where
-    go : (offset_of n needs i ≡ pos 0) ⊎ ((m : ℕ) × (m < n) × (through needs n m i ≡ Some (offset_of n needs i))) → offset_of n needs i ≤ℤ y i
+    go : (offset_of n needs i ≡ pos 0) ⊎ ((m : ℕ) × (m < n) × (through needs n m i ≡ Some (offset_of n needs i)))
+        → offset_of n needs i ≤ℤ y i
     go (inl z) = let u = f i l in omega (arith, ints)
-    go (inr s) = let u = through-met n needs y n s.0 i (offset_of n needs i) r (omega arith) s.1 l s.2 in let v = f s.0 s.1 in omega (arith, ints)
+    go (inr s) = let u = through-met n needs y n s.0 i (offset_of n needs i) r (omega arith) s.1 l s.2 in
+        let v = f s.0 s.1 in omega (arith, ints)
 
   pub least-offsets : AreLeastOffsets n needs (offset_of n needs)
   least-offsets = record { right = right; forward = λ i l. best-forward (λ m. through needs n m i) n; least = least }

@@ -43,7 +43,8 @@ module _ (events : List Event) where
   reach-all i j o a (h ∷ hs) r = reach-all i j (with_need events i j o h) a hs (reach-more i j o a h r)
 
   reach-own : (i j : ℕ) (o : Option ℤ) (h : Hop) → is_between events i j h ≡ true → Reaches (with_need events i j o h) (need_of events h)
-  reach-own i j o h t = subst (λ b. Reaches (cond b (greater o (Some (need_of events h))) o) (need_of events h)) (sym t) (greater-right o (Some (need_of events h)) (need_of events h) refl)
+  reach-own i j o h t = subst (λ b. Reaches (cond b (greater o (Some (need_of events h))) o) (need_of events h))
+      (sym t) (greater-right o (Some (need_of events h)) (need_of events h) refl)
 
   -- each message between two clocks is reached by the greatest need
   abbrev IsReached : List Hop → Hop → Type 0
@@ -51,43 +52,50 @@ module _ (events : List Event) where
 
   reached-more : (g : Hop) (hs ks : List Hop) → All (IsReached hs) ks → All (IsReached (g ∷ hs)) ks
   reached-more g hs [] a = All-nil (IsReached (g ∷ hs))
-  reached-more g hs (k ∷ ks) a = All-cons (IsReached (g ∷ hs)) k ks (λ i j o t. All-head (IsReached hs) k ks a i j (with_need events i j o g) t) (reached-more g hs ks (All-tail (IsReached hs) k ks a))
+  reached-more g hs (k ∷ ks) a = All-cons (IsReached (g ∷ hs)) k ks
+      (λ i j o t. All-head (IsReached hs) k ks a i j (with_need events i j o g) t) (reached-more g hs ks (All-tail (IsReached hs) k ks a))
 
   all-reached : (hs : List Hop) → All (IsReached hs) hs
   all-reached [] = All-nil (IsReached [])
-  all-reached (h ∷ hs) = All-cons (IsReached (h ∷ hs)) h hs (λ i j o t. reach-all i j (with_need events i j o h) (need_of events h) hs (reach-own i j o h t)) (reached-more h hs hs (all-reached hs))
+  all-reached (h ∷ hs) = All-cons (IsReached (h ∷ hs)) h hs (λ i j o t.
+      reach-all i j (with_need events i j o h) (need_of events h) hs (reach-own i j o h t)) (reached-more h hs hs (all-reached hs))
 
   -- and no need is above that of some message
   abbrev IsMet : ℕ → ℕ → ℤ → Hop → Type 0
   IsMet i j y h = is_between events i j h ≡ true → need_of events h ≤ℤ y
 
-  below-all : (i j : ℕ) (o : Option ℤ) (y : ℤ) (hs : List Hop) → IsBelow o y → All (IsMet i j y) hs → IsBelow (fold (with_need events i j) o hs) y
+  below-all : (i j : ℕ) (o : Option ℤ) (y : ℤ) (hs : List Hop)
+      → IsBelow o y → All (IsMet i j y) hs → IsBelow (fold (with_need events i j) o hs) y
   below-all i j o y [] b a = b
-  below-all i j o y (h ∷ hs) b a = below-all i j (with_need events i j o h) y hs (go (is_between events i j h) refl) (All-tail (IsMet i j y) h hs a) where
-    go : (t : Bool) → is_between events i j h ≡ t → IsBelow (cond t (greater o (Some (need_of events h))) o) y
-    go true e by g = which (greater-either o (Some (need_of events h)) by g) where
-      which : (o ≡ Some by) ⊎ (Some (need_of events h) ≡ Some by) → by ≤ℤ y
-      which (inl f) = b by f
-      which (inr f) = let s : need_of events h ≡ by = cc in subst (λ x. x ≤ℤ y) s (All-head (IsMet i j y) h hs a e)
-    go false e by g = b by g
+  below-all i j o y (h ∷ hs) b a = below-all i j (with_need events i j o h) y hs
+      (go (is_between events i j h) refl) (All-tail (IsMet i j y) h hs a) where
+        go : (t : Bool) → is_between events i j h ≡ t → IsBelow (cond t (greater o (Some (need_of events h))) o) y
+        go true e by g = which (greater-either o (Some (need_of events h)) by g) where
+          which : (o ≡ Some by) ⊎ (Some (need_of events h) ≡ Some by) → by ≤ℤ y
+          which (inl f) = b by f
+          which (inr f) = let s : need_of events h ≡ by = cc in subst (λ x. x ≤ℤ y) s (All-head (IsMet i j y) h hs a e)
+        go false e by g = b by g
 
   between-own : (h : Hop) → is_between events (clock_at events h.message) (clock_at events h.event) h ≡ true
-  between-own h = ap₂ (λ a b. a && b) (eq-eqb (clock_at events h.message) (clock_at events h.message) refl) (eq-eqb (clock_at events h.event) (clock_at events h.event) refl)
+  between-own h = ap₂ (λ a b. a && b) (eq-eqb (clock_at events h.message) (clock_at events h.message) refl)
+      (eq-eqb (clock_at events h.event) (clock_at events h.event) refl)
 
   -- a message that went between clocks below n
   abbrev IsWithin : ℕ → Hop → Type 0
   IsWithin n h = (clock_at events h.message < n) × (clock_at events h.event < n)
 
-  in-order : (n : ℕ) (x : ℕ → ℤ) (hs ks : List Hop) → AreRight n (needs_among events hs) x → All (IsReached hs) ks → All (IsWithin n) ks → All (IsInOrder events x) ks
+  in-order : (n : ℕ) (x : ℕ → ℤ) (hs ks : List Hop)
+      → AreRight n (needs_among events hs) x → All (IsReached hs) ks → All (IsWithin n) ks → All (IsInOrder events x) ks
   in-order n x hs [] r a w = All-nil (IsInOrder events x)
-  in-order n x hs (k ∷ ks) r a w = All-cons (IsInOrder events x) k ks one (in-order n x hs ks r (All-tail (IsReached hs) k ks a) (All-tail (IsWithin n) k ks w)) where
-    one : IsInOrder events x k
-    one =
-        let m = All-head (IsReached hs) k ks a (clock_at events k.message) (clock_at events k.event) None (between-own k) in
-        let b = All-head (IsWithin n) k ks w in
-        let u = r (clock_at events k.message) (clock_at events k.event) m.0 b.0 b.1 m.1 in
-        let v = m.2 in
-        omega (arith, ints)
+  in-order n x hs (k ∷ ks) r a w = All-cons (IsInOrder events x) k ks one
+      (in-order n x hs ks r (All-tail (IsReached hs) k ks a) (All-tail (IsWithin n) k ks w)) where
+        one : IsInOrder events x k
+        one =
+            let m = All-head (IsReached hs) k ks a (clock_at events k.message) (clock_at events k.event) None (between-own k) in
+            let b = All-head (IsWithin n) k ks w in
+            let u = r (clock_at events k.message) (clock_at events k.event) m.0 b.0 b.1 m.1 in
+            let v = m.2 in
+            omega (arith, ints)
 
   needs-met : (x : ℕ → ℤ) (i j : ℕ) (hs : List Hop) → All (IsInOrder events x) hs → All (IsMet i j (x j -ℤ x i)) hs
   needs-met x i j [] a = All-nil (IsMet i j (x j -ℤ x i))
@@ -107,7 +115,8 @@ module _ (events : List Event) where
             omega (arith, ints)
 
   -- so right offsets are those after which each message is received later than it is sent
-  pub order-of-right : (n : ℕ) (x : ℕ → ℤ) → All (IsWithin n) (hops_of events) → AreRight n (needs_among events (hops_of events)) x → AreInOrder events x
+  pub order-of-right : (n : ℕ) (x : ℕ → ℤ) → All (IsWithin n) (hops_of events)
+      → AreRight n (needs_among events (hops_of events)) x → AreInOrder events x
   order-of-right n x w r = in-order n x (hops_of events) (hops_of events) r (all-reached (hops_of events)) w
 
   pub right-of-order : (n : ℕ) (x : ℕ → ℤ) → AreInOrder events x → AreRight n (needs_among events (hops_of events)) x
@@ -118,7 +127,8 @@ module _ (events : List Event) where
 -- the messages that the events received went between their clocks
 flat-all : {A B : Type 0} (P : B → Type 0) (f : A → List B) (xs : List A) → All (λ x. All P (f x)) xs → All P (flat_map f xs)
 flat-all P f [] a = All-nil P
-flat-all P f (x ∷ xs) a = All-append P (f x) (flat_map f xs) (All-head (λ x. All P (f x)) x xs a) (flat-all P f xs (All-tail (λ x. All P (f x)) x xs a))
+flat-all P f (x ∷ xs) a = All-append P (f x) (flat_map f xs)
+    (All-head (λ x. All P (f x)) x xs a) (flat-all P f xs (All-tail (λ x. All P (f x)) x xs a))
 
 module _ (n : ℕ) (events : List Event) (meant : AreMeant events n) where
   clock-within : (i : ℕ) → i < length events → clock_at events i < n
@@ -127,15 +137,18 @@ module _ (n : ℕ) (events : List Event) (meant : AreMeant events n) where
   hop-within : (i : ℕ) → i < length events → (m : Option ℕ) → All (IsWithin events n) (hop_in (length events) i m)
   hop-within i l None = All-nil (IsWithin events n)
   hop-within i l (Some s) = go (leb_tells (suc s) (length events)) where
-    go : ((nat_lt s (length events) ≡ true) × (suc s ≤ length events)) ⊎ ((nat_lt s (length events) ≡ false) × (length events < suc s)) → All (IsWithin events n) (hop_in (length events) i (Some s))
+    go : ((nat_lt s (length events) ≡ true) × (suc s ≤ length events)) ⊎ ((nat_lt s (length events) ≡ false) × (length events < suc s))
+        → All (IsWithin events n) (hop_in (length events) i (Some s))
     go (inl h) = subst (λ b. All (IsWithin events n) (cond b (record { event = i; message = s } ∷ []) [])) (sym h.0)
         (All-cons (IsWithin events n) (record { event = i; message = s }) []
         (clock-within s (omega (arith, h.1)), clock-within i l) (All-nil (IsWithin events n)))
-    go (inr h) = subst (λ b. All (IsWithin events n) (cond b (record { event = i; message = s } ∷ []) [])) (sym h.0) (All-nil (IsWithin events n))
+    go (inr h) = subst (λ b. All (IsWithin events n) (cond b (record { event = i; message = s } ∷ []) []))
+        (sym h.0) (All-nil (IsWithin events n))
 
   hops-at-within : (i : ℕ) → i < length events → (ms : List (Option ℕ)) → All (λ m. All (IsWithin events n) (hop_in (length events) i m)) ms
   hops-at-within i l [] = All-nil (λ m. All (IsWithin events n) (hop_in (length events) i m))
-  hops-at-within i l (m ∷ ms) = All-cons (λ m. All (IsWithin events n) (hop_in (length events) i m)) m ms (hop-within i l m) (hops-at-within i l ms)
+  hops-at-within i l (m ∷ ms) = All-cons (λ m. All (IsWithin events n) (hop_in (length events) i m)) m ms
+      (hop-within i l m) (hops-at-within i l ms)
 
   each-within : (a k : ℕ) → a + k ≤ length events → All (λ i. All (IsWithin events n) (hops_at events i)) (range_with_len a k)
   each-within a zero l = All-nil (λ i. All (IsWithin events n) (hops_at events i))
@@ -144,7 +157,8 @@ module _ (n : ℕ) (events : List Event) (meant : AreMeant events n) where
       (hops-at-within a (omega arith) (messages_at events a))) (each-within (a + 1) k (omega arith))
 
   pub hops-within : All (IsWithin events n) (hops_of events)
-  hops-within = flat-all (IsWithin events n) (hops_at events) (range_with_len 0 (length events)) (each-within 0 (length events) (omega arith))
+  hops-within = flat-all (IsWithin events n) (hops_at events)
+      (range_with_len 0 (length events)) (each-within 0 (length events) (omega arith))
 
 -- needs that are the same are met by the same offsets
 right-same : (n : ℕ) (a b : Needs) (x : ℕ → ℤ) → ((i j : ℕ) → i < n → j < n → a i j ≡ b i j) → AreRight n a x → AreRight n b x
@@ -152,10 +166,12 @@ right-same n a b x e r i j by li lj h = r i j by li lj (e i j li lj ∙ h)
 
 module _ (n : ℕ) (events : List Event) (most : n ≤ 64) (needs : List (Option ℤ)) (h : AreNeedsAmong events (hops_of events) needs) where
   to-list : (x : ℕ → ℤ) → AreInOrder events x → AreRight n (needs_at needs) x
-  to-list x o = right-same n (needs_among events (hops_of events)) (needs_at needs) x (λ i j li lj. sym (h.each i j (omega arith) (omega arith))) (right-of-order events n x o)
+  to-list x o = right-same n (needs_among events (hops_of events))
+      (needs_at needs) x (λ i j li lj. sym (h.each i j (omega arith) (omega arith))) (right-of-order events n x o)
 
   from-list : (x : ℕ → ℤ) → AreMeant events n → AreRight n (needs_at needs) x → AreInOrder events x
-  from-list x meant r = order-of-right events n x (hops-within n events meant) (right-same n (needs_at needs) (needs_among events (hops_of events)) x (λ i j li lj. h.each i j (omega arith) (omega arith)) r)
+  from-list x meant r = order-of-right events n x (hops-within n events meant)
+      (right-same n (needs_at needs) (needs_among events (hops_of events)) x (λ i j li lj. h.each i j (omega arith) (omega arith)) r)
 
   least-list : (offsets : List ℤ) → AreMeant events n → AreOffsetsOf n needs offsets → AreClockOffsets n events offsets
   least-list offsets meant o = record {
@@ -180,4 +196,5 @@ offsets-of-needs n events meant most hops read needs seen offsets e f g h o =
 pub refusal-of-needs : (n : ℕ) (events : List Event) (read : List Hop) (needs seen : List (Option ℤ))
     (why : OffsetError) → n ≤ 64 → {hops : List Hop} → hops ≡ hops_of events → read ≡ hops → seen ≡ needs
     → AreNeedsAmong events read needs → IsOffsetRefusal n seen why → IsClockRefusal events why
-refusal-of-needs n events read needs seen why most e f g h o = refused-list n events most seen (subst (λ hs. AreNeedsAmong events hs seen) (f ∙ e) (subst (AreNeedsAmong events read) (sym g) h)) why o
+refusal-of-needs n events read needs seen why most e f g h o =
+    refused-list n events most seen (subst (λ hs. AreNeedsAmong events hs seen) (f ∙ e) (subst (AreNeedsAmong events read) (sym g) h)) why o

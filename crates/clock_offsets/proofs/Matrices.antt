@@ -25,10 +25,11 @@ pushed-other (y ∷ xs) x d (suc k) l = pushed-other xs x d k (omega arith)
 pub grown : {A : Type 0} (f : ℕ → A) (d : A) (xs ys : List A) (x : A) (n : ℕ) → length xs ≡ n
     → ((k : ℕ) → k < n → slice_index_or xs k d ≡ f k) → x ≡ f n → ys ≡ xs ++ x ∷ []
     → (length ys ≡ n + 1) × ((k : ℕ) → k < n + 1 → slice_index_or ys k d ≡ f k)
-grown f d xs ys x n l h e g = (ap length g ∙ (let p = length_push xs x in omega arith), λ k b. ap (λ zs. slice_index_or zs k d) g ∙ go k (cases_lt k n) b) where
-  go : (k : ℕ) → (k < n) ⊎ (n ≤ k) → k < n + 1 → slice_index_or (xs ++ x ∷ []) k d ≡ f k
-  go k (inl below) b = pushed-other xs x d k (omega arith) ∙ h k below
-  go k (inr above) b = let s : n ≡ k = omega arith in pushed-same xs x d k (omega arith) ∙ e ∙ ap f s
+grown f d xs ys x n l h e g =
+    (ap length g ∙ (let p = length_push xs x in omega arith), λ k b. ap (λ zs. slice_index_or zs k d) g ∙ go k (cases_lt k n) b) where
+      go : (k : ℕ) → (k < n) ⊎ (n ≤ k) → k < n + 1 → slice_index_or (xs ++ x ∷ []) k d ≡ f k
+      go k (inl below) b = pushed-other xs x d k (omega arith) ∙ h k below
+      go k (inr above) b = let s : n ≡ k = omega arith in pushed-same xs x d k (omega arith) ∙ e ∙ ap f s
 
 -- the needs by way of the first clocks, none of which is ahead of itself
 pub record IsThrough (needs : List (Option ℤ)) (k : ℕ) (items : List (Option ℤ)) : Type 0 where
@@ -68,23 +69,28 @@ through-more needs items read new k lk h e diag n = record { long = n.long; each
 
 best-same : (f g : ℕ → Option ℤ) (n : ℕ) → ((i : ℕ) → i < n → f i ≡ g i) → best_of f n ≡ best_of g n
 best-same f g zero h = refl
-best-same f g (suc n) h = ap (λ x. best_with x (f n)) (best-same f g n (λ i l. h i (omega arith))) ∙ ap (best_with (best_of g n)) (h n (omega arith))
+best-same f g (suc n) h = ap (λ x. best_with x (f n)) (best-same f g n (λ i l. h i (omega arith)))
+    ∙ ap (best_with (best_of g n)) (h n (omega arith))
 
 -- offsets that are the same as the least ones are the least ones
 same-least : (n : ℕ) (needs : Needs) (x y : ℕ → ℤ) → ((i : ℕ) → i < n → y i ≡ x i) → AreLeastOffsets n needs x → AreLeastOffsets n needs y
 same-least n needs x y s h = record {
-  right = λ i j by li lj e. subst (λ a. (a +ℤ by) ≤ℤ y j) (sym (s i li)) (subst (λ b. (x i +ℤ by) ≤ℤ b) (sym (s j lj)) (h.right i j by li lj e));
+  right = λ i j by li lj e. subst (λ a. (a +ℤ by) ≤ℤ y j)
+      (sym (s i li)) (subst (λ b. (x i +ℤ by) ≤ℤ b) (sym (s j lj)) (h.right i j by li lj e));
   forward = λ i l. subst (λ a. pos 0 ≤ℤ a) (sym (s i l)) (h.forward i l);
   least = λ z r f i l. subst (λ a. a ≤ℤ z i) (sym (s i l)) (h.least z r f i l);
 }
 
-pub through-offsets : (n : ℕ) (needs items read : List (Option ℤ)) (offsets : List ℤ) → n ≤ 64 → IsThrough needs n items → read ≡ items → AreGreatest n read offsets → AreOffsetsOf n needs offsets
+pub through-offsets : (n : ℕ) (needs items read : List (Option ℤ)) (offsets : List ℤ)
+    → n ≤ 64 → IsThrough needs n items → read ≡ items → AreGreatest n read offsets → AreOffsetsOf n needs offsets
 through-offsets n needs items read offsets few h e g = record {
   long = g.long;
-  least = same-least n (needs_at needs) (offset_of n (needs_at needs)) (λ j. slice_index_or offsets j (pos 0)) same (least-offsets n (needs_at needs) (λ k by l t. h.below k by l t));
+  least = same-least n (needs_at needs) (offset_of n (needs_at needs))
+      (λ j. slice_index_or offsets j (pos 0)) same (least-offsets n (needs_at needs) (λ k by l t. h.below k by l t));
 } where
   same : (j : ℕ) → j < n → slice_index_or offsets j (pos 0) ≡ offset_of n (needs_at needs) j
-  same j l = g.each j l ∙ best-same (λ i. needs_at read i j) (λ i. through (needs_at needs) n i j) n (λ i b. ap (λ xs. needs_at xs i j) e ∙ h.each i j (omega arith) (omega arith))
+  same j l = g.each j l ∙ best-same (λ i. needs_at read i j)
+      (λ i. through (needs_at needs) n i j) n (λ i b. ap (λ xs. needs_at xs i j) e ∙ h.each i j (omega arith) (omega arith))
 
 pub best-end : (f : ℕ → Option ℤ) (k n : ℕ) (x : ℤ) → x ≡ best_of f k → k ≤ n → n ≤ k → x ≡ best_of f n
 best-end f k n x e a b = let s : k ≡ n = omega arith in e ∙ ap (best_of f) s

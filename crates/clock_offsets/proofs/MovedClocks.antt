@@ -18,10 +18,12 @@ next-is f (y ∷ ys) zero d = refl
 next-is f (y ∷ ys) (suc k) d = next-is f ys k d
 
 -- and once it is changed there is one more
-pub changed-next : (f : Event → Event) (ys : List Event) (k : ℕ) (d : Event) → k < length ys → slice_set (changed_to f ys k) k (f (slice_index_or ys k d)) ≡ changed_to f ys (k + 1)
+pub changed-next : (f : Event → Event) (ys : List Event) (k : ℕ) (d : Event)
+    → k < length ys → slice_set (changed_to f ys k) k (f (slice_index_or ys k d)) ≡ changed_to f ys (k + 1)
 changed-next f [] k d l = absurd (omega arith)
 changed-next f (y ∷ ys) zero d l = refl
-changed-next f (y ∷ ys) (suc k) d l = let e : suc k + 1 ≡ suc (k + 1) = omega arith in rw e (ap (λ zs. f y ∷ zs) (changed-next f ys k d (omega arith)))
+changed-next f (y ∷ ys) (suc k) d l = let e : suc k + 1 ≡ suc (k + 1) = omega arith in
+    rw e (ap (λ zs. f y ∷ zs) (changed-next f ys k d (omega arith)))
 
 pub moved-next : (f : Event → Event) (ys items : List Event) (k : ℕ) (d new : Event) → items ≡ changed_to f ys k
     → k < length ys → new ≡ f (slice_index_or items k d) → slice_set items k new ≡ changed_to f ys (k + 1)
@@ -34,8 +36,9 @@ some-at (y ∷ ys) zero d l = refl
 some-at (y ∷ ys) (suc k) d l = some-at ys k d (omega arith)
 
 -- the next one is too late
-pub late-next : (offsets : List ℤ) (latest : ℤ) (ys items : List Event) (k : ℕ) (d : Event) → items ≡ changed_to (moved_event offsets) ys k → k < length ys
-    → latest <ℤ ((slice_index_or items k d).time +ℤ offset_in offsets ((slice_index_or items k d).processor - 1)) → IsTooLate ys offsets latest
+pub late-next : (offsets : List ℤ) (latest : ℤ) (ys items : List Event) (k : ℕ) (d : Event) → items ≡ changed_to (moved_event offsets) ys k
+    → k < length ys → latest <ℤ ((slice_index_or items k d).time +ℤ offset_in offsets ((slice_index_or items k d).processor - 1))
+    → IsTooLate ys offsets latest
 late-next offsets latest ys items k d e l h = (
   k,
   l,

@@ -30,7 +30,8 @@ decimal_no_comma n h = All-weaker IsDigit IsNoComma (λ b digit. ne_eqb b 44 (λ
 
 -- the parts of a list's text are its items' texts, in which is no comma
 parts_of_list : {A : Type 0} (IsItem : A → Type 0) (text_of : A → List ℕ) → ((item : A) → IsItem item → All IsNoComma (text_of item))
-    → (item : A) (items : List A) → All IsItem (item ∷ items) → parts_of (join_with_byte 44 (map text_of (item ∷ items))) ≡ map text_of (item ∷ items)
+    → (item : A) (items : List A) → All IsItem (item ∷ items)
+    → parts_of (join_with_byte 44 (map text_of (item ∷ items))) ≡ map text_of (item ∷ items)
 parts_of_list IsItem text_of whole item [] all = slice_split_none _ (text_of item) (whole item (All-head IsItem item [] all))
 parts_of_list IsItem text_of whole item (next ∷ items) all =
     slice_split_at _ (text_of item) 44 _ (whole item (All-head IsItem item (next ∷ items) all)) refl
@@ -42,8 +43,8 @@ parts_are_items IsItem text_of whole text [] list = absurd (omega (arith, list.s
 parts_are_items IsItem text_of whole text (item ∷ items) list = rw (list.written) (parts_of_list IsItem text_of whole item items list.each)
 
 -- bytes that write no item are no part of such a text
-pub unread_is_no_item : {A : Type 0} (IsItem : A → Type 0) (text_of : A → List ℕ) → ((item : A) → IsItem item → All IsNoComma (text_of item))
-    → (text : List ℕ) (items : List A) (part : List ℕ) (k : ℕ) → ((item : A) → IsItem item → part ≢ text_of item)
+pub unread_is_no_item : {A : Type 0} (IsItem : A → Type 0) (text_of : A → List ℕ) → ((item : A) → IsItem item → All IsNoComma
+    (text_of item)) → (text : List ℕ) (items : List A) (part : List ℕ) (k : ℕ) → ((item : A) → IsItem item → part ≢ text_of item)
     → (k < length (parts_of text)) × (part ≡ get_or (parts_of text) k part) → ¬ IsCommaList IsItem text_of text items
 unread_is_no_item IsItem text_of whole text [] part k none at list = omega (arith, list.some)
 unread_is_no_item IsItem text_of whole text (item ∷ items) part k none at list =
@@ -60,8 +61,9 @@ pub record AreRead {A : Type 0} (IsItem : A → Type 0) (text_of : A → List �
 pub none_read : {A : Type 0} (IsItem : A → Type 0) (text_of : A → List ℕ) → AreRead IsItem text_of [] []
 none_read IsItem text_of = record { each = All-nil IsItem; written = refl }
 
-pub one_more_read : {A : Type 0} (IsItem : A → Type 0) (text_of : A → List ℕ) (parts : List (List ℕ)) (items : List A) (part : List ℕ) (item : A)
-    → AreRead IsItem text_of parts items → part ≡ text_of item → IsItem item → AreRead IsItem text_of (parts ++ part ∷ []) (items ++ item ∷ [])
+pub one_more_read : {A : Type 0} (IsItem : A → Type 0)
+    (text_of : A → List ℕ) (parts : List (List ℕ)) (items : List A) (part : List ℕ) (item : A) → AreRead IsItem text_of parts items
+    → part ≡ text_of item → IsItem item → AreRead IsItem text_of (parts ++ part ∷ []) (items ++ item ∷ [])
 one_more_read IsItem text_of parts items part item read e fits = record {
   each = All-push IsItem items item read.each fits;
   written = rw (map-append, ← e, ← read.written) refl;

@@ -11,11 +11,12 @@ use Rattle.command_line.specs.Commands.Report.{IsReport, report_line}
 use Rattle.command_line.specs.Commands.Upgrade.{IsUpgrade, upgrade_line}
 use Rattle.command_line.proofs.PlainWords.{IsPlain, after_value, after_word, at_end, plain_line}
 
-pub plain_report : (name file list : Text) → is_flag file ≡ false → is_flag list ≡ false → IsPlain (report_line name file list) (IsReport file list 1 None None) (IsListFault list)
+pub plain_report : (name file list : Text) → is_flag file ≡ false
+    → is_flag list ≡ false → IsPlain (report_line name file list) (IsReport file list 1 None None) (IsListFault list)
 unfolding clap_on_literals
 plain_report name file list plain_file plain_list = plain_line (codes "report") (file ∷ codes "--correct" ∷ list ∷ []) _ _ _ _
-    (after_value _ _ file _ _ plain_file refl refl refl refl (after_word _ _ _ (codes "--correct") _ _ refl refl (after_value _ _ list _ _ plain_list refl refl refl refl (at_end _ _))))
-    refl refl refl refl tt (λ given h. h)
+    (after_value _ _ file _ _ plain_file refl refl refl refl (after_word _ _ _ (codes "--correct") _ _ refl refl
+    (after_value _ _ list _ _ plain_list refl refl refl refl (at_end _ _)))) refl refl refl refl tt (λ given h. h)
 
 pub plain_replay : (name file : Text) → is_flag file ≡ false → IsPlain (replay_line name file) (IsReplay file) IsMemory
 unfolding clap_on_literals
@@ -41,8 +42,8 @@ pub plain_draw : (name file list : Text) → is_flag file ≡ false → is_flag 
     (IsDrawFault file list None None)
 unfolding clap_on_literals
 plain_draw name file list plain_file plain_list = plain_line (codes "draw") (file ∷ codes "--correct" ∷ list ∷ []) _ _ _ _
-    (after_value _ _ file _ _ plain_file refl refl refl refl (after_word _ _ _ (codes "--correct") _ _ refl refl (after_value _ _ list _ _ plain_list refl refl refl refl (at_end _ _))))
-    refl refl refl refl (inl tt) (λ given h. h)
+    (after_value _ _ file _ _ plain_file refl refl refl refl (after_word _ _ _ (codes "--correct") _ _ refl refl
+    (after_value _ _ list _ _ plain_list refl refl refl refl (at_end _ _)))) refl refl refl refl (inl tt) (λ given h. h)
 
 pub plain_import : (name log : Text) → is_flag log ≡ false → IsPlain (import_line name log) (IsImport log no_flags no_texts) IsMemory
 unfolding clap_on_literals

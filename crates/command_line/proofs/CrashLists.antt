@@ -16,6 +16,6 @@ no_at : (n : ℕ) → n < 2 ^ 64 → (i : ℕ) → i < length (decimal n) → ge
 no_at n h i inside e = let digit = All-get_or IsDigit (decimal n) i 0 inside (decimal_digits n h) in omega (arith, digit.0, digit.1, e)
 
 -- the text of a crash is cut at its @
-pub cut_at : (text : List ℕ) (crash : Crash) (r : Option (Bor (List ℕ) × Bor (List ℕ))) → IsSplitOnceResult 64 text r → IsCrash64 crash → text ≡ crash_text crash
-    → MatchOption r ⊥ (λ x. (x.0.now ≡ decimal crash.proc) × (x.1.now ≡ decimal crash.tick))
+pub cut_at : (text : List ℕ) (crash : Crash) (r : Option (Bor (List ℕ) × Bor (List ℕ))) → IsSplitOnceResult 64 text r
+    → IsCrash64 crash → text ≡ crash_text crash → MatchOption r ⊥ (λ x. (x.0.now ≡ decimal crash.proc) × (x.1.now ≡ decimal crash.tick))
 cut_at text crash r cut h e = split_after 64 text (decimal crash.proc) (decimal crash.tick) r cut (omega arith) e (no_at crash.proc h.0)

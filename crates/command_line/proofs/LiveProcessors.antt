@@ -9,16 +9,16 @@ use Rattle.command_options.specs.Simulations.{is_live, live}
 
 -- a range with one more number
 range-more : (a n j : ℕ) → a + n ≡ j → range_with_len a (n + 1) ≡ range_with_len a n ++ j ∷ []
-range-more a n j is =
-    sym (map-id (range_with_len a (n + 1))) ∙ map-range_with_len_more (λ x. x) a n j is ∙ ap (λ xs. xs ++ j ∷ []) (map-id (range_with_len a n))
+range-more a n j is = sym (map-id (range_with_len a (n + 1)))
+    ∙ map-range_with_len_more (λ x. x) a n j is ∙ ap (λ xs. xs ++ j ∷ []) (map-id (range_with_len a n))
 
 one : (b : Bool) (p : ℕ) → length (cond b (p ∷ []) []) ≡ cond b 1 0
 one true p = refl
 one false p = refl
 
 -- how many are live of one more
-pub live_count-more : (crashes : List Crash) (i : ℕ) → length (live (i + 1) crashes) ≡ length (live i crashes) + cond (is_live crashes (i + 1)) 1 0
-live_count-more crashes i =
-    ap length (ap (filter (is_live crashes)) (range-more 1 i (i + 1) (omega arith)) ∙ filter-append (is_live crashes) (range_with_len 1 i) ((i + 1) ∷ []))
-    ∙ length-append (live i crashes) (cond (is_live crashes (i + 1)) ((i + 1) ∷ []) [])
-    ∙ ap (λ k. length (live i crashes) + k) (one (is_live crashes (i + 1)) (i + 1))
+pub live_count-more : (crashes : List Crash) (i : ℕ)
+    → length (live (i + 1) crashes) ≡ length (live i crashes) + cond (is_live crashes (i + 1)) 1 0
+live_count-more crashes i = ap length (ap (filter (is_live crashes)) (range-more 1 i (i + 1) (omega arith))
+    ∙ filter-append (is_live crashes) (range_with_len 1 i) ((i + 1) ∷ [])) ∙ length-append (live i crashes)
+    (cond (is_live crashes (i + 1)) ((i + 1) ∷ []) []) ∙ ap (λ k. length (live i crashes) + k) (one (is_live crashes (i + 1)) (i + 1))

@@ -20,7 +20,8 @@ no_number least most text none = go (is_unsigned_in least most text) refl
     go false e = refl
 
 -- and else it is that number
-pub one_number : (least most : ℕ) (text : Text) (value : ℕ) → IsNumeral 10 (without_leading_plus text) → digits_value 10 (without_leading_plus text) < 2 ^ 64
+pub one_number : (least most : ℕ) (text : Text) (value : ℕ)
+    → IsNumeral 10 (without_leading_plus text) → digits_value 10 (without_leading_plus text) < 2 ^ 64
     → value ≡ digits_value 10 (without_leading_plus text) → least ≤ value → value ≤ most → number_of least most text ≡ Some value
-one_number least most text value numeral small e low high =
-    rw (Accepts-accepts false (vp.Unsigned least most) text (numeral, small, omega (arith, e, low), omega (arith, e, high))) (ap (λ n. Some n) (sym e))
+one_number least most text value numeral small e low high = rw (Accepts-accepts false
+    (vp.Unsigned least most) text (numeral, small, omega (arith, e, low), omega (arith, e, high))) (ap (λ n. Some n) (sym e))

@@ -59,10 +59,10 @@ unfolding walked
 walked_plain c w word e none going on = rw (going, on, plain_step c w.waiting w.position word w.held e none) refl
 
 turn_plain : (s : Shape) (w : Walk) (word : Text) → is_flag word ≡ false → subcommand_met [] w.waiting word ≡ None
-    → w.stopped ≡ None → w.is_trailing ≡ false
-    → turn_fault s [] w word ≡ step_fault s w.position (plain_word s.rules w.waiting word w.held).0 (plain_word s.rules w.waiting word w.held).1
-turn_plain s w word e none going on =
-    rw (going, on, plain_step s.rules w.waiting w.position word w.held e none, none, not_dashes word e, not_long word e, not_short word e) refl
+    → w.stopped ≡ None → w.is_trailing ≡ false → turn_fault s [] w word
+    ≡ step_fault s w.position (plain_word s.rules w.waiting word w.held).0 (plain_word s.rules w.waiting word w.held).1
+turn_plain s w word e none going on = rw
+    (going, on, plain_step s.rules w.waiting w.position word w.held e none, none, not_dashes word e, not_long word e, not_short word e) refl
 
 -- Over these words the walk goes on from one place to another, and refuses none of them.
 pub record Passes (s : Shape) (w : Walk) (words : List Text) (end : Walk) : Type 0 where
@@ -73,8 +73,8 @@ pub at_end : (s : Shape) (w : Walk) → Passes s w [] w
 unfolding walk_fault
 at_end s w = record { goes = refl; faultless = refl }
 
-pub after_word : (s : Shape) (w v : Walk) (word : Text) (words : List Text) (end : Walk) → walked s.rules [] w word ≡ v → turn_fault s [] w word ≡ [] → Passes s v words end
-    → Passes s w (word ∷ words) end
+pub after_word : (s : Shape) (w v : Walk) (word : Text) (words : List Text) (end : Walk)
+    → walked s.rules [] w word ≡ v → turn_fault s [] w word ≡ [] → Passes s v words end → Passes s w (word ∷ words) end
 unfolding walk_fault
 after_word s w v word words end goes none p = record {
   goes = ap (λ u. fold (walked s.rules []) u words) goes ∙ p.goes;
@@ -111,10 +111,10 @@ pub record IsPlain (words : List Text) (IsJob : Job → Type 0) (IsRefusal : Lin
 
 -- a command's words that pass, and that leave nothing unsaid
 pub plain_line : (name : Text) (words : List Text) (end : Walk) (line : List Text) (IsJob : Job → Type 0) (IsRefusal : LineError → Type 0)
-    → Passes (shape_of_command name) (walk_from nothing_held) words end → level_end (shape_of_command name) [] end ≡ [] → line_fault (name ∷ words) [] ≡ []
-    → fault_of program line ≡ line_fault (name ∷ words) (level_fault (shape_of_command name) [] nothing_held words false [])
-    → subcommand_of program line ≡ Some (name, finished (shape_of_command name).rules (walk (shape_of_command name).rules [] nothing_held words).held)
-    → IsRefusal unread.Memory
+    → Passes (shape_of_command name) (walk_from nothing_held) words end
+    → level_end (shape_of_command name) [] end ≡ [] → line_fault (name ∷ words) [] ≡ [] → fault_of program line
+    ≡ line_fault (name ∷ words) (level_fault (shape_of_command name) [] nothing_held words false []) → subcommand_of program line ≡ Some
+    (name, finished (shape_of_command name).rules (walk (shape_of_command name).rules [] nothing_held words).held) → IsRefusal unread.Memory
     → ((given : Given) → IsGivenIn (Some (name, finished (shape_of_command name).rules end.held)) given → answers IsJob IsRefusal given)
     → IsPlain line IsJob IsRefusal
 plain_line name words end line IsJob IsRefusal p ends above faults sub memory gives =
@@ -122,5 +122,6 @@ plain_line name words end line IsJob IsRefusal p ends above faults sub memory gi
     record {
       faultless = faults ∙ ap (line_fault (name ∷ words)) (ap₂ (level_end s) p.faultless p.goes ∙ ends) ∙ above;
       memory = memory;
-      gives = λ given h. gives given (subst (λ named. IsGivenIn named given) (sub ∙ ap (λ (w : Walk). Some (name, finished s.rules w.held)) p.goes) h);
+      gives = λ given h.
+          gives given (subst (λ named. IsGivenIn named given) (sub ∙ ap (λ (w : Walk). Some (name, finished s.rules w.held)) p.goes) h);
     }

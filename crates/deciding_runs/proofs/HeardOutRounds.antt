@@ -38,8 +38,8 @@ sender-may_hear c steps p q rounds s run sent round =
     go (Some body) e h = tells-may_hear c (heard_table steps) rounds p q body e
 
 -- a message of the round was taken by the time when its sender was heard of
-taken-when_heard : (c : Setup) (steps : List Step) (p q rounds k s : ℕ) → IsRun c steps → TakesInOrder steps p q → IsSend steps q p s → round_at steps q s ≡ suc rounds
-    → HasHeardOf steps p q (suc rounds) k → IsTakenBefore steps p k s
+taken-when_heard : (c : Setup) (steps : List Step) (p q rounds k s : ℕ) → IsRun c steps → TakesInOrder steps p q
+    → IsSend steps q p s → round_at steps q s ≡ suc rounds → HasHeardOf steps p q (suc rounds) k → IsTakenBefore steps p k s
 taken-when_heard c steps p q rounds k s run order sent round heard = go (cases_lt (suc rounds) (round_at steps q heard.message))
   where
     go : (suc rounds < round_at steps q heard.message) ⊎ (round_at steps q heard.message ≤ suc rounds) → IsTakenBefore steps p k s
@@ -52,18 +52,27 @@ taken-when_heard c steps p q rounds k s run order sent round heard = go (cases_l
         record { place = heard.place; take = subst (IsTakenAt steps p heard.place) same heard.take; by = heard.by }
 
 -- so it is taken in time
-in-time : (c : Setup) (steps : List Step) (set p q rounds s : ℕ) → IsRun c steps → has_proc set q ≡ true → TakesInOrder steps p q → IsHeardOut c steps set p (suc rounds)
-    → IsSend steps q p s → round_at steps q s ≡ suc rounds → IsTakenInTime steps p (suc rounds) s
+in-time : (c : Setup) (steps : List Step) (set p q rounds s : ℕ) → IsRun c steps → has_proc set q ≡ true → TakesInOrder steps p q
+    → IsHeardOut c steps set p (suc rounds) → IsSend steps q p s → round_at steps q s ≡ suc rounds → IsTakenInTime steps p (suc rounds) s
 in-time c steps set p q rounds s run mq order out_of sent round =
     let end : passed (before steps out_of.place) p ≡ rounds = (let e = out_of.round_is in omega arith) in
-    let may = subst (λ n. may_hear c (state_after c (heard_table steps) n p) (suc rounds) p q ≡ true) (sym end) (sender-may_hear c steps p q rounds s run sent round) in
+    let may = subst (λ n. may_hear c (state_after c (heard_table steps) n p) (suc rounds) p q ≡ true)
+    (sym end) (sender-may_hear c steps p q rounds s run sent round) in
     let was = taken-when_heard c steps p q rounds out_of.place s run order sent round (out_of.heard q mq may) in
     let rises = round_at-rises steps p was.place out_of.place was.by in
     let here = out_of.round_is in
-    record { place = was.place; ids = was.take.ids; ends = was.take.ends; step = was.take.step; taken = was.take.taken; in_time = omega arith }
+    record {
+      place = was.place;
+      ids = was.take.ids;
+      ends = was.take.ends;
+      step = was.take.step;
+      taken = was.take.taken;
+      in_time = omega arith;
+    }
 
 -- Who ends its rounds so stays together with the others.
-pub AreTogether-heard_out : (c : Setup) (steps : List Step) (set first last : ℕ) → IsRun c steps → first ≤ last → HearOut c steps set first last → AreTogether c steps set first last
+pub AreTogether-heard_out : (c : Setup) (steps : List Step) (set first last : ℕ)
+    → IsRun c steps → first ≤ last → HearOut c steps set first last → AreTogether c steps set first last
 AreTogether-heard_out c steps set first last run some are = record {
   within = are.within;
   size = are.size;
@@ -72,12 +81,14 @@ AreTogether-heard_out c steps set first last run some are = record {
   hear = hear;
 }
   where
-    hear : (round : ℕ) → first ≤ round → round ≤ last → (p q s : ℕ) → has_proc set p ≡ true → has_proc set q ≡ true → IsSend steps q p s → round_at steps q s ≡ round → IsTakenInTime steps p round s
+    hear : (round : ℕ) → first ≤ round → round ≤ last → (p q s : ℕ)
+        → has_proc set p ≡ true → has_proc set q ≡ true → IsSend steps q p s → round_at steps q s ≡ round → IsTakenInTime steps p round s
     hear zero low high p q s mp mq sent round = absurd (let numbered = are.numbered in omega arith)
-    hear (suc rounds) low high p q s mp mq sent round = in-time c steps set p q rounds s run mq (are.order p q mp mq) (are.rounds p (suc rounds) mp low high) sent round
+    hear (suc rounds) low high p q s mp mq sent round =
+        in-time c steps set p q rounds s run mq (are.order p q mp mq) (are.rounds p (suc rounds) mp low high) sent round
 
 -- And they decide.
-pub hearing-decides : (c : Setup) (steps : List Step) (set first : ℕ) → IsSetup c → IsRun c steps → HearOut c steps set first (deciding_round c first)
-    → HaveDecided set (node_at c steps)
-hearing-decides c steps set first setup run are =
-    members-decide c steps set first setup run (AreTogether-heard_out c steps set first (deciding_round c first) run (let n = setup.least in omega arith) are)
+pub hearing-decides : (c : Setup) (steps : List Step) (set first : ℕ)
+    → IsSetup c → IsRun c steps → HearOut c steps set first (deciding_round c first) → HaveDecided set (node_at c steps)
+hearing-decides c steps set first setup run are = members-decide c steps set first setup run
+    (AreTogether-heard_out c steps set first (deciding_round c first) run (let n = setup.least in omega arith) are)

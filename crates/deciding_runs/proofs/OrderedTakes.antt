@@ -12,7 +12,8 @@ use Rattle.step_trace.specs.PushRefusals.{is_taken}
 use Rattle.step_buffers.proofs.KeptInboxes.{IsTakenBy-receiver}
 
 -- who takes something makes a Receive
-pub taken-at : (steps : List Step) (p k s : ℕ) (x : Step) → step_at steps k ≡ Some x → x.proc ≡ p → Contains (act_ids x.act) s → IsTakenAt steps p k s
+pub taken-at : (steps : List Step) (p k s : ℕ) (x : Step)
+    → step_at steps k ≡ Some x → x.proc ≡ p → Contains (act_ids x.act) s → IsTakenAt steps p k s
 taken-at steps p k s x stands own taken = go x.act refl taken
   where
     go : (act : Act) → x.act ≡ act → Contains (act_ids act) s → IsTakenAt steps p k s
@@ -70,5 +71,15 @@ TakesInOrder-all c steps p q w all s later k sent after l at = go (is_taken (bef
         let first = earlier in
         let positive = low in
         let waits : waits_for (before steps k) p s ≡ true = rw (sent_before, e, eq-eqb p p refl) refl in
-        let is : Contains (buffer (before steps k) p) s = Contains-filter (λ i. waits_for (before steps k) p i) (numbers (before steps k)) s (Contains-numbers (before steps k) s (omega arith) (omega arith)) waits in
-        record { place = k; take = record { ids = at.ids; ends = at.ends; step = at.step; taken = subst (λ xs. Contains xs s) (sym (all k at.ids at.ends at.step)) is }; by = omega arith }
+        let is : Contains (buffer (before steps k) p) s = Contains-filter (λ i. waits_for (before steps k) p i)
+        (numbers (before steps k)) s (Contains-numbers (before steps k) s (omega arith) (omega arith)) waits in
+        record {
+          place = k;
+          take = record {
+            ids = at.ids;
+            ends = at.ends;
+            step = at.step;
+            taken = subst (λ xs. Contains xs s) (sym (all k at.ids at.ends at.step)) is;
+          };
+          by = omega arith;
+        }

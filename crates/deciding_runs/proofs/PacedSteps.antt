@@ -74,14 +74,17 @@ module _ (c : Setup) (steps : List Step) (p : ℕ) (ends : Bool) (w : IsWellForm
       let is = sender-within s waits in
       let low = is.0 in
       let high = is.1 in
-      WereHeard-some ids (heard_message steps p peers s) (length-set peers (sender_of steps s - 1) _ ∙ long) (λ t e. some t (Contains-rest s t ids e))
+      WereHeard-some ids (heard_message steps p peers s)
+      (length-set peers (sender_of steps s - 1) _ ∙ long) (λ t e. some t (Contains-rest s t ids e))
       (WereHeard-noted now p (sender_of steps s) (round_ahead steps p s) peers low (omega arith) (hears-waiting s waits) were)
 
   WereHeard-waiting : (x : Paced) → length x.peers ≡ c.n → WereHeard steps p x.peers → WereHeard now p (heard_waiting steps p x).peers
-  WereHeard-waiting x long were = WereHeard-some (buffer steps p) x.peers long (λ s d. d) (WereHeard-longer steps (taking ∷ []) p x.peers were)
+  WereHeard-waiting x long were = WereHeard-some (buffer steps p) x.peers long
+      (λ s d. d) (WereHeard-longer steps (taking ∷ []) p x.peers were)
 
 -- what was heard, after a Receive
-WereHeard-received : (steps : List Step) (p round : ℕ) (ends : Bool) (x : Paced) → WereHeard steps p x.peers → WereHeard steps p (after_receive ends round x).peers
+WereHeard-received : (steps : List Step) (p round : ℕ) (ends : Bool) (x : Paced)
+    → WereHeard steps p x.peers → WereHeard steps p (after_receive ends round x).peers
 WereHeard-received steps p round false x were = were
 WereHeard-received steps p round true x were = go (part_of round == 4) refl
   where
@@ -90,8 +93,9 @@ WereHeard-received steps p round true x were = go (part_of round == 4) refl
     go false e = rw e were
 
 -- What is heard with a step by a pace is heard in the trace with that step.
-pub WereHeard-moved : (c : Setup) (steps : List Step) (step : Step) (p : ℕ) (x : Paced) → IsProc c p → IsWellFormed c steps → length x.peers ≡ c.n
-    → step_of c steps p (paced_move c steps p x) ≡ Some step → WereHeard steps p x.peers → WereHeard (steps ++ step ∷ []) p (after_move c steps p x).peers
+pub WereHeard-moved : (c : Setup) (steps : List Step) (step : Step) (p : ℕ) (x : Paced)
+    → IsProc c p → IsWellFormed c steps → length x.peers ≡ c.n → step_of c steps p (paced_move c steps p x) ≡ Some step
+    → WereHeard steps p x.peers → WereHeard (steps ++ step ∷ []) p (after_move c steps p x).peers
 WereHeard-moved c steps step p x is w long made were = go (next_send c steps p) refl
   where
     go : (to : Option ℕ) → next_send c steps p ≡ to → WereHeard (steps ++ step ∷ []) p (after_move c steps p x).peers
@@ -100,5 +104,6 @@ WereHeard-moved c steps step p x is w long made were = go (next_send c steps p) 
         let ends = ends_round c steps p x in
         let same : record { proc = p; act = act.Receive ends (buffer steps p) } ≡ step = same_Some _ _ (rw e at made) in
         rw (e, ← same)
-        (WereHeard-received (steps ++ record { proc = p; act = act.Receive ends (buffer steps p) } ∷ []) p (passed steps p + 1) ends (heard_waiting steps p x)
+        (WereHeard-received (steps ++ record { proc = p; act = act.Receive ends (buffer steps p) } ∷ []) p
+        (passed steps p + 1) ends (heard_waiting steps p x)
         (WereHeard-waiting c steps p ends w x long were))

@@ -75,7 +75,8 @@ pub record IsKeptByFormulas (R : ℕ → ℕ → ℕ → Type 0) : Type 0 where
   pub most : (cap x y u v : ℕ) → R cap x y → R cap u v → R cap (max x u) (max y v)
   pub over : (cap k x y : ℕ) → R (max k 1 * cap) x y → R cap (quotient x k) (quotient y k)
 
-module _ (R : ℕ → ℕ → ℕ → Type 0) (kept : IsKeptByFormulas R) (a b : Words) (operands : (cap : ℕ) (o : Operand) → R cap (operand_value a o) (operand_value b o)) where
+module _ (R : ℕ → ℕ → ℕ → Type 0) (kept : IsKeptByFormulas R)
+    (a b : Words) (operands : (cap : ℕ) (o : Operand) → R cap (operand_value a o) (operand_value b o)) where
   pub record AreAlike (cap : ℕ) (f g : Frame) : Type 0 where
     pub most : R cap f.most g.most
     pub sum : R cap f.sum g.sum
@@ -88,13 +89,18 @@ module _ (R : ℕ → ℕ → ℕ → Type 0) (kept : IsKeptByFormulas R) (a b :
   AreAllAlike cap (f ∷ fs) (g ∷ gs) = AreAlike cap f g × AreAllAlike cap fs gs
 
   pub whole_alike : (cap : ℕ) (f g : Frame) → AreAlike cap f g → R cap (whole f) (whole g)
-  whole_alike cap f g l = kept.most cap f.most g.most (f.sum + f.product) (g.sum + g.product) l.most (kept.sum cap f.sum g.sum f.product g.product l.sum l.product)
+  whole_alike cap f g l = kept.most cap f.most g.most
+      (f.sum + f.product) (g.sum + g.product) l.most (kept.sum cap f.sum g.sum f.product g.product l.sum l.product)
 
   nothing_alike : (cap : ℕ) → AreAlike cap (record { most = 0; sum = 0; product = 1 }) (record { most = 0; sum = 0; product = 1 })
   nothing_alike cap = record { most = kept.same cap 0; sum = kept.same cap 0; product = kept.same cap 1 }
 
   less_alike : (cap more : ℕ) (f g : Frame) → cap ≤ more → AreAlike more f g → AreAlike cap f g
-  less_alike cap more f g l h = record { most = kept.less cap more f.most g.most l h.most; sum = kept.less cap more f.sum g.sum l h.sum; product = kept.less cap more f.product g.product l h.product }
+  less_alike cap more f g l h = record {
+    most = kept.less cap more f.most g.most l h.most;
+    sum = kept.less cap more f.sum g.sum l h.sum;
+    product = kept.less cap more f.product g.product l h.product;
+  }
 
   all_less_alike : (cap more : ℕ) (fs gs : List Frame) → cap ≤ more → AreAllAlike more fs gs → AreAllAlike cap fs gs
   all_less_alike cap more [] [] l h = tt
@@ -103,10 +109,15 @@ module _ (R : ℕ → ℕ → ℕ → Type 0) (kept : IsKeptByFormulas R) (a b :
   all_less_alike cap more (f ∷ fs) (g ∷ gs) l h = (less_alike cap more f g l h.0, all_less_alike cap more fs gs l h.1)
 
   over_alike : (cap k : ℕ) (f g : Frame) → AreAlike (max k 1 * cap) f g
-      → AreAlike cap (record { most = f.most; sum = f.sum; product = quotient f.product k }) (record { most = g.most; sum = g.sum; product = quotient g.product k })
+      → AreAlike cap (record { most = f.most; sum = f.sum; product = quotient f.product k })
+      (record { most = g.most; sum = g.sum; product = quotient g.product k })
   over_alike cap k f g h =
       let l : cap ≤ max k 1 * cap = more_times cap k in
-      record { most = kept.less cap (max k 1 * cap) f.most g.most l h.most; sum = kept.less cap (max k 1 * cap) f.sum g.sum l h.sum; product = kept.over cap k f.product g.product h.product }
+      record {
+        most = kept.less cap (max k 1 * cap) f.most g.most l h.most;
+        sum = kept.less cap (max k 1 * cap) f.sum g.sum l h.sum;
+        product = kept.over cap k f.product g.product h.product;
+      }
 
   -- the value between two parentheses, with what is around them
   closed_alike : (cap : ℕ) (f g : Frame) (fs gs : List Frame) → AreAlike cap f g → AreAllAlike cap fs gs
@@ -114,17 +125,32 @@ module _ (R : ℕ → ℕ → ℕ → Type 0) (kept : IsKeptByFormulas R) (a b :
   closed_alike cap f g [] [] h l = (h, l)
   closed_alike cap f g [] (y ∷ ys) h l = absurd l
   closed_alike cap f g (x ∷ xs) [] h l = absurd l
-  closed_alike cap f g (x ∷ xs) (y ∷ ys) h l =
-      (record { most = l.0.most; sum = l.0.sum; product = kept.product cap x.product y.product (whole f) (whole g) l.0.product (whole_alike cap f g h) }, l.1)
+  closed_alike cap f g (x ∷ xs) (y ∷ ys) h l = (
+    record {
+      most = l.0.most;
+      sum = l.0.sum;
+      product = kept.product cap x.product y.product (whole f) (whole g) l.0.product (whole_alike cap f g h);
+    },
+    l.1,
+  )
 
   -- the values of the same parts after what is alike
   pub value_alike : (cap : ℕ) (parts : List Part) (s t : Tally) → AreAlike (cap * divisors parts) s.here t.here
       → AreAllAlike (cap * divisors parts) s.around t.around → R cap (value_from a s parts) (value_from b t parts)
   value_alike cap [] s t h l = whole_alike cap s.here t.here (subst (λ c. AreAlike c s.here t.here) (mul-one cap) h)
   value_alike cap (Value o ∷ parts) s t h l = value_alike cap parts (with_part a s (Value o)) (with_part b t (Value o))
-      (record { most = h.most; sum = h.sum; product = kept.product (cap * divisors parts) s.here.product t.here.product (operand_value a o) (operand_value b o) h.product (operands (cap * divisors parts) o) }) l
+      (record {
+        most = h.most;
+        sum = h.sum;
+        product = kept.product (cap * divisors parts) s.here.product t.here.product
+            (operand_value a o) (operand_value b o) h.product (operands (cap * divisors parts) o);
+      }) l
   value_alike cap (Plus ∷ parts) s t h l = value_alike cap parts (with_part a s Plus) (with_part b t Plus)
-      (record { most = h.most; sum = kept.sum (cap * divisors parts) s.here.sum t.here.sum s.here.product t.here.product h.sum h.product; product = kept.same (cap * divisors parts) 1 }) l
+      (record {
+        most = h.most;
+        sum = kept.sum (cap * divisors parts) s.here.sum t.here.sum s.here.product t.here.product h.sum h.product;
+        product = kept.same (cap * divisors parts) 1;
+      }) l
   value_alike cap (Times ∷ parts) s t h l = value_alike cap parts s t h l
   value_alike cap (Over k ∷ parts) s t h l =
       let c = cap * divisors parts in
@@ -132,10 +158,16 @@ module _ (R : ℕ → ℕ → ℕ → Type 0) (kept : IsKeptByFormulas R) (a b :
       value_alike cap parts (with_part a s (Over k)) (with_part b t (Over k))
       (over_alike c k s.here t.here (subst (λ c. AreAlike c s.here t.here) e h))
       (all_less_alike c (max k 1 * c) s.around t.around (more_times c k) (subst (λ c. AreAllAlike c s.around t.around) e l))
-  value_alike cap (Open ∷ parts) s t h l = value_alike cap parts (with_part a s Open) (with_part b t Open) (nothing_alike (cap * divisors parts)) (h, l)
-  value_alike cap (Greatest ∷ parts) s t h l = value_alike cap parts (with_part a s Greatest) (with_part b t Greatest) (nothing_alike (cap * divisors parts)) (h, l)
-  value_alike cap (Comma ∷ parts) s t h l = value_alike cap parts (with_part a s Comma) (with_part b t Comma)
-      (record { most = whole_alike (cap * divisors parts) s.here t.here h; sum = kept.same (cap * divisors parts) 0; product = kept.same (cap * divisors parts) 1 }) l
+  value_alike cap (Open ∷ parts) s t h l = value_alike cap parts
+      (with_part a s Open) (with_part b t Open) (nothing_alike (cap * divisors parts)) (h, l)
+  value_alike cap (Greatest ∷ parts) s t h l = value_alike cap parts
+      (with_part a s Greatest) (with_part b t Greatest) (nothing_alike (cap * divisors parts)) (h, l)
+  value_alike cap (Comma ∷ parts) s t h l = value_alike cap parts (with_part a s Comma) (with_part b t Comma) (record {
+    most = whole_alike
+        (cap * divisors parts) s.here t.here h;
+    sum = kept.same (cap * divisors parts) 0;
+    product = kept.same (cap * divisors parts) 1;
+  }) l
   value_alike cap (Close ∷ parts) s t h l =
       let c = closed_alike (cap * divisors parts) s.here t.here s.around t.around h l in
       value_alike cap parts (closed s.here s.around) (closed t.here t.around) c.0 c.1
@@ -151,7 +183,8 @@ at_most = record {
   over = λ cap k x y h. quotient_rises k x y h;
 }
 
-pub value_rises : (a b : Words) → ((o : Operand) → operand_value a o ≤ operand_value b o) → (parts : List Part) (t : Tally) → value_from a t parts ≤ value_from b t parts
+pub value_rises : (a b : Words) → ((o : Operand) → operand_value a o ≤ operand_value b o)
+    → (parts : List Part) (t : Tally) → value_from a t parts ≤ value_from b t parts
 value_rises a b l parts t = value_alike (λ cap x y. x ≤ y) at_most a b (λ cap o. l o) 1 parts t t
     (record { most = omega arith; sum = omega arith; product = omega arith }) (all_same t.around)
   where
@@ -165,24 +198,31 @@ near = record {
   less = λ cap more x y l h. omega (arith, l, h);
   same = λ cap x. refl;
   sum = λ cap x y u v h l. omega (arith, h, l);
-  product = λ cap x y u v h l. min_times x y u cap h ∙ ap (λ z. min z cap) (mul_comm y u) ∙ min_times u v y cap l ∙ ap (λ z. min z cap) (mul_comm v y);
+  product = λ cap x y u v h l. min_times x y u cap h
+      ∙ ap (λ z. min z cap) (mul_comm y u) ∙ min_times u v y cap l ∙ ap (λ z. min z cap) (mul_comm v y);
   most = λ cap x y u v h l. omega (arith, h, l);
   over = λ cap k x y h. min_quotient cap k x y h;
 }
 
-near_frames : (words : Words) (cap : ℕ) (fs gs : List Frame) → AreNearFrames cap fs gs → AreAllAlike (λ cap x y. min x cap ≡ min y cap) near words words (λ cap o. refl) cap fs gs
+near_frames : (words : Words) (cap : ℕ) (fs gs : List Frame)
+    → AreNearFrames cap fs gs → AreAllAlike (λ cap x y. min x cap ≡ min y cap) near words words (λ cap o. refl) cap fs gs
 near_frames words cap [] [] h = tt
 near_frames words cap [] (g ∷ gs) h = h
 near_frames words cap (f ∷ fs) [] h = h
-near_frames words cap (f ∷ fs) (g ∷ gs) h = (record { most = h.0.most; sum = h.0.sum; product = h.0.product }, near_frames words cap fs gs h.1)
+near_frames words cap (f ∷ fs) (g ∷ gs) h =
+    (record { most = h.0.most; sum = h.0.sum; product = h.0.product }, near_frames words cap fs gs h.1)
 
-pub value_near : (words : Words) (cap : ℕ) (parts : List Part) (s t : Tally) → IsNear (cap * divisors parts) s t → min (value_from words s parts) cap ≡ min (value_from words t parts) cap
+pub value_near : (words : Words) (cap : ℕ) (parts : List Part) (s t : Tally)
+    → IsNear (cap * divisors parts) s t → min (value_from words s parts) cap ≡ min (value_from words t parts) cap
 value_near words cap parts s t h = value_alike (λ cap x y. min x cap ≡ min y cap) near words words (λ cap o. refl) cap parts s t
-    (record { most = h.here.most; sum = h.here.sum; product = h.here.product }) (near_frames words (cap * divisors parts) s.around t.around h.around)
+    (record { most = h.here.most; sum = h.here.sum; product = h.here.product })
+    (near_frames words (cap * divisors parts) s.around t.around h.around)
 
 -- what is at a place, and what follows it
-pub drop_part : (rest : List Part) (k : ℕ) (d part : Part) → k < length rest → get_or rest k d ≡ part → drop k rest ≡ part ∷ drop (k + 1) rest
-drop_part rest k d part l e = drop-cons rest k d l ∙ ap (λ (p : Part). p ∷ drop (suc k) rest) e ∙ (let n : suc k ≡ k + 1 = omega arith in ap (λ i. part ∷ drop i rest) n)
+pub drop_part : (rest : List Part) (k : ℕ) (d part : Part)
+    → k < length rest → get_or rest k d ≡ part → drop k rest ≡ part ∷ drop (k + 1) rest
+drop_part rest k d part l e = drop-cons rest k d l
+    ∙ ap (λ (p : Part). p ∷ drop (suc k) rest) e ∙ (let n : suc k ≡ k + 1 = omega arith in ap (λ i. part ∷ drop i rest) n)
 
 -- fewer parts have no more divisors
 divisors_less : (part : Part) (rest : List Part) → divisors rest ≤ divisors (part ∷ rest)
@@ -214,11 +254,13 @@ near_same cap [] = tt
 near_same cap (f ∷ fs) = (record { most = refl; sum = refl; product = refl }, near_same cap fs)
 
 -- a value that is near may close its parentheses
-pub near_closed : (cap most : ℕ) (f outer : Frame) (w : ℕ) → cap ≤ most → IsNearFrame cap f (times_value outer (min w most)) → IsNearFrame cap f (times_value outer w)
+pub near_closed : (cap most : ℕ) (f outer : Frame) (w : ℕ)
+    → cap ≤ most → IsNearFrame cap f (times_value outer (min w most)) → IsNearFrame cap f (times_value outer w)
 near_closed cap most f outer w l near = record {
   most = near.most;
   sum = near.sum;
-  product = near.product ∙ ap (λ z. min z cap) (mul_comm outer.product (min w most)) ∙ min_times (min w most) w outer.product cap (near_end w most cap l) ∙ ap (λ z. min z cap) (mul_comm w outer.product);
+  product = near.product ∙ ap (λ z. min z cap) (mul_comm outer.product (min w most))
+      ∙ min_times (min w most) w outer.product cap (near_end w most cap l) ∙ ap (λ z. min z cap) (mul_comm w outer.product);
 }
 
 -- the innermost frame around comes first

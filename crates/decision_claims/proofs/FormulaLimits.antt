@@ -53,7 +53,8 @@ refused why m e = absurd (true≢false (sym (ap is_ok e)))
 made : (s : State) (a m : Move) → okay a ≡ okay m → IsMade s a → IsMade s m
 made s a m e h = let same : a ≡ m = cc in subst (IsMade s) same h
 
-made-opened : (s : State) (kind : ℕ) (p : Part) (m : Move) → ((next : State) → HasOpened s next → Makes s (Some p) next) → opened s kind p ≡ okay m → IsMade s m
+made-opened : (s : State) (kind : ℕ) (p : Part) (m : Move)
+    → ((next : State) → HasOpened s next → Makes s (Some p) next) → opened s kind p ≡ okay m → IsMade s m
 unfolding opened
 made-opened s kind p m is = go (nat_lt s.groups (2 ^ 32)) refl where
   go : (b : Bool) → nat_lt s.groups (2 ^ 32) ≡ b
@@ -206,7 +207,8 @@ record IsSound (s : State) (parts : List Part) : Type 0 where
   pub few : s.divisors < 2 ^ 32
 
 -- a part that opens and closes nothing, and divides nothing
-plain : (s next : State) (parts : List Part) (p : Part) → Fits (depth_after 0 parts) (p ∷ []) → depth_after (depth_after 0 parts) (p ∷ []) ≡ depth_after 0 parts → divisors (p ∷ []) ≡ 1
+plain : (s next : State) (parts : List Part) (p : Part)
+    → Fits (depth_after 0 parts) (p ∷ []) → depth_after (depth_after 0 parts) (p ∷ []) ≡ depth_after 0 parts → divisors (p ∷ []) ≡ 1
     → (next.groups ≡ s.groups) × (next.divisors ≡ s.divisors) → IsSound s parts → IsSound next (parts ++ p ∷ [])
 plain s next parts p fits same one kept sound = record {
   fits = Fits-append 0 parts (p ∷ []) sound.fits fits;
@@ -216,13 +218,14 @@ plain s next parts p fits same one kept sound = record {
 }
 
 -- a parenthesis that opens
-deeper : (s next : State) (parts : List Part) (p : Part) → ((d : ℕ) → d < 32 → Fits d (p ∷ [])) → ((d : ℕ) → depth_after d (p ∷ []) ≡ d + 1) → divisors (p ∷ []) ≡ 1
-    → HasOpened s next → IsSound s parts → IsSound next (parts ++ p ∷ [])
+deeper : (s next : State) (parts : List Part) (p : Part) → ((d : ℕ) → d < 32 → Fits d (p ∷ [])) → ((d : ℕ) → depth_after d (p ∷ []) ≡ d + 1)
+    → divisors (p ∷ []) ≡ 1 → HasOpened s next → IsSound s parts → IsSound next (parts ++ p ∷ [])
 deeper s next parts p fits more one h sound =
     let d = depth_after 0 parts in
     let low = sound.depth in
     let room = h.room in
-    let shallow : d < 32 = elim (cases_lt d 32) [ inl l ↦ l | inr l ↦ absurd (let wide : 2 ^ 32 ≤ 2 ^ d = pow_mono l in omega (arith, wide, low, room)) ] in
+    let shallow : d < 32 =
+    elim (cases_lt d 32) [ inl l ↦ l | inr l ↦ absurd (let wide : 2 ^ 32 ≤ 2 ^ d = pow_mono l in omega (arith, wide, low, room)) ] in
     let twice = pow_more 2 d in
     let groups = h.groups in
     record {
@@ -233,7 +236,8 @@ deeper s next parts p fits more one h sound =
     }
 
 -- a parenthesis that closes
-shallower : (s next : State) (parts : List Part) → (next.divisors ≡ s.divisors) × (s.groups < next.groups * 2 + 2) × (1 < s.groups) → IsSound s parts → IsSound next (parts ++ Close ∷ [])
+shallower : (s next : State) (parts : List Part) → (next.divisors ≡ s.divisors) × (s.groups < next.groups * 2 + 2) × (1 < s.groups)
+    → IsSound s parts → IsSound next (parts ++ Close ∷ [])
 shallower s next parts h sound = record {
   fits = Fits-append 0 parts (Close ∷ []) sound.fits tt;
   depth = rw (depth_after-append 0 parts (Close ∷ [])) (less (depth_after 0 parts) sound.depth);
@@ -256,15 +260,18 @@ finer : (s next : State) (parts : List Part) (k : ℕ) → (next.groups ≡ s.gr
 finer s next parts k h sound = record {
   fits = Fits-append 0 parts (Over k ∷ []) sound.fits tt;
   depth = rw (depth_after-append 0 parts (Over k ∷ []), h.0) sound.depth;
-  divisors = rw (divisors-append parts (Over k ∷ []), sound.divisors) (ap (λ n. s.divisors * n) (mul-one (max k 1) ∙ some k (rw h.1 at h.2)) ∙ sym h.1);
+  divisors = rw (divisors-append parts (Over k ∷ []), sound.divisors)
+      (ap (λ n. s.divisors * n) (mul-one (max k 1) ∙ some k (rw h.1 at h.2)) ∙ sym h.1);
   few = h.3;
 } where
   some : (k : ℕ) → 0 < s.divisors * k → max k 1 ≡ k
   some zero l = absurd (omega (arith, l))
   some (suc k) l = omega arith
 
-sound-part : (s next : State) (parts : List Part) (p : Option Part) → Makes s p next → IsSound s parts → IsSound next (parts ++ option_to_list p)
-sound-part s next parts None h sound = rw (append-nil parts) (record { fits = sound.fits; depth = rw h.0 sound.depth; divisors = rw h.1 sound.divisors; few = rw h.1 sound.few })
+sound-part : (s next : State) (parts : List Part) (p : Option Part)
+    → Makes s p next → IsSound s parts → IsSound next (parts ++ option_to_list p)
+sound-part s next parts None h sound = rw (append-nil parts)
+    (record { fits = sound.fits; depth = rw h.0 sound.depth; divisors = rw h.1 sound.divisors; few = rw h.1 sound.few })
 sound-part s next parts (Some (Value o)) h sound = plain s next parts (Value o) tt refl refl h sound
 sound-part s next parts (Some Plus) h sound = plain s next parts Plus tt refl refl h sound
 sound-part s next parts (Some Times) h sound = plain s next parts Times tt refl refl h sound
@@ -286,8 +293,8 @@ sound-read : (ls : List Lexeme) (r : Result Reading BadFormula) (read : Reading)
     → IsSound read.state read.parts
 sound-read [] r read sound e = sound read e
 sound-read (l ∷ ls) (Err why) read sound e = absurd (true≢false (sym (ap is_ok (sym (read_on-refused why ls) ∙ e))))
-sound-read (l ∷ ls) (Ok start) read sound e = sound-read ls (taken (Ok start) l) read
-    (λ next is. sound-moved start.state start.parts (next_by start.state.need start.state l) next (λ m h. made-next start.state.need start.state l m h) (sound start refl) is) e
+sound-read (l ∷ ls) (Ok start) read sound e = sound-read ls (taken (Ok start) l) read (λ next is. sound-moved start.state start.parts
+    (next_by start.state.need start.state l) next (λ m h. made-next start.state.need start.state l m h) (sound start refl) is) e
 
 -- so it makes a formula
 pub read_limits : (ls : List Lexeme) (read : Reading) → read_on (Ok begun) ls ≡ Ok read → IsWithinLimits read.parts

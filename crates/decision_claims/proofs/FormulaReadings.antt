@@ -29,7 +29,8 @@ two_parts : (parts : List Part) (p : Part) → parts ≢ [] → 1 < length (part
 two_parts [] p some = absurd (some refl)
 two_parts (q ∷ parts) p some = omega (arith, length-append (q ∷ parts) (p ∷ []))
 
-pub second_part : (r : Reading) (l : Lexeme) (m : Move) (p : Part) → next_by r.state.need r.state l ≡ Ok m → m.part ≡ Some p → r.parts ≢ [] → IsSecond r (l ∷ [])
+pub second_part : (r : Reading) (l : Lexeme) (m : Move) (p : Part)
+    → next_by r.state.need r.state l ≡ Ok m → m.part ≡ Some p → r.parts ≢ [] → IsSecond r (l ∷ [])
 second_part r l m p e at some = record {
   reading = record { state = m.state; parts = r.parts ++ option_to_list m.part };
   read = ap (moved r.parts) e;
@@ -37,18 +38,21 @@ second_part r l m p e at some = record {
 }
 
 -- the lexemes of a text: those of its first piece, and of the text from its end on
-pub first_lexemes : (text : List ℕ) (end : ℕ) → IsPieceEnd text 0 end → lexemes text ≡ word_between (take end text) ++ lexemes_of (pieces (drop end text)).rest
+pub first_lexemes : (text : List ℕ) (end : ℕ) → IsPieceEnd text 0 end
+    → lexemes text ≡ word_between (take end text) ++ lexemes_of (pieces (drop end text)).rest
 first_lexemes text end e = let here = first_here text end e in rw (here.0, here.1) refl
 
 -- and those from a sign on: the sign, the piece behind it, and those from its end on
-pub next_lexemes : (text : List ℕ) (end next : ℕ) → end < length text → is_sign (slice_index text end) ≡ true → IsPieceEnd text (end + 1) next
-    → lexemes_of (pieces (drop end text)).rest ≡ sign_lexeme (get_or text end 0) ∷ (word_between (slice_range text (end + 1) next) ++ lexemes_of (pieces (drop next text)).rest)
+pub next_lexemes : (text : List ℕ) (end next : ℕ) → end < length text
+    → is_sign (slice_index text end) ≡ true → IsPieceEnd text (end + 1) next → lexemes_of (pieces (drop end text)).rest
+    ≡ sign_lexeme (get_or text end 0) ∷ (word_between (slice_range text (end + 1) next) ++ lexemes_of (pieces (drop next text)).rest)
 next_lexemes text end next l s e =
     let here = piece_here text (end + 1) next e in
     ap lexemes_of (sign_here text end l s) ∙ rw (here.0, here.1) refl
 
 -- some lexemes more were read
-pub read_past : (before ls : List Lexeme) (r q : Reading) → read_on (Ok begun) before ≡ Ok r → read_on (Ok r) ls ≡ Ok q → read_on (Ok begun) (before ++ ls) ≡ Ok q
+pub read_past : (before ls : List Lexeme) (r q : Reading)
+    → read_on (Ok begun) before ≡ Ok r → read_on (Ok r) ls ≡ Ok q → read_on (Ok begun) (before ++ ls) ≡ Ok q
 read_past before ls r q read e = read_on-append (Ok begun) before ls ∙ ap (λ x. read_on x ls) read ∙ e
 
 -- some lexemes are refused, and so the text
@@ -56,11 +60,12 @@ pub refused_at : (text : List ℕ) (before ls after : List Lexeme) (r : Reading)
     → lexemes text ≡ before ++ (ls ++ after) → read_on (Ok begun) before ≡ Ok r → read_on (Ok r) ls ≡ Err why
     → read_formula text ≡ Err why
 refused_at text before ls after r why whole read e =
-    ap finished (ap (read_on (Ok begun)) whole ∙ read_on-append (Ok begun) before (ls ++ after) ∙ ap (λ x. read_on x (ls ++ after)) read ∙ read_on-append (Ok r) ls after
-    ∙ ap (λ x. read_on x after) e ∙ read_on-refused why after)
+    ap finished (ap (read_on (Ok begun)) whole ∙ read_on-append (Ok begun) before (ls ++ after)
+    ∙ ap (λ x. read_on x (ls ++ after)) read ∙ read_on-append (Ok r) ls after ∙ ap (λ x. read_on x after) e ∙ read_on-refused why after)
 
 -- some lexemes need memory, and so the text
-pub memory_at : (text : List ℕ) (before ls after : List Lexeme) (r : Reading) → lexemes text ≡ before ++ (ls ++ after) → read_on (Ok begun) before ≡ Ok r → IsSecond r ls → NeedsMemory text
+pub memory_at : (text : List ℕ) (before ls after : List Lexeme) (r : Reading)
+    → lexemes text ≡ before ++ (ls ++ after) → read_on (Ok begun) before ≡ Ok r → IsSecond r ls → NeedsMemory text
 memory_at text before ls after r whole read second = record {
   before = before ++ ls;
   after = after;
@@ -82,7 +87,8 @@ read_whole text before end r whole past read =
 pub sign_counts : (x : ℕ) → counted (sign_lexeme x) ≡ 0
 unfolding sign_lexeme
 sign_counts x = go (x == 43) (x == 42) (x == 47) (x == 40) (x == 44) where
-  go : (a b c d e : Bool) → counted (if a then Plus else (if b then Times else (if c then Slash else (if d then Open else (if e then Comma else Close))))) ≡ 0
+  go : (a b c d e : Bool)
+      → counted (if a then Plus else (if b then Times else (if c then Slash else (if d then Open else (if e then Comma else Close))))) ≡ 0
   go true b c d e = refl
   go false true c d e = refl
   go false false true d e = refl

@@ -16,8 +16,11 @@ min_times_all [] v w cap e = e
 min_times_all (c ∷ factors) v w cap e = min_times_all factors (v * c) (w * c) cap (min_times v w c cap e)
 
 -- one factor more
-pub product_next : (factors : List ℕ) (v c most cap : ℕ) → cap ≤ most → min (times_all factors (min (min (v * c) most) cap)) cap ≡ min (times_all (c ∷ factors) v) cap
+pub product_next : (factors : List ℕ) (v c most cap : ℕ)
+    → cap ≤ most → min (times_all factors (min (min (v * c) most) cap)) cap ≡ min (times_all (c ∷ factors) v) cap
 product_next factors v c most cap l = min_times_all factors (min (min (v * c) most) cap) (v * c) cap (omega (arith, l))
 
-pub is_times : (c : ℕ) (factors : List ℕ) (parts : List Part) → IsTimes c (record { factors = factors; parts = parts }) (record { factors = factors ++ c ∷ []; parts = parts })
-is_times c factors parts = record { each = λ words. times_all-push factors c (value_from words (record { here = nothing; around = [] }) parts) }
+pub is_times : (c : ℕ) (factors : List ℕ) (parts : List Part)
+    → IsTimes c (record { factors = factors; parts = parts }) (record { factors = factors ++ c ∷ []; parts = parts })
+is_times c factors parts =
+    record { each = λ words. times_all-push factors c (value_from words (record { here = nothing; around = [] }) parts) }

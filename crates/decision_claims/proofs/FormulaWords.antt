@@ -24,7 +24,8 @@ unfolding number_of
 no_number word none = go (bytes_eq (decimal (digits_value 10 word)) word) (nat_lt (digits_value 10 word) (2 ^ 64)) refl refl where
   go : (a b : Bool) → bytes_eq (decimal (digits_value 10 word)) word ≡ a → nat_lt (digits_value 10 word) (2 ^ 64) ≡ b
       → (if (a && b) then Some (digits_value 10 word) else None) ≡ None
-  go true true e f = absurd (none (digits_value 10 word) (grind (arith, nat_tests)) (sym ((bytes_eq-Decides (decimal (digits_value 10 word)) word).0 e)))
+  go true true e f =
+      absurd (none (digits_value 10 word) (grind (arith, nat_tests)) (sym ((bytes_eq-Decides (decimal (digits_value 10 word)) word).0 e)))
   go true false e f = refl
   go false b e f = refl
 

@@ -20,19 +20,23 @@ no_row = record { gst = 0; delta = 0; phi = 0; miss = None; gap = None }
 pub IsKept-later : (set : ℕ) (trace : Recorded) (decisions : List Decision) (y : ℕ) → trace.last < y → IsKept set trace decisions y
 IsKept-later set trace decisions y l = record { when_due = λ m. absurd (omega (arith, l, m)) }
 
-pub IsKept-decided : (set : ℕ) (trace : Recorded) (decisions : List Decision) (x y : ℕ) → x ≡ y → HaveDecidedBy set decisions x → IsKept set trace decisions y
+pub IsKept-decided : (set : ℕ) (trace : Recorded) (decisions : List Decision) (x y : ℕ)
+    → x ≡ y → HaveDecidedBy set decisions x → IsKept set trace decisions y
 IsKept-decided set trace decisions x y e h = record { when_due = λ m. subst (HaveDecidedBy set decisions) e h }
 
 -- one that is due, by which a member hadn't decided, isn't
-pub IsKept-refuted : (set : ℕ) (trace : Recorded) (decisions : List Decision) (y p : ℕ) → y ≤ trace.last → IsLeastUndecided set decisions y p → IsKept set trace decisions y → ⊥
+pub IsKept-refuted : (set : ℕ) (trace : Recorded) (decisions : List Decision) (y p : ℕ)
+    → y ≤ trace.last → IsLeastUndecided set decisions y p → IsKept set trace decisions y → ⊥
 IsKept-refuted set trace decisions y p l u k = u.undecided ((k.when_due l).each p u.member)
 
 -- the rows before place k keep the claim
 abbrev pub KeptBefore : ℕ → Recorded → List Row → List Decision → (Triple → ℕ) → ℕ → Type 0
-KeptBefore set trace rows decisions due k = (j : ℕ) (r : Row) → j < k → slice_get rows j ≡ Some r → IsKept set trace decisions (due (triple_of r))
+KeptBefore set trace rows decisions due k = (j : ℕ) (r : Row)
+    → j < k → slice_get rows j ≡ Some r → IsKept set trace decisions (due (triple_of r))
 
 pub kept_next : (set : ℕ) (trace : Recorded) (rows : List Row) (decisions : List Decision) (due : Triple → ℕ) (k : ℕ) → k < length rows
-    → IsKept set trace decisions (due (triple_of (get_or rows k no_row))) → KeptBefore set trace rows decisions due k → KeptBefore set trace rows decisions due (k + 1)
+    → IsKept set trace decisions (due (triple_of (get_or rows k no_row)))
+    → KeptBefore set trace rows decisions due k → KeptBefore set trace rows decisions due (k + 1)
 kept_next set trace rows decisions due k inside here before = λ j r l e. elim (cases_eq j k) [
   | inl same ↦ (
       let there = subst (λ i. slice_get rows i ≡ Some r) same e in
@@ -43,18 +47,19 @@ kept_next set trace rows decisions due k inside here before = λ j r l e. elim (
 
 pub kept_all : (set : ℕ) (trace : Recorded) (rows : List Row) (decisions : List Decision) (due : Triple → ℕ) (k : ℕ) → length rows ≤ k
     → KeptBefore set trace rows decisions due k → AllKept set trace rows decisions due
-kept_all set trace rows decisions due k past before = record { each = λ j r e. before j r (let l = slice_get_within rows j r e in omega (arith, l, past)) e }
+kept_all set trace rows decisions due k past before =
+    record { each = λ j r e. before j r (let l = slice_get_within rows j r e in omega (arith, l, past)) e }
 
 -- a row that was found late refutes the claim of all rows
 pub AllKept-refuted : (set : ℕ) (trace : Recorded) (rows : List Row) (decisions : List Decision) (due : Triple → ℕ) (w : Late)
     → IsFirstLate set trace rows decisions due w → AllKept set trace rows decisions due → ⊥
-AllKept-refuted set trace rows decisions due w late all =
-    IsKept-refuted set trace decisions w.deadline w.proc late.due late.proc (subst (IsKept set trace decisions) (sym late.by) (all.each late.place w.row late.row))
+AllKept-refuted set trace rows decisions due w late all = IsKept-refuted set trace decisions w.deadline w.proc late.due late.proc
+    (subst (IsKept set trace decisions) (sym late.by) (all.each late.place w.row late.row))
 
 -- the row at place k is the first one, if a member hadn't decided by its deadline
-pub late_at : (set : ℕ) (run : Recorded) (rows : List Row) (decisions : List Decision) (due : Triple → ℕ) (k y p end : ℕ) → k < length rows → run.last ≡ end
-    → (y ≡ due (triple_of (get_or rows k no_row))) × (y ≤ end) → IsLeastUndecided set decisions y p → KeptBefore set run rows decisions due k
-    → IsFirstLate set run rows decisions due (record { row = get_or rows k no_row; deadline = y; proc = p })
+pub late_at : (set : ℕ) (run : Recorded) (rows : List Row) (decisions : List Decision) (due : Triple → ℕ) (k y p end : ℕ) → k < length rows
+    → run.last ≡ end → (y ≡ due (triple_of (get_or rows k no_row))) × (y ≤ end) → IsLeastUndecided set decisions y p → KeptBefore
+    set run rows decisions due k → IsFirstLate set run rows decisions due (record { row = get_or rows k no_row; deadline = y; proc = p })
 late_at set run rows decisions due k y p end inside ends of_row undecided before = record {
   place = k;
   row = slice_get-get_or rows k no_row inside;
@@ -92,9 +97,10 @@ one_more P rows k inside here before j r l e = elim (cases_eq j k) [
 ]
 
 -- a row that is later changes nothing
-pub due_later : (trace : Recorded) (rows : List Row) (due : Triple → ℕ) (k : ℕ) (least : Option ℕ) → k < length rows → trace.last < due (triple_of (get_or rows k no_row))
-    → DueBefore trace rows due k least → DueBefore trace rows due (k + 1) least
-due_later trace rows due k None inside later b = record { each = one_more (λ (r : Row). trace.last < due (triple_of r)) rows k inside later b.each }
+pub due_later : (trace : Recorded) (rows : List Row) (due : Triple → ℕ) (k : ℕ) (least : Option ℕ) → k < length rows
+    → trace.last < due (triple_of (get_or rows k no_row)) → DueBefore trace rows due k least → DueBefore trace rows due (k + 1) least
+due_later trace rows due k None inside later b =
+    record { each = one_more (λ (r : Row). trace.last < due (triple_of r)) rows k inside later b.each }
 due_later trace rows due k (Some y) inside later b = record {
   place = b.place;
   row = b.row;
@@ -105,7 +111,8 @@ due_later trace rows due k (Some y) inside later b = record {
 }
 
 -- one that is due may be the least
-pub due_here : (trace : Recorded) (rows : List Row) (due : Triple → ℕ) (k y z : ℕ) (least : Option ℕ) → k < length rows → y ≡ due (triple_of (get_or rows k no_row)) → y ≤ trace.last
+pub due_here : (trace : Recorded) (rows : List Row) (due : Triple → ℕ) (k y z : ℕ) (least : Option ℕ)
+    → k < length rows → y ≡ due (triple_of (get_or rows k no_row)) → y ≤ trace.last
     → MatchOption least (z ≡ y) (λ before. z ≡ min before y) → DueBefore trace rows due k least → DueBefore trace rows due (k + 1) (Some z)
 due_here trace rows due k y z None inside of_row in_time e b = record {
   place = k;
@@ -113,7 +120,8 @@ due_here trace rows due k y z None inside of_row in_time e b = record {
   there = slice_get-get_or rows k no_row inside;
   of_row = e ∙ of_row;
   in_time = omega (arith, e, in_time);
-  least = one_more (λ (r : Row). z ≤ due (triple_of r)) rows k inside (omega (arith, e, of_row)) (λ j r l there. (let m = b.each j r l there in omega (arith, m, e, in_time)));
+  least = one_more (λ (r : Row). z ≤ due (triple_of r)) rows k inside
+      (omega (arith, e, of_row)) (λ j r l there. (let m = b.each j r l there in omega (arith, m, e, in_time)));
 }
 due_here trace rows due k y z (Some before) inside of_row in_time e b = elim (cases_lt before y) [
   | inl l ↦ (let same : before ≡ z = omega (arith, e, l) in record {
@@ -122,7 +130,8 @@ due_here trace rows due k y z (Some before) inside of_row in_time e b = elim (ca
     there = b.there;
     of_row = sym same ∙ b.of_row;
     in_time = (let m = b.in_time in omega (arith, m, same));
-    least = one_more (λ (r : Row). z ≤ due (triple_of r)) rows k inside (omega (arith, e, of_row)) (λ j r m there. (let n = b.least j r m there in omega (arith, n, same)));
+    least = one_more (λ (r : Row). z ≤ due (triple_of r)) rows k inside
+        (omega (arith, e, of_row)) (λ j r m there. (let n = b.least j r m there in omega (arith, n, same)));
   })
   | inr l ↦ (let same : z ≡ y = omega (arith, e, l) in record {
     place = k;
@@ -130,13 +139,15 @@ due_here trace rows due k y z (Some before) inside of_row in_time e b = elim (ca
     there = slice_get-get_or rows k no_row inside;
     of_row = same ∙ of_row;
     in_time = omega (arith, same, in_time);
-    least = one_more (λ (r : Row). z ≤ due (triple_of r)) rows k inside (omega (arith, e, of_row)) (λ j r m there. (let n = b.least j r m there in omega (arith, n, e)));
+    least = one_more (λ (r : Row). z ≤ due (triple_of r)) rows k inside
+        (omega (arith, e, of_row)) (λ j r m there. (let n = b.least j r m there in omega (arith, n, e)));
   })
 ]
 
-pub due_all : (trace : Recorded) (rows : List Row) (due : Triple → ℕ) (k : ℕ) (least : Option ℕ) → length rows ≤ k → DueBefore trace rows due k least
-    → MatchOption least (AreAllLater trace rows due) (IsLeastDue trace rows due)
-due_all trace rows due k None past b = record { each = λ j r e. b.each j r (let l = slice_get_within rows j r e in omega (arith, l, past)) e }
+pub due_all : (trace : Recorded) (rows : List Row) (due : Triple → ℕ) (k : ℕ) (least : Option ℕ)
+    → length rows ≤ k → DueBefore trace rows due k least → MatchOption least (AreAllLater trace rows due) (IsLeastDue trace rows due)
+due_all trace rows due k None past b =
+    record { each = λ j r e. b.each j r (let l = slice_get_within rows j r e in omega (arith, l, past)) e }
 due_all trace rows due k (Some y) past b = record {
   place = b.place;
   row = b.row;
@@ -147,7 +158,7 @@ due_all trace rows due k (Some y) past b = record {
 }
 
 -- if the rows are kept, all had decided by the least deadline that is due
-pub decided_by_least : (set : ℕ) (trace : Recorded) (rows : List Row) (decisions : List Decision) (due : Triple → ℕ) (y : ℕ) → AllKept set trace rows decisions due
-    → IsLeastDue trace rows due y → HaveDecidedBy set decisions y
-decided_by_least set trace rows decisions due y kept least =
-    subst (HaveDecidedBy set decisions) (sym least.of_row) ((kept.each least.place least.row least.there).when_due (let e = least.of_row in let l = least.due in omega (arith, e, l)))
+pub decided_by_least : (set : ℕ) (trace : Recorded) (rows : List Row) (decisions : List Decision) (due : Triple → ℕ) (y : ℕ)
+    → AllKept set trace rows decisions due → IsLeastDue trace rows due y → HaveDecidedBy set decisions y
+decided_by_least set trace rows decisions due y kept least = subst (HaveDecidedBy set decisions) (sym least.of_row)
+    ((kept.each least.place least.row least.there).when_due (let e = least.of_row in let l = least.due in omega (arith, e, l)))

@@ -162,7 +162,8 @@ comma-bound k (Some r) s f l b = (l, f.1, b)
 
 -- four lists with a fifth behind them
 behind : (a b c d e : List Part) → (a ++ (b ++ (c ++ d))) ++ e ≡ a ++ (b ++ (c ++ (d ++ e)))
-behind a b c d e = append_assoc a (b ++ (c ++ d)) e ∙ ap (λ (l : List Part). a ++ l) (append_assoc b (c ++ d) e ∙ ap (λ (l : List Part). b ++ l) (append_assoc c d e))
+behind a b c d e = append_assoc a (b ++ (c ++ d)) e
+    ∙ ap (λ (l : List Part). a ++ l) (append_assoc b (c ++ d) e ∙ ap (λ (l : List Part). b ++ l) (append_assoc c d e))
 
 -- an operand comes
 operand-came : (g : ℕ) (parts : List Part) (o : Tree) → 3 ≤ binding o → IsBound o → Waits g parts → Stands g (parts ++ parts_of o)
@@ -180,7 +181,8 @@ operand-came g parts o l b w =
       close = made.0;
       bound = made.1;
       groups = w.groups;
-      parts_are = ap (λ (x : List Part). x ++ parts_of o) w.parts_are ∙ behind (parts_before w.around) (before_comma w.begun.row) (before_plus w.begun.sum) (before_times p) (parts_of o)
+      parts_are = ap (λ (x : List Part). x ++ parts_of o) w.parts_are
+          ∙ behind (parts_before w.around) (before_comma w.begun.row) (before_plus w.begun.sum) (before_times p) (parts_of o)
           ∙ ap (λ (x : List Part). parts_before w.around ++ (before_comma w.begun.row ++ (before_plus w.begun.sum ++ x))) (times-parts p o);
     }
 
@@ -192,7 +194,8 @@ group-opens g parts k w = record {
   around_fits = (w.around_fits, w.fits);
   fits = record { row = tt; sum = tt; product = tt };
   groups = ap (λ n. n * 2 + digit k) w.groups;
-  parts_are = ap (λ (x : List Part). x ++ opener k ∷ []) w.parts_are ∙ sym (append-nil ((parts_before w.around ++ waiting w.begun) ++ opener k ∷ []));
+  parts_are = ap (λ (x : List Part). x ++ opener k ∷ []) w.parts_are
+      ∙ sym (append-nil ((parts_before w.around ++ waiting w.begun) ++ opener k ∷ []));
 }
 
 -- a star comes
@@ -203,19 +206,21 @@ star-came g parts s = record {
   around_fits = s.around_fits;
   fits = record { row = s.row_fits; sum = s.sum_fits; product = (s.close, s.bound) };
   groups = s.groups;
-  parts_are = ap (λ (x : List Part). x ++ Times ∷ []) s.parts_are ∙ behind (parts_before s.around) (before_comma s.row) (before_plus s.sum) (parts_of s.product) (Times ∷ []);
+  parts_are = ap (λ (x : List Part). x ++ Times ∷ []) s.parts_are
+      ∙ behind (parts_before s.around) (before_comma s.row) (before_plus s.sum) (parts_of s.product) (Times ∷ []);
 }
 
 -- the sum that is there, behind its row
-sum-stands : (g : ℕ) (parts : List Part) (s : Stands g parts) (e : List Part) → parts ++ e ≡ parts_before s.around ++ (before_comma s.row ++ (parts_of (plus s.sum s.product) ++ e))
-sum-stands g parts s e =
-    ap (λ (x : List Part). x ++ e) s.parts_are ∙ behind (parts_before s.around) (before_comma s.row) (before_plus s.sum) (parts_of s.product) e
-    ∙ ap (λ (x : List Part). parts_before s.around ++ (before_comma s.row ++ x)) (sym (append_assoc (before_plus s.sum) (parts_of s.product) e) ∙ ap (λ (x : List Part). x ++ e) (plus-parts s.sum s.product))
+sum-stands : (g : ℕ) (parts : List Part) (s : Stands g parts) (e : List Part)
+    → parts ++ e ≡ parts_before s.around ++ (before_comma s.row ++ (parts_of (plus s.sum s.product) ++ e))
+sum-stands g parts s e = ap (λ (x : List Part). x ++ e) s.parts_are ∙ behind (parts_before s.around) (before_comma s.row)
+    (before_plus s.sum) (parts_of s.product) e ∙ ap (λ (x : List Part). parts_before s.around ++ (before_comma s.row ++ x))
+    (sym (append_assoc (before_plus s.sum) (parts_of s.product) e) ∙ ap (λ (x : List Part). x ++ e) (plus-parts s.sum s.product))
 
-row-stands : (g : ℕ) (parts : List Part) (s : Stands g parts) (e : List Part) → parts ++ e ≡ parts_before s.around ++ (parts_of (comma s.row (plus s.sum s.product)) ++ e)
-row-stands g parts s e =
-    sum-stands g parts s e
-    ∙ ap (λ (x : List Part). parts_before s.around ++ x) (sym (append_assoc (before_comma s.row) (parts_of (plus s.sum s.product)) e) ∙ ap (λ (x : List Part). x ++ e) (comma-parts s.row (plus s.sum s.product)))
+row-stands : (g : ℕ) (parts : List Part) (s : Stands g parts) (e : List Part)
+    → parts ++ e ≡ parts_before s.around ++ (parts_of (comma s.row (plus s.sum s.product)) ++ e)
+row-stands g parts s e = sum-stands g parts s e ∙ ap (λ (x : List Part). parts_before s.around ++ x) (sym (append_assoc (before_comma s.row)
+    (parts_of (plus s.sum s.product)) e) ∙ ap (λ (x : List Part). x ++ e) (comma-parts s.row (plus s.sum s.product)))
 
 -- a plus comes
 plus-came : (g : ℕ) (parts : List Part) → Stands g parts → Waits g (parts ++ Plus ∷ [])
@@ -227,7 +232,8 @@ plus-came g parts s =
       around_fits = s.around_fits;
       fits = record { row = s.row_fits; sum = made; product = tt };
       groups = s.groups;
-      parts_are = sum-stands g parts s (Plus ∷ []) ∙ ap (λ (x : List Part). parts_before s.around ++ (before_comma s.row ++ x)) (sym (append-nil (parts_of (plus s.sum s.product) ++ Plus ∷ [])));
+      parts_are = sum-stands g parts s (Plus ∷ []) ∙ ap (λ (x : List Part). parts_before s.around ++ (before_comma s.row ++ x))
+          (sym (append-nil (parts_of (plus s.sum s.product) ++ Plus ∷ [])));
     }
 
 -- a comma comes
@@ -238,9 +244,11 @@ comma-came g parts s k =
       around = s.around;
       begun = record { row = Some (comma s.row (plus s.sum s.product)); sum = None; product = None };
       around_fits = s.around_fits;
-      fits = record { row = (k, comma-bound (kind_of s.around) s.row (plus s.sum s.product) s.row_fits sum.0 sum.1); sum = tt; product = tt };
+      fits =
+          record { row = (k, comma-bound (kind_of s.around) s.row (plus s.sum s.product) s.row_fits sum.0 sum.1); sum = tt; product = tt };
       groups = s.groups;
-      parts_are = row-stands g parts s (Comma ∷ []) ∙ ap (λ (x : List Part). parts_before s.around ++ x) (sym (append-nil (parts_of (comma s.row (plus s.sum s.product)) ++ Comma ∷ [])));
+      parts_are = row-stands g parts s (Comma ∷ []) ∙ ap
+          (λ (x : List Part). parts_before s.around ++ x) (sym (append-nil (parts_of (comma s.row (plus s.sum s.product)) ++ Comma ∷ [])));
     }
 
 -- a divisor comes
@@ -256,7 +264,8 @@ over-came g parts k s = record {
   close = omega arith;
   bound = (s.close, s.bound);
   groups = s.groups;
-  parts_are = ap (λ (x : List Part). x ++ Over k ∷ []) s.parts_are ∙ behind (parts_before s.around) (before_comma s.row) (before_plus s.sum) (parts_of s.product) (Over k ∷ []);
+  parts_are = ap (λ (x : List Part). x ++ Over k ∷ []) s.parts_are
+      ∙ behind (parts_before s.around) (before_comma s.row) (before_plus s.sum) (parts_of s.product) (Over k ∷ []);
 }
 
 -- numbers of open parentheses
@@ -294,7 +303,8 @@ group-closes g parts l s = go s.around refl where
       let fits : AroundFits (Within a w k) = subst AroundFits e s.around_fits in
       let row : RowFits k s.row = subst (λ (x : Around). RowFits (kind_of x) s.row) e s.row_fits in
       let made = group-of k s.row whole row sum.0 sum.1 in
-      let outer : Waits (groups_of a) (parts_before a ++ waiting w) = record { around = a; begun = w; around_fits = fits.0; fits = fits.1; groups = refl; parts_are = refl } in
+      let outer : Waits (groups_of a) (parts_before a ++ waiting w) =
+      record { around = a; begun = w; around_fits = fits.0; fits = fits.1; groups = refl; parts_are = refl } in
       let came = operand-came (groups_of a) (parts_before a ++ waiting w) made.0 made.1 made.2 outer in
       let same : (parts_before a ++ waiting w) ++ parts_of made.0 ≡ parts ++ Close ∷ [] =
       ap (λ (x : List Part). (parts_before a ++ waiting w) ++ x) made.3
@@ -366,13 +376,15 @@ goes-opened what s parts l k m e w = go (nat_lt s.groups (2 ^ 32)) where
         part = Some (opener k);
       }) else Err (bad.Depth (s.operands + 1))) ≡ okay m
       → Goes what parts l m
-  go true f = goes what parts l _ m f (record { is = group-opens s.groups parts k w; marks_are = e ∙ sym (append-nil (marks (opener k ∷ []))); positive = none k }) where
-    none : (k : Bool) → ArePositive (opener k ∷ [])
-    none true = tt
-    none false = tt
+  go true f = goes what parts l _ m f
+      (record { is = group-opens s.groups parts k w; marks_are = e ∙ sym (append-nil (marks (opener k ∷ []))); positive = none k }) where
+        none : (k : Bool) → ArePositive (opener k ∷ [])
+        none true = tt
+        none false = tt
   go false f = refused _ m f
 
-goes-divided : (s : State) (parts : List Part) (k : ℕ) (m : Move) → Stands s.groups parts → divided s k ≡ okay m → Goes need.Divisor parts (lexeme.Name (Number k)) m
+goes-divided : (s : State) (parts : List Part) (k : ℕ) (m : Move)
+    → Stands s.groups parts → divided s k ≡ okay m → Goes need.Divisor parts (lexeme.Name (Number k)) m
 unfolding divided
 goes-divided s parts k m w = go (nat_lt 0 (s.divisors * k)) (nat_lt (s.divisors * k) (2 ^ 32)) refl where
   some : (k : ℕ) → 0 < s.divisors * k → 1 ≤ k
@@ -387,11 +399,13 @@ goes-divided s parts k m w = go (nat_lt 0 (s.divisors * k)) (nat_lt (s.divisors 
         part = Some (Over k);
       }) else Err (bad.Divisor (s.operands + 1))) ≡ okay m
       → Goes need.Divisor parts (lexeme.Name (Number k)) m
-  go true true t f = goes need.Divisor parts (lexeme.Name (Number k)) _ m f (record { is = over-came s.groups parts k w; marks_are = refl; positive = (some k (grind (arith, nat_tests)), tt) })
+  go true true t f = goes need.Divisor parts (lexeme.Name (Number k)) _ m f
+      (record { is = over-came s.groups parts k w; marks_are = refl; positive = (some k (grind (arith, nat_tests)), tt) })
   go true false t f = refused _ m f
   go false b t f = refused _ m f
 
-goes-comma : (s : State) (parts : List Part) (m : Move) → Stands s.groups parts → next_of_max s ≡ okay m → Goes need.Sign parts lexeme.Comma m
+goes-comma : (s : State) (parts : List Part) (m : Move)
+    → Stands s.groups parts → next_of_max s ≡ okay m → Goes need.Sign parts lexeme.Comma m
 unfolding next_of_max
 goes-comma s parts m w = go (nat_lt 1 s.groups) ((s.groups % 2) == 1) refl refl where
   go : (a b : Bool) → nat_lt 1 s.groups ≡ a → ((s.groups % 2) == 1) ≡ b
@@ -409,22 +423,27 @@ goes-comma s parts m w = go (nat_lt 1 s.groups) ((s.groups % 2) == 1) refl refl 
   go true false t u f = refused _ m f
   go false b t u f = refused _ m f
 
-goes-closed : (s : State) (parts : List Part) (m : Move) → Stands s.groups parts → after_group s ≡ okay m → Goes need.Sign parts lexeme.Close m
+goes-closed : (s : State) (parts : List Part) (m : Move)
+    → Stands s.groups parts → after_group s ≡ okay m → Goes need.Sign parts lexeme.Close m
 unfolding after_group
 goes-closed s parts m w = go (nat_lt 1 s.groups) refl where
-  go : (a : Bool) → nat_lt 1 s.groups ≡ a
-      → (if a then Ok (record { state = record { need = need.Sign; groups = s.groups / 2; divisors = s.divisors; operands = s.operands }; part = Some Close }) else Err (bad.Sign s.operands)) ≡ okay m
-      → Goes need.Sign parts lexeme.Close m
-  go true t f = goes need.Sign parts lexeme.Close _ m f (record { is = group-closes s.groups parts (grind (arith, nat_tests)) w; marks_are = refl; positive = tt })
+  go : (a : Bool) → nat_lt 1 s.groups ≡ a → (if a then Ok (record
+      { state = record { need = need.Sign; groups = s.groups / 2; divisors = s.divisors; operands = s.operands }; part = Some Close })
+      else Err (bad.Sign s.operands)) ≡ okay m → Goes need.Sign parts lexeme.Close m
+  go true t f = goes need.Sign parts lexeme.Close _ m f
+      (record { is = group-closes s.groups parts (grind (arith, nat_tests)) w; marks_are = refl; positive = tt })
   go false t f = refused _ m f
 
 -- a part less than none
 same-parts : (what : Need) (g : ℕ) (parts : List Part) → Is what g parts → Is what g (parts ++ [])
 same-parts what g parts is = subst (Is what g) (sym (append-nil parts)) is
 
-goes-next : (what : Need) (s : State) (parts : List Part) (l : Lexeme) (m : Move) → Is what s.groups parts → next_by what s l ≡ okay m → Goes what parts l m
-goes-next need.Operand s parts (lexeme.Name o) m w e = goes need.Operand parts (lexeme.Name o) _ m e (record { is = operand-came s.groups parts (Leaf o) (omega arith) tt w; marks_are = refl; positive = tt })
-goes-next need.Operand s parts lexeme.Max m w e = goes need.Operand parts lexeme.Max _ m e (record { is = same-parts need.Parenthesis s.groups parts w; marks_are = refl; positive = tt })
+goes-next : (what : Need) (s : State) (parts : List Part) (l : Lexeme) (m : Move)
+    → Is what s.groups parts → next_by what s l ≡ okay m → Goes what parts l m
+goes-next need.Operand s parts (lexeme.Name o) m w e = goes need.Operand parts
+    (lexeme.Name o) _ m e (record { is = operand-came s.groups parts (Leaf o) (omega arith) tt w; marks_are = refl; positive = tt })
+goes-next need.Operand s parts lexeme.Max m w e = goes need.Operand parts lexeme.Max _ m e
+    (record { is = same-parts need.Parenthesis s.groups parts w; marks_are = refl; positive = tt })
 goes-next need.Operand s parts lexeme.Open m w e = goes-opened need.Operand s parts lexeme.Open false m refl w e
 goes-next need.Operand s parts lexeme.Unknown m w e = refused _ m e
 goes-next need.Operand s parts lexeme.Plus m w e = refused _ m e
@@ -454,9 +473,12 @@ goes-next need.Divisor s parts lexeme.Slash m w e = refused _ m e
 goes-next need.Divisor s parts lexeme.Open m w e = refused _ m e
 goes-next need.Divisor s parts lexeme.Comma m w e = refused _ m e
 goes-next need.Divisor s parts lexeme.Close m w e = refused _ m e
-goes-next need.Sign s parts lexeme.Plus m w e = goes need.Sign parts lexeme.Plus _ m e (record { is = plus-came s.groups parts w; marks_are = refl; positive = tt })
-goes-next need.Sign s parts lexeme.Times m w e = goes need.Sign parts lexeme.Times _ m e (record { is = star-came s.groups parts w; marks_are = refl; positive = tt })
-goes-next need.Sign s parts lexeme.Slash m w e = goes need.Sign parts lexeme.Slash _ m e (record { is = same-parts need.Divisor s.groups parts w; marks_are = refl; positive = tt })
+goes-next need.Sign s parts lexeme.Plus m w e = goes need.Sign parts lexeme.Plus _ m e
+    (record { is = plus-came s.groups parts w; marks_are = refl; positive = tt })
+goes-next need.Sign s parts lexeme.Times m w e = goes need.Sign parts lexeme.Times _ m e
+    (record { is = star-came s.groups parts w; marks_are = refl; positive = tt })
+goes-next need.Sign s parts lexeme.Slash m w e = goes need.Sign parts lexeme.Slash _ m e
+    (record { is = same-parts need.Divisor s.groups parts w; marks_are = refl; positive = tt })
 goes-next need.Sign s parts lexeme.Comma m w e = goes-comma s parts m w e
 goes-next need.Sign s parts lexeme.Close m w e = goes-closed s parts m w e
 goes-next need.Sign s parts (lexeme.Name o) m w e = refused _ m e
@@ -480,8 +502,9 @@ so-moved s parts ls l (Ok m) read goes so e =
     let same : record { state = m.state; parts = parts ++ more } ≡ read = cc in
     subst (λ (r : Reading). IsSo r.state r.parts (ls ++ l ∷ [])) same (record {
       is = g.is;
-      lexemes_are = ap (λ (x : List Lexeme). x ++ l ∷ []) so.lexemes_are ∙ append_assoc (marks parts) (pending s.need) (l ∷ []) ∙ ap (λ (x : List Lexeme). marks parts ++ x) g.marks_are
-          ∙ sym (append_assoc (marks parts) (marks more) (pending m.state.need)) ∙ ap (λ (x : List Lexeme). x ++ pending m.state.need) (sym (marks-append parts more));
+      lexemes_are = ap (λ (x : List Lexeme). x ++ l ∷ []) so.lexemes_are ∙ append_assoc (marks parts) (pending s.need) (l ∷ [])
+          ∙ ap (λ (x : List Lexeme). marks parts ++ x) g.marks_are ∙ sym (append_assoc (marks parts) (marks more) (pending m.state.need))
+          ∙ ap (λ (x : List Lexeme). x ++ pending m.state.need) (sym (marks-append parts more));
       positive = positive-append parts more so.positive g.positive;
     })
 
@@ -490,9 +513,9 @@ so-read : (ls done : List Lexeme) (r : Result Reading BadFormula) (read : Readin
     → IsSo read.state read.parts (done ++ ls)
 so-read [] done r read so e = subst (IsSo read.state read.parts) (sym (append-nil done)) (so read e)
 so-read (l ∷ ls) done (Err why) read so e = absurd (true≢false (sym (ap is_ok (sym (read_on-refused why ls) ∙ e))))
-so-read (l ∷ ls) done (Ok start) read so e =
-    subst (IsSo read.state read.parts) (append_assoc done (l ∷ []) ls) (so-read ls (done ++ l ∷ []) (taken (Ok start) l) read
-    (λ next is. so-moved start.state start.parts done l (next_by start.state.need start.state l) next (λ m h. goes-next start.state.need start.state start.parts l m (so start refl).is h) (so start refl) is) e)
+so-read (l ∷ ls) done (Ok start) read so e = subst (IsSo read.state read.parts) (append_assoc done (l ∷ []) ls) (so-read ls (done ++ l ∷ [])
+    (taken (Ok start) l) read (λ next is. so-moved start.state start.parts done l (next_by start.state.need start.state l) next
+    (λ m h. goes-next start.state.need start.state start.parts l m (so start refl).is h) (so start refl) is) e)
 
 -- the whole formula
 record IsWhole (parts : List Part) : Type 0 where
@@ -514,7 +537,8 @@ whole-of parts s = go s.row s.row_fits refl where
         tree = plus s.sum s.product;
         bound = made.1;
         close = made.0;
-        parts_are = s.parts_are ∙ ap (λ (x : List Part). x ++ complete s.row s.sum s.product) out.1 ∙ ap (λ (r : Option Tree). complete r s.sum s.product) e ∙ plus-parts s.sum s.product;
+        parts_are = s.parts_are ∙ ap (λ (x : List Part). x ++ complete s.row s.sum s.product) out.1
+            ∙ ap (λ (r : Option Tree). complete r s.sum s.product) e ∙ plus-parts s.sum s.product;
       }
 
 -- a text that may end
@@ -523,7 +547,8 @@ record MayEnd (s : State) (parts : List Part) (terms : Terms) : Type 0 where
   pub stands : Stands 1 parts
   pub terms_are : terms ≡ record { factors = []; parts = parts }
 
-may-end : (what : Need) (s : State) (parts : List Part) (terms : Terms) → s.need ≡ what → Is what s.groups parts → ended parts (end_by what s) ≡ Ok terms → MayEnd s parts terms
+may-end : (what : Need) (s : State) (parts : List Part) (terms : Terms)
+    → s.need ≡ what → Is what s.groups parts → ended parts (end_by what s) ≡ Ok terms → MayEnd s parts terms
 may-end need.Operand s parts terms n is e = absurd (true≢false (sym (ap is_ok e)))
 may-end need.Parenthesis s parts terms n is e = absurd (true≢false (sym (ap is_ok e)))
 may-end need.Divisor s parts terms n is e = absurd (true≢false (sym (ap is_ok e)))
@@ -541,8 +566,16 @@ tree-of-read text terms e = go (read_on (Ok begun) (lexemes text)) refl e where
   go : (r : Result Reading BadFormula) → read_on (Ok begun) (lexemes text) ≡ r → finished r ≡ Ok terms → IsFormulaText text terms
   go (Err why) is f = absurd (true≢false (sym (ap is_ok f)))
   go (Ok read) is f =
-      let so = so-read (lexemes text) [] (Ok begun) read (λ start same. (let eq : begun ≡ start = cc in subst (λ (r : Reading). IsSo r.state r.parts []) eq (record {
-        is = record { around = Outside; begun = record { row = None; sum = None; product = None }; around_fits = tt; fits = record { row = tt; sum = tt; product = tt }; groups = refl; parts_are = refl };
+      let so = so-read (lexemes text) [] (Ok begun) read
+      (λ start same. (let eq : begun ≡ start = cc in subst (λ (r : Reading). IsSo r.state r.parts []) eq (record {
+        is = record {
+          around = Outside;
+          begun = record { row = None; sum = None; product = None };
+          around_fits = tt;
+          fits = record { row = tt; sum = tt; product = tt };
+          groups = refl;
+          parts_are = refl;
+        };
         lexemes_are = refl;
         positive = tt;
       }))) is in
@@ -552,7 +585,8 @@ tree-of-read text terms e = go (read_on (Ok begun) (lexemes text)) refl e where
         tree = whole.tree;
         bound = whole.bound;
         whole = whole.close;
-        written = so.lexemes_are ∙ ap (λ n. marks read.parts ++ pending n) end.sign ∙ append-nil (marks read.parts) ∙ ap marks whole.parts_are;
+        written = so.lexemes_are ∙ ap (λ n. marks read.parts ++ pending n) end.sign
+            ∙ append-nil (marks read.parts) ∙ ap marks whole.parts_are;
         parts = end.terms_are ∙ ap (λ (p : List Part). record { factors = []; parts = p }) whole.parts_are;
         limits = subst IsWithinLimits whole.parts_are (read_limits (lexemes text) read is);
         positive = subst ArePositive whole.parts_are so.positive;

@@ -39,7 +39,8 @@ record HasRoom (g d : ℕ) (parts : List Part) : Type 0 where
 record IsRead (g d k : ℕ) (acc ps rest : List Part) : Type 0 where
   pub divisors : ℕ
   pub operands : ℕ
-  pub read : read_on (Ok (at need.Operand g d k acc)) (marks (ps ++ rest)) ≡ read_on (Ok (at need.Sign g divisors operands (acc ++ ps))) (marks rest)
+  pub read : read_on (Ok (at need.Operand g d k acc)) (marks (ps ++ rest))
+      ≡ read_on (Ok (at need.Sign g divisors operands (acc ++ ps))) (marks rest)
   pub room : HasRoom g divisors rest
 
 divisors-positive : (parts : List Part) → 1 ≤ divisors parts
@@ -56,7 +57,8 @@ divisors-positive (Comma ∷ parts) = divisors-positive parts
 divisors-positive (Close ∷ parts) = divisors-positive parts
 
 -- a parenthesis opens
-opened-here : (g d k kind : ℕ) (p : Part) (acc : List Part) (what : Need) → g < 2 ^ 32 → moved acc (opened (state what g d k) kind p) ≡ Ok (at need.Operand (g * 2 + kind) d k (acc ++ p ∷ []))
+opened-here : (g d k kind : ℕ) (p : Part) (acc : List Part) (what : Need)
+    → g < 2 ^ 32 → moved acc (opened (state what g d k) kind p) ≡ Ok (at need.Operand (g * 2 + kind) d k (acc ++ p ∷ []))
 unfolding opened
 opened-here g d k kind p acc what l = let t : nat_lt g (2 ^ 32) ≡ true = grind (arith, nat_tests) in rw t refl
 
@@ -77,12 +79,15 @@ room-below g depth l low = let m : 2 ^ (depth + 1) ≤ 2 ^ 32 = pow_mono {i = de
 
 -- and closes
 half : (g kind : ℕ) → kind ≤ 1 → (g * 2 + kind) / 2 ≡ g
-half g kind l = let whole = div-add-mod' (g * 2 + kind) 2 in let below = mod_below (g * 2 + kind) 2 (omega arith) in omega (arith, whole, below, l)
+half g kind l = let whole = div-add-mod' (g * 2 + kind) 2 in
+    let below = mod_below (g * 2 + kind) 2 (omega arith) in omega (arith, whole, below, l)
 
 odd : (g : ℕ) → (g * 2 + 1) % 2 ≡ 1
-odd g = let whole = div-add-mod' (g * 2 + 1) 2 in let below = mod_below (g * 2 + 1) 2 (omega arith) in let h = half g 1 (omega arith) in omega (arith, whole, below, h)
+odd g = let whole = div-add-mod' (g * 2 + 1) 2 in let below = mod_below (g * 2 + 1) 2 (omega arith) in
+    let h = half g 1 (omega arith) in omega (arith, whole, below, h)
 
-closed-here : (g d k kind : ℕ) (acc : List Part) → kind ≤ 1 → 1 ≤ g → moved acc (after_group (state need.Sign (g * 2 + kind) d k)) ≡ Ok (at need.Sign g d k (acc ++ Close ∷ []))
+closed-here : (g d k kind : ℕ) (acc : List Part) → kind ≤ 1
+    → 1 ≤ g → moved acc (after_group (state need.Sign (g * 2 + kind) d k)) ≡ Ok (at need.Sign g d k (acc ++ Close ∷ []))
 unfolding after_group
 closed-here g d k kind acc l some = let t : nat_lt 1 (g * 2 + kind) ≡ true = grind (arith, nat_tests) in rw (t, half g kind l) refl
 
@@ -95,10 +100,19 @@ closed-room g d kind rest small some room = go room.depth room.low room.fits whe
       let more : suc depth + 1 ≡ (depth + 1) + 1 = omega arith in
       let twice = pow_more 2 (depth + 1) in
       let up : g * 2 + kind < 2 ^ (depth + 1) * 2 = subst (λ n. g * 2 + kind < n) twice (rw more at low) in
-      record { depth = depth; low = omega (arith, up); positive = some; fits = rw back at fits; divisors = room.divisors; some = room.some; nonzero = room.nonzero }
+      record {
+        depth = depth;
+        low = omega (arith, up);
+        positive = some;
+        fits = rw back at fits;
+        divisors = room.divisors;
+        some = room.some;
+        nonzero = room.nonzero;
+      }
 
 -- a divisor
-divided-here : (g d k n : ℕ) (acc : List Part) → 0 < d * k → d * k < 2 ^ 32 → moved acc (divided (state need.Divisor g d n) k) ≡ Ok (at need.Sign g (d * k) (n + 1) (acc ++ Over k ∷ []))
+divided-here : (g d k n : ℕ) (acc : List Part) → 0 < d * k
+    → d * k < 2 ^ 32 → moved acc (divided (state need.Divisor g d n) k) ≡ Ok (at need.Sign g (d * k) (n + 1) (acc ++ Over k ∷ []))
 unfolding divided
 divided-here g d k n acc some few =
     let t : nat_lt 0 (d * k) ≡ true = grind (arith, nat_tests) in
@@ -106,7 +120,8 @@ divided-here g d k n acc some few =
     rw (t, u) refl
 
 -- a comma
-comma-here : (g d k : ℕ) (acc : List Part) → 1 < g → g % 2 ≡ 1 → moved acc (next_of_max (state need.Sign g d k)) ≡ Ok (at need.Operand g d k (acc ++ Comma ∷ []))
+comma-here : (g d k : ℕ) (acc : List Part) → 1 < g
+    → g % 2 ≡ 1 → moved acc (next_of_max (state need.Sign g d k)) ≡ Ok (at need.Operand g d k (acc ++ Comma ∷ []))
 unfolding next_of_max
 comma-here g d k acc l o =
     let t : nat_lt 1 g ≡ true = grind (arith, nat_tests) in
@@ -119,32 +134,37 @@ MayStand f g = (1 ≤ binding f) ⊎ ((1 < g) × (g % 2 ≡ 1))
 
 -- two formulas with a sign between them
 two-read : (g d k : ℕ) (acc ps qs rest : List Part) (p : Part) → (a : IsRead g d k acc ps (p ∷ (qs ++ rest)))
-    → read_on (Ok (at need.Sign g a.divisors a.operands (acc ++ ps))) (marks (p ∷ (qs ++ rest))) ≡ read_on (Ok (at need.Operand g a.divisors a.operands ((acc ++ ps) ++ p ∷ []))) (marks (qs ++ rest))
+    → read_on (Ok (at need.Sign g a.divisors a.operands (acc ++ ps))) (marks (p ∷ (qs ++ rest)))
+    ≡ read_on (Ok (at need.Operand g a.divisors a.operands ((acc ++ ps) ++ p ∷ []))) (marks (qs ++ rest))
     → (b : IsRead g a.divisors a.operands ((acc ++ ps) ++ p ∷ []) qs rest) → IsRead g d k acc (ps ++ p ∷ qs) rest
 two-read g d k acc ps qs rest p a step b = record {
   divisors = b.divisors;
   operands = b.operands;
   read = ap (λ (l : List Part). read_on (Ok (at need.Operand g d k acc)) (marks l)) (append_assoc ps (p ∷ qs) rest) ∙ a.read ∙ step ∙ b.read
-      ∙ ap (λ (l : List Part). read_on (Ok (at need.Sign g b.divisors b.operands l)) (marks rest)) (append_assoc (acc ++ ps) (p ∷ []) qs ∙ append_assoc acc ps (p ∷ qs));
+      ∙ ap (λ (l : List Part). read_on (Ok (at need.Sign g b.divisors b.operands l)) (marks rest))
+      (append_assoc (acc ++ ps) (p ∷ []) qs ∙ append_assoc acc ps (p ∷ qs));
   room = b.room;
 }
 
 -- a formula in parentheses
-group-read : (g d k kind : ℕ) (acc ps rest : List Part) (p : Part) → kind ≤ 1 → 1 ≤ g
-    → read_on (Ok (at need.Operand g d k acc)) (marks (p ∷ (ps ++ Close ∷ rest))) ≡ read_on (Ok (at need.Operand (g * 2 + kind) d k (acc ++ p ∷ []))) (marks (ps ++ Close ∷ rest))
+group-read : (g d k kind : ℕ) (acc ps rest : List Part) (p : Part) → kind ≤ 1 → 1 ≤ g → read_on (Ok (at need.Operand g d k acc))
+    (marks (p ∷ (ps ++ Close ∷ rest))) ≡ read_on (Ok (at need.Operand (g * 2 + kind) d k (acc ++ p ∷ []))) (marks (ps ++ Close ∷ rest))
     → IsRead (g * 2 + kind) d k (acc ++ p ∷ []) ps (Close ∷ rest) → IsRead g d k acc (p ∷ (ps ++ Close ∷ [])) rest
 group-read g d k kind acc ps rest p small some step a = record {
   divisors = a.divisors;
   operands = a.operands;
-  read = ap (λ (l : List Part). read_on (Ok (at need.Operand g d k acc)) (marks (p ∷ l))) (append_assoc ps (Close ∷ []) rest) ∙ step ∙ a.read
-      ∙ ap (λ r. read_on r (marks rest)) (closed-here g a.divisors a.operands kind ((acc ++ p ∷ []) ++ ps) small some)
-      ∙ ap (λ (l : List Part). read_on (Ok (at need.Sign g a.divisors a.operands l)) (marks rest)) (append_assoc (acc ++ p ∷ []) ps (Close ∷ []) ∙ append_assoc acc (p ∷ []) (ps ++ Close ∷ []));
+  read = ap (λ (l : List Part). read_on (Ok (at need.Operand g d k acc)) (marks (p ∷ l))) (append_assoc ps (Close ∷ []) rest)
+      ∙ step ∙ a.read ∙ ap (λ r. read_on r (marks rest)) (closed-here g a.divisors a.operands kind ((acc ++ p ∷ []) ++ ps) small some)
+      ∙ ap (λ (l : List Part). read_on (Ok (at need.Sign g a.divisors a.operands l)) (marks rest))
+      (append_assoc (acc ++ p ∷ []) ps (Close ∷ []) ∙ append_assoc acc (p ∷ []) (ps ++ Close ∷ []));
   room = closed-room g a.divisors kind rest small some a.room;
 }
 
 -- the room for what comes after a sign, which opens and divides nothing
-sign-room : (g d : ℕ) (rest : List Part) (depth : ℕ) → g < 2 ^ (depth + 1) → 1 ≤ g → Fits depth rest → d * divisors rest < 2 ^ 32 → 1 ≤ d → ArePositive rest → HasRoom g d rest
-sign-room g d rest depth low positive fits few some nonzero = record { depth = depth; low = low; positive = positive; fits = fits; divisors = few; some = some; nonzero = nonzero }
+sign-room : (g d : ℕ) (rest : List Part) (depth : ℕ)
+    → g < 2 ^ (depth + 1) → 1 ≤ g → Fits depth rest → d * divisors rest < 2 ^ 32 → 1 ≤ d → ArePositive rest → HasRoom g d rest
+sign-room g d rest depth low positive fits few some nonzero =
+    record { depth = depth; low = low; positive = positive; fits = fits; divisors = few; some = some; nonzero = nonzero }
 
 moved-room : (g d : ℕ) (ps qs rest : List Part) → HasRoom g d ((ps ++ qs) ++ rest) → HasRoom g d (ps ++ (qs ++ rest))
 moved-room g d ps qs rest room = subst (HasRoom g d) (append_assoc ps qs rest) room
@@ -160,7 +180,15 @@ over-room g d k rest room =
     let unit = mul-one (d * k) in (
       omega (arith, least),
       omega (arith, few, moved, more, unit),
-      record { depth = room.depth; low = room.low; positive = room.positive; fits = room.fits; divisors = omega (arith, few, moved); some = omega (arith, least); nonzero = room.nonzero.1 },
+      record {
+        depth = room.depth;
+        low = room.low;
+        positive = room.positive;
+        fits = room.fits;
+        divisors = omega (arith, few, moved);
+        some = omega (arith, least);
+        nonzero = room.nonzero.1;
+      },
     )
 
 over-read : (g d k n : ℕ) (acc ps rest : List Part) → IsRead g d n acc ps (Over k ∷ rest) → IsRead g d n acc (ps ++ Over k ∷ []) rest
@@ -176,7 +204,8 @@ over-read g d k n acc ps rest a =
       room = room.2;
     }
 
-tree-read : (f : Tree) → IsBound f → (g d k : ℕ) → MayStand f g → (acc rest : List Part) → HasRoom g d (parts_of f ++ rest) → IsRead g d k acc (parts_of f) rest
+tree-read : (f : Tree) → IsBound f → (g d k : ℕ) → MayStand f g
+    → (acc rest : List Part) → HasRoom g d (parts_of f ++ rest) → IsRead g d k acc (parts_of f) rest
 tree-read (Leaf o) b g d k may acc rest room =
     record {
       divisors = d;
@@ -194,31 +223,40 @@ tree-read (Leaf o) b g d k may acc rest room =
           };
     }
 tree-read (Group a) b g d k may acc rest room =
-    let inner = opened-room g d 0 ((parts_of a ++ Close ∷ []) ++ rest) room.depth (omega arith) room.low room.positive room.fits.1 room.divisors room.some room.nonzero in
+    let inner = opened-room g d 0 ((parts_of a ++ Close ∷ []) ++ rest) room.depth
+    (omega arith) room.low room.positive room.fits.1 room.divisors room.some room.nonzero in
     group-read g d k 0 acc (parts_of a) rest Open (omega arith) room.positive
-    (ap (λ r. read_on r (marks (parts_of a ++ Close ∷ rest))) (opened-here g d k 0 Open acc need.Operand (room-below g room.depth room.fits.0 room.low)))
-    (tree-read a b.1 (g * 2 + 0) d k (inl b.0) (acc ++ Open ∷ []) (Close ∷ rest) (moved-room (g * 2 + 0) d (parts_of a) (Close ∷ []) rest inner))
+    (ap (λ r. read_on r (marks (parts_of a ++ Close ∷ rest)))
+    (opened-here g d k 0 Open acc need.Operand (room-below g room.depth room.fits.0 room.low)))
+    (tree-read a b.1 (g * 2 + 0) d k (inl b.0) (acc ++ Open ∷ [])
+    (Close ∷ rest) (moved-room (g * 2 + 0) d (parts_of a) (Close ∷ []) rest inner))
 tree-read (Most a) b g d k may acc rest room =
-    let inner = opened-room g d 1 ((parts_of a ++ Close ∷ []) ++ rest) room.depth (omega arith) room.low room.positive room.fits.1 room.divisors room.some room.nonzero in
+    let inner = opened-room g d 1 ((parts_of a ++ Close ∷ []) ++ rest) room.depth
+    (omega arith) room.low room.positive room.fits.1 room.divisors room.some room.nonzero in
     let some = room.positive in
     group-read g d k 1 acc (parts_of a) rest Greatest (omega arith) room.positive
-    (ap (λ r. read_on r (marks (parts_of a ++ Close ∷ rest))) (opened-here g d k 1 Greatest (acc ++ []) need.Parenthesis (room-below g room.depth room.fits.0 room.low)
+    (ap (λ r. read_on r (marks (parts_of a ++ Close ∷ rest)))
+    (opened-here g d k 1 Greatest (acc ++ []) need.Parenthesis (room-below g room.depth room.fits.0 room.low)
     ∙ ap (λ (l : List Part). Ok (at need.Operand (g * 2 + 1) d k (l ++ Greatest ∷ []))) (append-nil acc)))
-    (tree-read a b (g * 2 + 1) d k (inr (omega (arith, some), odd g)) (acc ++ Greatest ∷ []) (Close ∷ rest) (moved-room (g * 2 + 1) d (parts_of a) (Close ∷ []) rest inner))
+    (tree-read a b (g * 2 + 1) d k (inr (omega (arith, some), odd g))
+    (acc ++ Greatest ∷ []) (Close ∷ rest) (moved-room (g * 2 + 1) d (parts_of a) (Close ∷ []) rest inner))
 tree-read (Product a c) b g d k may acc rest room =
     let l = b.0 in
     let m = b.1 in
-    let first = tree-read a b.2 g d k (inl (omega (arith, l))) acc (Times ∷ (parts_of c ++ rest)) (moved-room g d (parts_of a) (Times ∷ parts_of c) rest room) in
+    let first = tree-read a b.2 g d k (inl (omega (arith, l))) acc
+    (Times ∷ (parts_of c ++ rest)) (moved-room g d (parts_of a) (Times ∷ parts_of c) rest room) in
     let r = first.room in
     two-read g d k acc (parts_of a) (parts_of c) rest Times first refl
     (tree-read c b.3 g first.divisors first.operands (inl (omega (arith, m))) ((acc ++ parts_of a) ++ Times ∷ []) rest
     (sign-room g first.divisors (parts_of c ++ rest) r.depth r.low r.positive r.fits r.divisors r.some r.nonzero))
 tree-read (Quotient a n) b g d k may acc rest room =
     let l = b.0 in
-    over-read g d n k acc (parts_of a) rest (tree-read a b.1 g d k (inl (omega (arith, l))) acc (Over n ∷ rest) (moved-room g d (parts_of a) (Over n ∷ []) rest room))
+    over-read g d n k acc (parts_of a) rest
+    (tree-read a b.1 g d k (inl (omega (arith, l))) acc (Over n ∷ rest) (moved-room g d (parts_of a) (Over n ∷ []) rest room))
 tree-read (Sum a c) b g d k may acc rest room =
     let m = b.1 in
-    let first = tree-read a b.2 g d k (inl b.0) acc (Plus ∷ (parts_of c ++ rest)) (moved-room g d (parts_of a) (Plus ∷ parts_of c) rest room) in
+    let first = tree-read a b.2 g d k (inl b.0) acc
+    (Plus ∷ (parts_of c ++ rest)) (moved-room g d (parts_of a) (Plus ∷ parts_of c) rest room) in
     let r = first.room in
     two-read g d k acc (parts_of a) (parts_of c) rest Plus first refl
     (tree-read c b.3 g first.divisors first.operands (inl (omega (arith, m))) ((acc ++ parts_of a) ++ Plus ∷ []) rest
@@ -226,11 +264,13 @@ tree-read (Sum a c) b g d k may acc rest room =
 tree-read (Row a c) b g d k may acc rest room = elim may [
   | inl l ↦ absurd (omega (arith, l))
   | inr max ↦ (
-      let first = tree-read a b.1 g d k (inr max) acc (Comma ∷ (parts_of c ++ rest)) (moved-room g d (parts_of a) (Comma ∷ parts_of c) rest room) in
+      let first = tree-read a b.1 g d k (inr max) acc
+      (Comma ∷ (parts_of c ++ rest)) (moved-room g d (parts_of a) (Comma ∷ parts_of c) rest room) in
       let r = first.room in
       two-read g d k acc (parts_of a) (parts_of c) rest Comma first
       (ap (λ r. read_on r (marks (parts_of c ++ rest))) (comma-here g first.divisors first.operands (acc ++ parts_of a) max.0 max.1))
-      (tree-read c b.2 g first.divisors first.operands (inl b.0) ((acc ++ parts_of a) ++ Comma ∷ []) rest (sign-room g first.divisors (parts_of c ++ rest) r.depth r.low r.positive r.fits r.divisors r.some r.nonzero)))
+      (tree-read c b.2 g first.divisors first.operands (inl b.0) ((acc ++ parts_of a) ++ Comma ∷ []) rest
+      (sign-room g first.divisors (parts_of c ++ rest) r.depth r.low r.positive r.fits r.divisors r.some r.nonzero)))
 ]
 
 -- so a text that writes a formula is read as it

@@ -23,7 +23,8 @@ use Rattle.event_log.proofs.LogCycles.{fault-behind}
 use Rattle.event_log.proofs.MeantEvents.{are-meant}
 
 -- events that are moved are of the same nodes
-within-moved : (n : ℕ) (offsets : List ℤ) (events : List Event) → All (IsWithin n) (map seen events) → All (IsWithin n) (map seen (map (moved_event offsets) events))
+within-moved : (n : ℕ) (offsets : List ℤ) (events : List Event)
+    → All (IsWithin n) (map seen events) → All (IsWithin n) (map seen (map (moved_event offsets) events))
 within-moved n offsets [] h = All-nil (IsWithin n)
 within-moved n offsets (e ∷ es) h =
     All-cons (IsWithin n) (seen (moved_event offsets e)) (map seen (map (moved_event offsets) es))
@@ -45,13 +46,16 @@ sound-moved kind nodes events moved offsets s e = record {
   same = length-map moved seen ∙ ap (λ xs. length xs) e ∙ length-map events (moved_event offsets) ∙ sym (length-map events seen)
 
 -- there are events, not too many, of processors
-pub some-events : (kind : TimeKind) (nodes : List (List ℕ)) (events : List Event) → IsSound (record { kind = kind; nodes = nodes; events = map seen events }) → 0 < length events
+pub some-events : (kind : TimeKind) (nodes : List (List ℕ)) (events : List Event)
+    → IsSound (record { kind = kind; nodes = nodes; events = map seen events }) → 0 < length events
 some-events kind nodes events s = let same = length-map events seen in let some = s.some in omega (arith, some, same)
 
-pub few-events : (kind : TimeKind) (nodes : List (List ℕ)) (events : List Event) → IsSound (record { kind = kind; nodes = nodes; events = map seen events }) → length events ≤ MAX_EVENTS
+pub few-events : (kind : TimeKind) (nodes : List (List ℕ)) (events : List Event)
+    → IsSound (record { kind = kind; nodes = nodes; events = map seen events }) → length events ≤ MAX_EVENTS
 few-events kind nodes events s = let same = length-map events seen in let few = s.few_events in omega (arith, few, same)
 
-pub of-processors : (kind : TimeKind) (nodes : List (List ℕ)) (events : List Event) → IsSound (record { kind = kind; nodes = nodes; events = map seen events }) → AreOfProcessors events
+pub of-processors : (kind : TimeKind) (nodes : List (List ℕ)) (events : List Event)
+    → IsSound (record { kind = kind; nodes = nodes; events = map seen events }) → AreOfProcessors events
 of-processors kind nodes events s = meant-processors (length nodes) events s.few_nodes (are-meant (length nodes) events s.within)
 
 -- a reason against messages, or out of memory
@@ -66,20 +70,23 @@ due-fault (refused.SecondEvent i tick hint) o h = inr h
 due-fault (refused.Cycle i) o h = inr h
 due-fault refused.Memory o h = inl refl
 
-pub fault-place : (events : List Event) (why : EventError) → 0 < length events → length events ≤ MAX_EVENTS → IsEventRefusal why (first_fault events) → event_place why < MAX_EVENTS
+pub fault-place : (events : List Event) (why : EventError)
+    → 0 < length events → length events ≤ MAX_EVENTS → IsEventRefusal why (first_fault events) → event_place why < MAX_EVENTS
 fault-place events why some few h = go (due-fault why (first_fault events) h) where
   go : (why ≡ refused.Memory) ⊎ (first_fault events ≡ Some why) → event_place why < MAX_EVENTS
   go (inl m) = subst (λ w. event_place w < MAX_EVENTS) (sym m) (omega (arith, some, few))
   go (inr f) = let l = fault-within events why f in omega (arith, l, few)
 
-pub fault-cycle : (events : List Event) (why : EventError) → IsEventRefusal why (first_fault events) → (i : ℕ) → why ≡ refused.Cycle i → IsBehindCycle events i
+pub fault-cycle : (events : List Event) (why : EventError)
+    → IsEventRefusal why (first_fault events) → (i : ℕ) → why ≡ refused.Cycle i → IsBehindCycle events i
 fault-cycle events why h i e = go (due-fault why (first_fault events) h) where
   go : (why ≡ refused.Memory) ⊎ (first_fault events ≡ Some why) → IsBehindCycle events i
   go (inl m) = absurd (cc (e, m))
   go (inr f) = fault-behind events i (f ∙ ap (λ w. Some w) e)
 
 -- the messages of a cycle are those of events
-lead-inside : (events : List Event) (from to : ℕ) (hops : List ClockHop) → LeadFrom events from hops to → (k : ℕ) (d : ClockHop) → k < length hops → (get_or hops k d).message < length events
+lead-inside : (events : List Event) (from to : ℕ) (hops : List ClockHop)
+    → LeadFrom events from hops to → (k : ℕ) (d : ClockHop) → k < length hops → (get_or hops k d).message < length events
 lead-inside events from to [] l k d b = absurd (omega arith)
 lead-inside events from to (h ∷ hs) l zero d b = l.0.taken.inside
 lead-inside events from to (h ∷ hs) l (suc k) d b = lead-inside events (clock_at events h.event) to hs l.1 k d (omega arith)

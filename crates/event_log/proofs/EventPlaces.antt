@@ -39,7 +39,8 @@ names-map : (i : ℕ) (f : ℕ → EventError) (o : Option ℕ) → ((j : ℕ) �
 names-map i f None h = tt
 names-map i f (Some j) h = h j
 
-message-names : (events : List Event) (ticks : List ℕ) (received : ℕ → Bool) (i k : ℕ) (message : Option ℕ) → Names i (message_refusal events ticks received i k message)
+message-names : (events : List Event) (ticks : List ℕ) (received : ℕ → Bool) (i k : ℕ) (message : Option ℕ)
+    → Names i (message_refusal events ticks received i k message)
 message-names events ticks received i k None = refl
 message-names events ticks received i k (Some s) =
     names-if i (is_for events s (processor_at events i)) _ _
@@ -48,24 +49,27 @@ message-names events ticks received i k (Some s) =
 
 messages-name : (events : List Event) (ticks : List ℕ) (i : ℕ) → Names i (messages_refusal events ticks i)
 unfolding messages_refusal
-messages-name events ticks i =
-    names-first i _ (length (messages_at events i)) (λ k. message-names events ticks (was_received events i k) i k (slice_index_or (messages_at events i) k None))
+messages-name events ticks i = names-first i _ (length (messages_at events i))
+    (λ k. message-names events ticks (was_received events i k) i k (slice_index_or (messages_at events i) k None))
 
 second-names : (events : List Event) (ticks : List ℕ) (i : ℕ) → Names i (second_refusal events ticks i)
 unfolding second_refusal
 second-names events ticks i = names-map i _ (earlier_at events ticks i (moment_at events ticks i)) (λ j. refl)
 
 event-names : (events : List Event) (ticks : List ℕ) (i : ℕ) → Names i (event_refusal events ticks i)
-event-names events ticks i = names-or i (messages_refusal events ticks i) (second_refusal events ticks i) (messages-name events ticks i) (second-names events ticks i)
+event-names events ticks i = names-or i (messages_refusal events ticks i)
+    (second_refusal events ticks i) (messages-name events ticks i) (second-names events ticks i)
 
-fault-names : (events : List Event) (received : ℕ → Bool) (i k : ℕ) (message : Option ℕ) → Names i (message_fault events received i k message)
+fault-names : (events : List Event) (received : ℕ → Bool) (i k : ℕ) (message : Option ℕ)
+    → Names i (message_fault events received i k message)
 fault-names events received i k None = refl
-fault-names events received i k (Some s) = names-if i (is_for events s (processor_at events i)) _ _ (names-if i (received s) _ _ refl tt) refl
+fault-names events received i k (Some s) = names-if i
+    (is_for events s (processor_at events i)) _ _ (names-if i (received s) _ _ refl tt) refl
 
 faults-name : (events : List Event) (i : ℕ) → Names i (message_faults events i)
 unfolding message_faults
-faults-name events i =
-    names-first i _ (length (messages_at events i)) (λ k. fault-names events (was_received events i k) i k (slice_index_or (messages_at events i) k None))
+faults-name events i = names-first i _ (length (messages_at events i))
+    (λ k. fault-names events (was_received events i k) i k (slice_index_or (messages_at events i) k None))
 
 within-or : (n : ℕ) (a b : Option EventError) → Within n a → Within n b → Within n (option_or a b)
 within-or n (Some a) b h k = h
@@ -81,7 +85,8 @@ within-named n (Some e) h = omega (arith, h)
 
 within-first : (f : ℕ → Option EventError) (n : ℕ) → ((k : ℕ) → Names k (f k)) → Within n (first_of f n)
 within-first f zero h = tt
-within-first f (suc n) h = within-or (suc n) (first_of f n) (f n) (within-next n (first_of f n) (within-first f n h)) (within-named n (f n) (h n))
+within-first f (suc n) h = within-or (suc n) (first_of f n)
+    (f n) (within-next n (first_of f n) (within-first f n h)) (within-named n (f n) (h n))
 
 events-within : (events : List Event) (ticks : List ℕ) → Within (length events) (events_refusal events ticks)
 unfolding events_refusal
@@ -102,8 +107,8 @@ times-within events clock some =
 
 all-within : (events : List Event) (clock : Clock) (ticks : List ℕ) (why : EventError) → 0 < length events
     → Some why ≡ option_or (times_refusal events clock) (events_refusal events ticks) → event_place why < length events
-all-within events clock ticks why some e =
-    subst (Within (length events)) (sym e) (within-or (length events) (times_refusal events clock) (events_refusal events ticks) (times-within events clock some) (events-within events ticks))
+all-within events clock ticks why some e = subst (Within (length events)) (sym e) (within-or (length events)
+    (times_refusal events clock) (events_refusal events ticks) (times-within events clock some) (events-within events ticks))
 
 pub fault-within : (events : List Event) (why : EventError) → first_fault events ≡ Some why → event_place why < length events
 fault-within events why h = subst (Within (length events)) h (faults-within events)
@@ -119,15 +124,18 @@ causal-within events (refused.NotLater i k hint) h = fault-within events (refuse
 causal-within events (refused.SecondEvent i tick hint) h = fault-within events (refused.SecondEvent i tick hint) h
 causal-within events refused.Memory h = fault-within events refused.Memory h
 
-after-times-within : (events : List Event) (times : Option EventError) (why : EventError) → Within (length events) times → IsAfterTimes times events (Some why) → event_place why < length events
+after-times-within : (events : List Event) (times : Option EventError) (why : EventError)
+    → Within (length events) times → IsAfterTimes times events (Some why) → event_place why < length events
 after-times-within events (Some reason) why w h = subst (Within (length events)) (sym h) w
 after-times-within events None why w h = causal-within events why h
 
-spread-within : (events : List Event) (clock : Clock) (why : EventError) → 0 < length events → IsSpreadRefusal events clock (Some why) → event_place why < length events
+spread-within : (events : List Event) (clock : Clock) (why : EventError)
+    → 0 < length events → IsSpreadRefusal events clock (Some why) → event_place why < length events
 spread-within events clock why some h = after-times-within events (times_refusal events clock) why (times-within events clock some) h
 
 -- a reason for which there is no trace names one of the events, or none
-pub place-within : (spread : Bool) (events : List Event) (clock : Clock) (why : EventError) → 0 < length events → IsTimedRefusal spread events clock why → event_place why < length events
+pub place-within : (spread : Bool) (events : List Event) (clock : Clock) (why : EventError)
+    → 0 < length events → IsTimedRefusal spread events clock why → event_place why < length events
 place-within spread events clock refused.UntilTooEarly some h = some
 place-within spread events clock refused.TooManyTicks some h = some
 place-within spread events clock refused.Memory some h = some

@@ -15,11 +15,13 @@ step i header c lt =
     ∙ ap (λ f. cond (is_named c f) (Some i) (position_from (is_named c) (i + 1) (drop (i + 1) header))) (sym (field_of-get_or header i))
 
 -- the column is at this place
-pub place-found : (i : ℕ) (header : List (List ℕ)) (c : Column) → i < length header → is_named c (field_of header i) ≡ true → place_from i header c ≡ Some i
+pub place-found : (i : ℕ) (header : List (List ℕ)) (c : Column)
+    → i < length header → is_named c (field_of header i) ≡ true → place_from i header c ≡ Some i
 place-found i header c lt e = rw (step i header c lt, e) refl
 
 -- it isn't
-pub place-later : (i : ℕ) (header : List (List ℕ)) (c : Column) → i < length header → is_named c (field_of header i) ≡ false → place_from i header c ≡ place_from (i + 1) header c
+pub place-later : (i : ℕ) (header : List (List ℕ)) (c : Column)
+    → i < length header → is_named c (field_of header i) ≡ false → place_from i header c ≡ place_from (i + 1) header c
 place-later i header c lt e = rw (step i header c lt, e) refl
 
 -- there is no place left

@@ -45,8 +45,8 @@ module _ (places : List ℕ) (up : IsStrictlyIncreasing places) where
       let next = up k (omega (arith, l)) in
       subst (λ n. n ≤ slice_index places n) e (omega (arith, before, next))
 
-  pub kept-next : (old now next : List Event) (k : ℕ) → k < length places
-      → SwappedAt now next k (slice_index places k) → length next ≡ length now → AreKeptTo old now places k → AreKeptTo old next places (k + 1)
+  pub kept-next : (old now next : List Event) (k : ℕ) → k < length places → SwappedAt now next k (slice_index places k)
+      → length next ≡ length now → AreKeptTo old now places k → AreKeptTo old next places (k + 1)
   kept-next old now next k l swapped long w = record {
     long = long ∙ w.long;
     kept = λ j d b. one j d b (cases_eq j k);
@@ -76,17 +76,19 @@ module _ (places : List ℕ) (up : IsStrictlyIncreasing places) where
       let b = inside k l in
       omega (arith, e, above, b)
 
-  pub kept-all : (old now : List Event)
-      → ((i : ℕ) → i < length places → slice_index places i < length old) → AreKeptTo old now places (length places) → map Some (take (length places) now) ≡ map (slice_get old) places
-  kept-all old now inside w = all places now (let n = w.long in let m = few (length old) (length places) refl inside in omega (arith, n, m)) (λ k d l. w.kept k d l) inside where
-    all : (ps : List ℕ) (xs : List Event) → length ps ≤ length xs → ((k : ℕ) (d : Event) → k < length ps → get_or xs k d ≡ get_or old (slice_index ps k) d)
-        → ((k : ℕ) → k < length ps → slice_index ps k < length old) → map Some (take (length ps) xs) ≡ map (slice_get old) ps
-    all [] xs l h b = refl
-    all (p ∷ ps) [] l h b = absurd (omega (arith, l))
-    all (p ∷ ps) (x ∷ xs) l h b =
-        ap₂ (λ (o : Option Event) (os : List (Option Event)). o ∷ os)
-        (ap (λ (e : Event). Some e) (h zero x (omega arith)) ∙ sym (slice_get-get_or old p x (b zero (omega arith))))
-        (all ps xs (omega (arith, l)) (λ k d m. h (suc k) d (omega (arith, m))) (λ k m. b (suc k) (omega (arith, m))))
+  pub kept-all : (old now : List Event) → ((i : ℕ) → i < length places → slice_index places i < length old)
+      → AreKeptTo old now places (length places) → map Some (take (length places) now) ≡ map (slice_get old) places
+  kept-all old now inside w = all places now (let n = w.long in let m = few (length old) (length places) refl inside in omega (arith, n, m))
+      (λ k d l. w.kept k d l) inside where
+        all : (ps : List ℕ) (xs : List Event) → length ps ≤ length xs
+            → ((k : ℕ) (d : Event) → k < length ps → get_or xs k d ≡ get_or old (slice_index ps k) d)
+            → ((k : ℕ) → k < length ps → slice_index ps k < length old) → map Some (take (length ps) xs) ≡ map (slice_get old) ps
+        all [] xs l h b = refl
+        all (p ∷ ps) [] l h b = absurd (omega (arith, l))
+        all (p ∷ ps) (x ∷ xs) l h b =
+            ap₂ (λ (o : Option Event) (os : List (Option Event)). o ∷ os)
+            (ap (λ (e : Event). Some e) (h zero x (omega arith)) ∙ sym (slice_get-get_or old p x (b zero (omega arith))))
+            (all ps xs (omega (arith, l)) (λ k d m. h (suc k) d (omega (arith, m))) (λ k m. b (suc k) (omega (arith, m))))
 
 -- a list of which so many first ones are changed
 abbrev pub changed_to : {X : Type 0} → (X → X) → List X → ℕ → List X
@@ -104,7 +106,8 @@ module _ {X : Type 0} (f : X → X) where
   pub changed-next : (ys : List X) (k : ℕ) (d : X) → k < length ys → set (changed_to f ys k) k (f (get_or ys k d)) ≡ changed_to f ys (k + 1)
   changed-next [] k d l = absurd (omega arith)
   changed-next (y ∷ ys) zero d l = refl
-  changed-next (y ∷ ys) (suc k) d l = let e : suc k + 1 ≡ suc (k + 1) = omega arith in rw e (ap (λ zs. f y ∷ zs) (changed-next ys k d (omega arith)))
+  changed-next (y ∷ ys) (suc k) d l = let e : suc k + 1 ≡ suc (k + 1) = omega arith in
+      rw e (ap (λ zs. f y ∷ zs) (changed-next ys k d (omega arith)))
 
 -- what is seen of the one at a place
 pub at-seen : (xs : List Event) (k : ℕ) (d : Event) → get_or (map seen xs) k (seen d) ≡ seen (get_or xs k d)
@@ -113,8 +116,8 @@ at-seen (x ∷ xs) zero d = refl
 at-seen (x ∷ xs) (suc k) d = at-seen xs k d
 
 -- the next one is changed
-pub seen-next : (f : Seen → Seen) (old now : List Event) (k : ℕ) (d new : Event) → k < length old
-    → map seen now ≡ changed_to f (map seen old) k → seen new ≡ f (seen (get_or now k d)) → map seen (set now k new) ≡ changed_to f (map seen old) (k + 1)
+pub seen-next : (f : Seen → Seen) (old now : List Event) (k : ℕ) (d new : Event) → k < length old → map seen now
+    ≡ changed_to f (map seen old) k → seen new ≡ f (seen (get_or now k d)) → map seen (set now k new) ≡ changed_to f (map seen old) (k + 1)
 seen-next f old now k d new l same is =
     let long = length-map old seen in
     map-set seen now k new

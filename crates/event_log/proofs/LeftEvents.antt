@@ -24,8 +24,8 @@ use Rattle.event_log.proofs.UnmadeLogs.{few-events}
 
 -- one for each place
 pub left-long : (events left : List Event) (places : List ℕ) → AreLeft events left places → length left ≡ length places
-left-long events left places h =
-    sym (length-map left (λ e. Some (seen e))) ∙ ap (λ (os : List (Option Seen)). length os) h.each ∙ length-map places (renumbered_at events (new_places events))
+left-long events left places h = sym (length-map left (λ e. Some (seen e)))
+    ∙ ap (λ (os : List (Option Seen)). length os) h.each ∙ length-map places (renumbered_at events (new_places events))
 
 -- what is left sends within as many nodes
 sends-left : (n : ℕ) (places : List ℕ) (a : SeenAct) → SendsWithin n a → SendsWithin n (left_act places a)
@@ -49,11 +49,14 @@ within-left n events new (e ∷ es) [] h same = absurd (cc same)
 within-left n events new (e ∷ es) (p ∷ ps) h same =
     let head : Some (seen e) ≡ renumbered_at events new p = cc same in
     let tail : map (λ x. Some (seen x)) es ≡ map (renumbered_at events new) ps = cc same in
-    All-cons (IsWithin n) (seen e) (map seen es) (one-within n events new p e (slice_get events p) h refl head) (within-left n events new es ps h tail)
+    All-cons (IsWithin n) (seen e) (map seen es) (one-within n events new p e (slice_get events p) h refl head)
+    (within-left n events new es ps h tail)
 
-module _ (log : NamedEvents) (sound : IsSound (seen_log log)) (left : List Event) (places : List ℕ) (are : AreLeft log.events.items left places) where
+module _ (log : NamedEvents) (sound : IsSound (seen_log log))
+    (left : List Event) (places : List ℕ) (are : AreLeft log.events.items left places) where
   pub meant-left : AreMeant left (length log.nodes)
-  meant-left = are-meant (length log.nodes) left (within-left (length log.nodes) log.events.items (new_places log.events.items) left places sound.within are.each)
+  meant-left = are-meant (length log.nodes) left
+      (within-left (length log.nodes) log.events.items (new_places log.events.items) left places sound.within are.each)
 
   pub processors-left : AreOfProcessors left
   processors-left = meant-processors (length log.nodes) left sound.few_nodes meant-left
@@ -76,12 +79,14 @@ unfolding seen_send
 send-seen (act.Send to) = refl
 send-seen (act.Receive messages) = refl
 
-pub sends-seen : (events : List Event) (s : ℕ) → sends_at events s ≡ option_map_or (λ (v : Seen). seen_send v.act) (slice_get (map seen events) s) false
+pub sends-seen : (events : List Event) (s : ℕ) → sends_at events s
+    ≡ option_map_or (λ (v : Seen). seen_send v.act) (slice_get (map seen events) s) false
 sends-seen [] s = refl
 sends-seen (e ∷ es) zero = send-seen e.act
 sends-seen (e ∷ es) (suc s) = sends-seen es s
 
-seen-at : (f : Seen → Seen) (events : List Event) (p : ℕ) → option_map (λ e. f (seen e)) (slice_get events p) ≡ option_map f (slice_get (map seen events) p)
+seen-at : (f : Seen → Seen) (events : List Event) (p : ℕ)
+    → option_map (λ e. f (seen e)) (slice_get events p) ≡ option_map f (slice_get (map seen events) p)
 seen-at f [] p = refl
 seen-at f (e ∷ es) zero = refl
 seen-at f (e ∷ es) (suc p) = seen-at f es p
@@ -105,10 +110,8 @@ somes-same (x ∷ xs) (y ∷ ys) h =
 
 module _ (xs ys : List Event) (same : map seen xs ≡ map seen ys) where
   lost-same : (s : ℕ) → is_lost xs s ≡ is_lost ys s
-  lost-same s =
-      ap₂ (λ (t u : Bool). t && not u)
-      (sends-seen xs s ∙ ap (λ (ss : List Seen). option_map_or (λ (v : Seen). seen_send v.act) (slice_get ss s) false) same ∙ sym (sends-seen ys s))
-      (ap (list_any (λ hop. hop.message == s)) (hops-same xs ys same))
+  lost-same s = ap₂ (λ (t u : Bool). t && not u) (sends-seen xs s ∙ ap (λ (ss : List Seen). option_map_or (λ (v : Seen). seen_send v.act)
+      (slice_get ss s) false) same ∙ sym (sends-seen ys s)) (ap (list_any (λ hop. hop.message == s)) (hops-same xs ys same))
 
   before-same : (s : ℕ) → left_before xs s ≡ left_before ys s
   unfolding left_before
@@ -119,21 +122,26 @@ module _ (xs ys : List Event) (same : map seen xs ≡ map seen ys) where
 
   new-same : new_places xs ≡ new_places ys
   unfolding new_places
-  new-same =
-      maps-same (λ s. length (left_before xs s)) (λ s. length (left_before ys s)) (λ s. ap (λ (ps : List ℕ). length ps) (before-same s)) (range_with_len 0 (length xs))
-      ∙ ap (λ (n : ℕ). map (λ s. length (left_before ys s)) (range_with_len 0 n)) (lengths xs ys same)
+  new-same = maps-same (λ s. length (left_before xs s)) (λ s. length (left_before ys s)) (λ s. ap (λ (ps : List ℕ). length ps) (before-same
+      s)) (range_with_len 0 (length xs)) ∙ ap (λ (n : ℕ). map (λ s. length (left_before ys s)) (range_with_len 0 n)) (lengths xs ys same)
 
   at-same : (new : List ℕ) (p : ℕ) → renumbered_at xs new p ≡ renumbered_at ys new p
-  at-same new p = seen-at (left_event new) xs p ∙ ap (λ (ss : List Seen). option_map (left_event new) (slice_get ss p)) same ∙ sym (seen-at (left_event new) ys p)
+  at-same new p = seen-at (left_event new) xs p ∙ ap (λ (ss : List Seen). option_map (left_event new) (slice_get ss p)) same
+      ∙ sym (seen-at (left_event new) ys p)
 
-  each-same : (left other : List Event) (p q : List ℕ) → AreLeft xs left p → AreLeft ys other q → map (λ e. Some (seen e)) left ≡ map (λ e. Some (seen e)) other
+  each-same : (left other : List Event) (p q : List ℕ)
+      → AreLeft xs left p → AreLeft ys other q → map (λ e. Some (seen e)) left ≡ map (λ e. Some (seen e)) other
   each-same left other p q s t =
       s.each ∙ maps-same (renumbered_at xs (new_places xs)) (renumbered_at ys (new_places xs)) (at-same (new_places xs)) p
       ∙ ap₂ (λ (new ps : List ℕ). map (renumbered_at ys new) ps) new-same (s.places_are ∙ places-same ∙ sym t.places_are) ∙ sym t.each
 
   -- so the same are left of them, at the same places
-  pub left-once : (drop : Bool) (left other : List Event) (p q : Option (List ℕ)) → AreLeftBy drop xs left p → AreLeftBy drop ys other q → (p ≡ q) × (map seen other ≡ map seen left)
+  pub left-once : (drop : Bool) (left other : List Event) (p q : Option (List ℕ))
+      → AreLeftBy drop xs left p → AreLeftBy drop ys other q → (p ≡ q) × (map seen other ≡ map seen left)
   left-once false left other p q s t = (s.1 ∙ sym t.1, ap (map seen) t.0 ∙ sym same ∙ sym (ap (map seen) s.0))
   left-once true left other None q s t = absurd s
   left-once true left other (Some p) None s t = absurd t
-  left-once true left other (Some p) (Some q) s t = (ap (λ (ps : List ℕ). Some ps) (s.places_are ∙ places-same ∙ sym t.places_are), sym (somes-same left other (each-same left other p q s t)))
+  left-once true left other (Some p) (Some q) s t = (
+    ap (λ (ps : List ℕ). Some ps) (s.places_are ∙ places-same ∙ sym t.places_are),
+    sym (somes-same left other (each-same left other p q s t)),
+  )

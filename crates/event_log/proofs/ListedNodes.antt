@@ -30,7 +30,8 @@ pub listed-none : AreListed []
 unfolding IsDistinct
 listed-none = record { few = omega arith; each = All-nil (λ name. is_node_name name ≡ true); different = tt }
 
-pub listed-next : (names : List (List ℕ)) (name : List ℕ) → AreListed names → is_next_node names name ≡ true → AreListed (names ++ name ∷ [])
+pub listed-next : (names : List (List ℕ)) (name : List ℕ)
+    → AreListed names → is_next_node names name ≡ true → AreListed (names ++ name ∷ [])
 listed-next names name h e =
     let a = and_parts (is_node_name name && nat_lt (length names) 64) (not (has_name names name)) e in
     let b = and_parts (is_node_name name) (nat_lt (length names) 64) a.0 in
@@ -64,7 +65,8 @@ next-in : (x : List ℕ) (done rest : List (List ℕ)) → AreNodes (done ++ x �
 next-in x done rest h =
     let few = h.few in
     let short : length done < 64 = omega (arith, few, length-append done (x ∷ rest)) in
-    all-three (is_node_name x) (nat_lt (length done) 64) (has_name done x) (name-at x done rest h.each) (lt-ltb (length done) 64 short) (different-front x done rest h.different)
+    all-three (is_node_name x) (nat_lt (length done) 64)
+    (has_name done x) (name-at x done rest h.each) (lt-ltb (length done) 64 short) (different-front x done rest h.different)
 
 cut : (xs : List (List ℕ)) (k : ℕ) (d : List ℕ) → k < length xs → (rest : List (List ℕ)) × (xs ≡ take k xs ++ get_or xs k d ∷ rest)
 cut [] k d lt = absurd (omega (arith, lt))
@@ -72,7 +74,8 @@ cut (x ∷ xs) zero d lt = (xs, refl)
 cut (x ∷ xs) (suc k) d lt = let r = cut xs k d (omega (arith, lt)) in (r.0, ap (λ ys. x ∷ ys) r.1)
 
 -- so one that may not come next refuses the whole list
-pub nodes-refused : (names done : List (List ℕ)) (x : List ℕ) (k : ℕ) → done ≡ take k names → k < length names → x ≡ get_or names k x → is_next_node done x ≡ false → ¬ AreNodes names
+pub nodes-refused : (names done : List (List ℕ)) (x : List ℕ) (k : ℕ)
+    → done ≡ take k names → k < length names → x ≡ get_or names k x → is_next_node done x ≡ false → ¬ AreNodes names
 nodes-refused names done x k e lt at bad h =
     let r = cut names k x lt in
     let same : names ≡ done ++ x ∷ r.0 = r.1 ∙ ap (λ ys. ys ++ get_or names k x ∷ r.0) (sym e) ∙ ap (λ y. done ++ y ∷ r.0) (sym at) in

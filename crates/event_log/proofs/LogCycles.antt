@@ -36,7 +36,8 @@ no-map : (f : ℕ → EventError) (o : Option ℕ) → ((j : ℕ) → NoCycle (S
 no-map f None h = tt
 no-map f (Some j) h = h j
 
-message-no : (events : List Event) (ticks : List ℕ) (received : ℕ → Bool) (i k : ℕ) (message : Option ℕ) → NoCycle (message_refusal events ticks received i k message)
+message-no : (events : List Event) (ticks : List ℕ) (received : ℕ → Bool) (i k : ℕ) (message : Option ℕ)
+    → NoCycle (message_refusal events ticks received i k message)
 message-no events ticks received i k None = tt
 message-no events ticks received i k (Some s) =
     no-if (is_for events s (processor_at events i)) _ _
@@ -45,10 +46,9 @@ message-no events ticks received i k (Some s) =
 
 event-no : (events : List Event) (ticks : List ℕ) (i : ℕ) → NoCycle (event_refusal events ticks i)
 unfolding messages_refusal second_refusal
-event-no events ticks i =
-    no-or (messages_refusal events ticks i) (second_refusal events ticks i)
-    (no-first _ (length (messages_at events i)) (λ k. message-no events ticks (was_received events i k) i k (slice_index_or (messages_at events i) k None)))
-    (no-map _ (earlier_at events ticks i (moment_at events ticks i)) (λ j. tt))
+event-no events ticks i = no-or (messages_refusal events ticks i) (second_refusal events ticks i)
+    (no-first _ (length (messages_at events i)) (λ k. message-no events ticks (was_received events i k) i k
+    (slice_index_or (messages_at events i) k None))) (no-map _ (earlier_at events ticks i (moment_at events ticks i)) (λ j. tt))
 
 events-no : (events : List Event) (ticks : List ℕ) → NoCycle (events_refusal events ticks)
 unfolding events_refusal
@@ -60,7 +60,8 @@ fault-no events received i k (Some s) = no-if (is_for events s (processor_at eve
 
 faults-no : (events : List Event) (i : ℕ) → NoCycle (message_faults events i)
 unfolding message_faults
-faults-no events i = no-first _ (length (messages_at events i)) (λ k. fault-no events (was_received events i k) i k (slice_index_or (messages_at events i) k None))
+faults-no events i = no-first _ (length (messages_at events i))
+    (λ k. fault-no events (was_received events i k) i k (slice_index_or (messages_at events i) k None))
 
 first-no : (events : List Event) → NoCycle (first_fault events)
 unfolding first_fault
@@ -75,10 +76,13 @@ times-no events clock =
     no-if (int_lt (end_time events clock) (greatest_time events)) _ _ tt
     (no-if (nat_lt MAX_TICKS (last_tick events clock)) _ _ tt tt)
 
-behind-times : (events : List Event) (i : ℕ) (times : Option EventError) → NoCycle times → IsAfterTimes times events (Some (refused.Cycle i)) → IsBehindCycle events i
+behind-times : (events : List Event) (i : ℕ) (times : Option EventError)
+    → NoCycle times → IsAfterTimes times events (Some (refused.Cycle i)) → IsBehindCycle events i
 behind-times events i (Some reason) n h = absurd (subst NoCycle (sym h) n)
 behind-times events i None n h = h
 
-pub behind-cycle : (spread : Bool) (events : List Event) (clock : Clock) (i : ℕ) → IsTimedRefusal spread events clock (refused.Cycle i) → IsBehindCycle events i
-behind-cycle false events clock i h = absurd (subst NoCycle h (no-or (times_refusal events clock) (events_refusal events (time_ticks events clock)) (times-no events clock) (events-no events (time_ticks events clock))))
+pub behind-cycle : (spread : Bool) (events : List Event) (clock : Clock) (i : ℕ)
+    → IsTimedRefusal spread events clock (refused.Cycle i) → IsBehindCycle events i
+behind-cycle false events clock i h = absurd (subst NoCycle h (no-or (times_refusal events clock)
+    (events_refusal events (time_ticks events clock)) (times-no events clock) (events-no events (time_ticks events clock))))
 behind-cycle true events clock i h = behind-times events i (times_refusal events clock) (times-no events clock) h

@@ -26,13 +26,15 @@ due : (P : Type 0) (t : Bool) → t ≡ false → MatchBool t ⊤ P → P
 due P true n h = absurd (cc)
 due P false n h = h
 
-pub untimed-refusal : (o : Options) (text : List ℕ) (why : LogError) (Unmade : Type 0) → MatchBool (is_memory why) ⊤ Unmade → (Unmade → IsUntimed o text why) → IsLogRefusal o text why
+pub untimed-refusal : (o : Options) (text : List ℕ) (why : LogError) (Unmade : Type 0)
+    → MatchBool (is_memory why) ⊤ Unmade → (Unmade → IsUntimed o text why) → IsLogRefusal o text why
 untimed-refusal o text why Unmade h f = refusal-unless_memory o text why (λ n. inr (inr (inr (f (due Unmade (is_memory why) n h)))))
 
 pub unaligned-refusal : (o : Options) (text : List ℕ) (nodes : List (List ℕ)) (events : List Event) (why : LogError)
     → IsAlignRefusal text nodes events why → (IsUnalignedFor text nodes events why → IsUnaligned o text why)
     → IsLogRefusal o text why
-unaligned-refusal o text nodes events why h f = refusal-unless_memory o text why (λ n. inr (inr (inl (f (due (IsUnalignedFor text nodes events why) (is_memory why) n h)))))
+unaligned-refusal o text nodes events why h f = refusal-unless_memory o text why
+    (λ n. inr (inr (inl (f (due (IsUnalignedFor text nodes events why) (is_memory why) n h)))))
 
 pub read-refusal : (o : Options) (text : List ℕ) (why : LogError) → IsReadRefusal o text why → IsLogRefusal o text why
 read-refusal o text why h = refusal-unless_memory o text why (λ n. inl (due (IsRead o text (Err why)) (is_memory why) n h))
@@ -45,7 +47,8 @@ lent : (nodes : Option (List (List ℕ))) → (lent : Option (Bor (List (List �
 lent None = (None, refl)
 lent (Some nodes) = (Some (record { ref_ptr = (0, 0); now = nodes }), refl)
 
-small-by : {A : Type 0} (t : Bool) (n m : ℕ) (read : Result A LogError) (x : A) → nat_le n m ≡ t → (if t then read else Err TooLarge) ≡ Ok x → n ≤ m
+small-by : {A : Type 0} (t : Bool) (n m : ℕ) (read : Result A LogError) (x : A)
+    → nat_le n m ≡ t → (if t then read else Err TooLarge) ≡ Ok x → n ≤ m
 small-by true n m read x e h = leb-true n m e
 small-by false n m read x e h = absurd (cc)
 

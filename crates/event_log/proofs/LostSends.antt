@@ -19,7 +19,8 @@ one-left : (t : Bool) (xs : List ℕ) (s : ℕ) → xs ++ cond (not t) (s ∷ []
 one-left true xs s = append-nil xs
 one-left false xs s = refl
 
-pub left-more : (events : List Event) (s : ℕ) → left_before events (s + 1) ≡ cond (is_lost events s) (left_before events s) (left_before events s ++ s ∷ [])
+pub left-more : (events : List Event) (s : ℕ) → left_before events (s + 1)
+    ≡ cond (is_lost events s) (left_before events s) (left_before events s ++ s ∷ [])
 unfolding left_before
 left-more events s =
     let kept = λ (p : ℕ). not (is_lost events p) in
@@ -39,7 +40,8 @@ pub left-few : (events : List Event) (s : ℕ) → length (left_before events s)
 left-few events zero = subst (λ xs. length xs ≤ 0) (sym (left-none events)) (omega arith)
 left-few events (suc s) =
     let e : s + 1 ≡ suc s = omega arith in
-    subst (λ n. length (left_before events n) ≤ n) e (subst (λ xs. length xs ≤ s + 1) (sym (left-more events s)) (few-more (is_lost events s) (left_before events s) s (left-few events s)))
+    subst (λ n. length (left_before events n) ≤ n) e (subst (λ xs. length xs ≤ s + 1)
+    (sym (left-more events s)) (few-more (is_lost events s) (left_before events s) s (left-few events s)))
 
 -- each of them is before that place
 AreBelow : List ℕ → ℕ → Type 0
@@ -66,7 +68,8 @@ left-below : (events : List Event) (s : ℕ) → AreBelow (left_before events s)
 left-below events zero = subst (λ xs. AreBelow xs 0) (sym (left-none events)) none-below
 left-below events (suc s) =
     let e : s + 1 ≡ suc s = omega arith in
-    subst (λ n. AreBelow (left_before events n) n) e (subst (λ xs. AreBelow xs (s + 1)) (sym (left-more events s)) (below-more (is_lost events s) (left_before events s) s (left-below events s)))
+    subst (λ n. AreBelow (left_before events n) n) e (subst (λ xs. AreBelow xs (s + 1))
+    (sym (left-more events s)) (below-more (is_lost events s) (left_before events s) s (left-below events s)))
 
 pub left-within : (events : List Event) (s k : ℕ) → k < length (left_before events s) → slice_index (left_before events s) k < s
 unfolding AreBelow

@@ -9,12 +9,14 @@ use Rattle.timed_events.specs.declared.events.EventAct.TheVariants as act
 use Rattle.event_log.specs.Events.{seen, seen_act}
 use Rattle.event_log.specs.SoundLogs.{IsNumber, IsWithin, SendsWithin}
 
-pub within-at : (n : ℕ) (events : List Event) (i : ℕ) (e : Event) → All (IsWithin n) (map seen events) → slice_get events i ≡ Some e → IsWithin n (seen e)
+pub within-at : (n : ℕ) (events : List Event) (i : ℕ) (e : Event)
+    → All (IsWithin n) (map seen events) → slice_get events i ≡ Some e → IsWithin n (seen e)
 within-at n [] i e h k = cc k
 within-at n (x ∷ xs) zero e h k = let same : x ≡ e = cc k in rw (← same) (All-head (IsWithin n) (seen x) (map seen xs) h)
 within-at n (x ∷ xs) (suc i) e h k = within-at n xs i e (All-tail (IsWithin n) (seen x) (map seen xs) h) k
 
-processor-within : (n : ℕ) (events : List Event) (i : ℕ) → All (IsWithin n) (map seen events) → i < length events → IsNumber n (processor_at events i)
+processor-within : (n : ℕ) (events : List Event) (i : ℕ)
+    → All (IsWithin n) (map seen events) → i < length events → IsNumber n (processor_at events i)
 processor-within n [] i h lt = absurd (omega (arith, lt))
 processor-within n (x ∷ xs) zero h lt = (All-head (IsWithin n) (seen x) (map seen xs) h).0
 processor-within n (x ∷ xs) (suc i) h lt = processor-within n xs i (All-tail (IsWithin n) (seen x) (map seen xs) h) (omega (arith, lt))

@@ -11,7 +11,8 @@ no-names [] e = refl
 no-names (b ∷ bs) e = absurd (omega (arith, e))
 
 -- another is split at its spaces
-pub are-split : (field : List ℕ) → 0 < length field → are_message_names field ≡ list_all is_message_name (slice_split (λ byte. byte == 32) field)
+pub are-split : (field : List ℕ) → 0 < length field
+    → are_message_names field ≡ list_all is_message_name (slice_split (λ byte. byte == 32) field)
 unfolding are_message_names
 are-split [] lt = absurd (omega (arith, lt))
 are-split (b ∷ bs) lt = refl

@@ -20,7 +20,8 @@ order-same xs ys e x o = subst (λ hops. All (IsInOrder ys x) hops) (hops-same x
   moved i = ap₂ (λ (t : ℤ) (p : ℕ). t +ℤ x (p - 1)) (times-same xs ys e i) (processors-same xs ys e i)
 
   one : (hop : Hop) → IsInOrder xs x hop → IsInOrder ys x hop
-  one hop h = subst (λ t. t <ℤ (time_at ys hop.event +ℤ x (clock_at ys hop.event))) (moved hop.message) (subst (λ t. (time_at xs hop.message +ℤ x (clock_at xs hop.message)) <ℤ t) (moved hop.event) h)
+  one hop h = subst (λ t. t <ℤ (time_at ys hop.event +ℤ x (clock_at ys hop.event)))
+      (moved hop.message) (subst (λ t. (time_at xs hop.message +ℤ x (clock_at xs hop.message)) <ℤ t) (moved hop.event) h)
 
   each : (hops : List Hop) → All (IsInOrder xs x) hops → All (IsInOrder ys x) hops
   each [] a = All-nil (IsInOrder ys x)
@@ -31,9 +32,11 @@ same-lists : (xs ys : List ℤ) → length xs ≡ length ys → ((i : ℕ) → i
 same-lists [] [] e h = refl
 same-lists [] (y ∷ ys) e h = absurd (omega (arith, e))
 same-lists (x ∷ xs) [] e h = absurd (omega (arith, e))
-same-lists (x ∷ xs) (y ∷ ys) e h = ap₂ (λ (z : ℤ) (zs : List ℤ). z ∷ zs) (h 0 (omega arith)) (same-lists xs ys (omega (arith, e)) (λ i l. h (suc i) (omega (arith, l))))
+same-lists (x ∷ xs) (y ∷ ys) e h = ap₂ (λ (z : ℤ) (zs : List ℤ). z ∷ zs)
+    (h 0 (omega arith)) (same-lists xs ys (omega (arith, e)) (λ i l. h (suc i) (omega (arith, l))))
 
-offsets-same : (n : ℕ) (xs ys : List Event) → map seen xs ≡ map seen ys → (a b : List ℤ) → AreClockOffsets n xs a → AreClockOffsets n ys b → a ≡ b
+offsets-same : (n : ℕ) (xs ys : List Event) → map seen xs ≡ map seen ys
+    → (a b : List ℤ) → AreClockOffsets n xs a → AreClockOffsets n ys b → a ≡ b
 offsets-same n xs ys e a b s t = same-lists a b (s.long ∙ sym t.long)
     (λ i l. same-both (offset_in a i) (offset_in b i)
     (s.least (offset_in b) (order-same ys xs (sym e) (offset_in b) t.ordered) t.forward i

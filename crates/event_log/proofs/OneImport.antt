@@ -50,13 +50,15 @@ unless-same : {A : Type 0} (t : Bool) (e : LogError) (r q : Result A LogError) �
 unless-same t e r q h = ap (cond t (Err e)) h
 
 -- whether a node may be named goes by the listed names alone
-node-same : (a b : Option (Bor (List (List ℕ)))) (name : List ℕ) → option_map (λ nodes. nodes.now) a ≡ option_map (λ nodes. nodes.now) b → is_node a name ≡ is_node b name
+node-same : (a b : Option (Bor (List (List ℕ)))) (name : List ℕ)
+    → option_map (λ nodes. nodes.now) a ≡ option_map (λ nodes. nodes.now) b → is_node a name ≡ is_node b name
 node-same None None name h = refl
 node-same None (Some b) name h = absurd (cc)
 node-same (Some a) None name h = absurd (cc)
 node-same (Some a) (Some b) name h = let same : a.now ≡ b.now = cc in ap (λ names. has_name names name) same
 
-module _ (unit : Option TimeUnit) (a b : Option (Bor (List (List ℕ)))) (same : option_map (λ nodes. nodes.now) a ≡ option_map (λ nodes. nodes.now) b) where
+module _ (unit : Option TimeUnit) (a b : Option (Bor (List (List ℕ))))
+    (same : option_map (λ nodes. nodes.now) a ≡ option_map (λ nodes. nodes.now) b) where
   nodes-same : (v : Verb) (s : Said) → are_nodes_by v a s ≡ are_nodes_by v b s
   nodes-same verb.Send s = ap₂ (λ t u. t && u) (node-same a b s.node same) (node-same a b s.to same)
   nodes-same verb.Receive s = node-same a b s.node same
@@ -66,34 +68,40 @@ module _ (unit : Option TimeUnit) (a b : Option (Bor (List (List ℕ)))) (same :
   bad-same verb.Receive s = refl
 
   accepted-same : (number : ℕ) (s : Said) → accepted a number s ≡ accepted b number s
-  accepted-same number s = ap₂ (λ t (bad : Option (List ℕ)). cond t (cond (are_messages s) (Ok s) (Err (BadMessage number))) (Err (BadNode number bad))) (nodes-same s.verb s) (bad-same s.verb s)
+  accepted-same number s = ap₂ (λ t (bad : Option (List ℕ)).
+      cond t (cond (are_messages s) (Ok s) (Err (BadMessage number))) (Err (BadNode number bad))) (nodes-same s.verb s) (bad-same s.verb s)
 
-  said-same : (columns : Columns) (kind : Option TimeKind) (number : ℕ) (fields : List (List ℕ)) → said_of (rules columns unit kind a) number fields ≡ said_of (rules columns unit kind b) number fields
+  said-same : (columns : Columns) (kind : Option TimeKind) (number : ℕ) (fields : List (List ℕ))
+      → said_of (rules columns unit kind a) number fields ≡ said_of (rules columns unit kind b) number fields
   said-same columns kind number fields =
       ap (λ r. cond (length fields == columns.fields) r (Err (BadFields number)))
       (then-same (ok_or (moment_as (settled unit kind) (field_of fields columns.time)) (BadTime number)) _ _ (λ moment.
       then-same (ok_or (verb_of (field_of fields columns.event)) (BadEvent number)) _ _ (λ v.
       accepted-same number (said_by columns moment v fields))))
 
-  says-same : (columns : Columns) (kind : Option TimeKind) (place : ℕ) (records : List (List (List ℕ))) → says_of columns unit a kind place records ≡ says_of columns unit b kind place records
+  says-same : (columns : Columns) (kind : Option TimeKind) (place : ℕ) (records : List (List (List ℕ)))
+      → says_of columns unit a kind place records ≡ says_of columns unit b kind place records
   unfolding says_of
   says-same columns kind place [] = refl
-  says-same columns kind place (fields ∷ more) =
-      unless-same (nat_le MAX_EVENTS place) TooManyEvents _ _
-      (ap (λ r. r >>= λ s. says_of columns unit a (Some s.moment.kind) (place + 1) more >>= λ r. with_said s r) (said-same columns kind (place + 2) fields)
-      ∙ then-same (said_of (rules columns unit kind b) (place + 2) fields) _ _ (λ s. ap (λ r. r >>= λ r. with_said s r) (says-same columns (Some s.moment.kind) (place + 1) more)))
+  says-same columns kind place (fields ∷ more) = unless-same (nat_le MAX_EVENTS place) TooManyEvents _ _
+      (ap (λ r. r >>= λ s. says_of columns unit a (Some s.moment.kind) (place + 1) more >>= λ r. with_said s r)
+      (said-same columns kind (place + 2) fields) ∙ then-same (said_of (rules columns unit kind b) (place + 2) fields) _ _
+      (λ s. ap (λ r. r >>= λ r. with_said s r) (says-same columns (Some s.moment.kind) (place + 1) more)))
 
-  header-same : (nodes : List (List ℕ)) (records : List (List (List ℕ))) → header_stage unit a nodes records ≡ header_stage unit b nodes records
+  header-same : (nodes : List (List ℕ)) (records : List (List (List ℕ)))
+      → header_stage unit a nodes records ≡ header_stage unit b nodes records
   header-same nodes [] = refl
-  header-same nodes (header ∷ more) = then-same (columns_of header) _ _ (λ columns. ap (λ r. r >>= λ r. names_stage nodes r) (says-same columns None 0 more))
+  header-same nodes (header ∷ more) = then-same (columns_of header) _ _
+      (λ columns. ap (λ r. r >>= λ r. names_stage nodes r) (says-same columns None 0 more))
 
   staged-same : (nodes : List (List ℕ)) (text : List ℕ) → staged_log unit a nodes text ≡ staged_log unit b nodes text
-  staged-same nodes text =
-      ap (λ r. cond (nat_le (length text) MAX_TEXT_BYTES) (r >>= λ r. Ok (resolved_log r.0 r.1)) (Err TooLarge)) (header-same nodes (records_of_text text))
+  staged-same nodes text = ap (λ r. cond (nat_le (length text) MAX_TEXT_BYTES) (r >>= λ r. Ok (resolved_log r.0 r.1)) (Err TooLarge))
+      (header-same nodes (records_of_text text))
 
 -- a text gives one list of events, or is refused for one reason
 pub IsRead-unique : (o : Options) (text : List ℕ) (a b : Result SeenLog LogError) → IsRead o text a → IsRead o text b → a ≡ b
-IsRead-unique o text a b s t = sym s.staged ∙ staged-same o.unit s.listed t.listed (s.same ∙ sym t.same) (unwrap_or o.nodes []) text ∙ t.staged
+IsRead-unique o text a b s t = sym s.staged
+    ∙ staged-same o.unit s.listed t.listed (s.same ∙ sym t.same) (unwrap_or o.nodes []) text ∙ t.staged
 
 same-Ok : {A : Type 0} {x y : A} → ◌≡◌ {A = Result A LogError} (Ok x) (Ok y) → x ≡ y
 same-Ok e = cc e
@@ -134,7 +142,16 @@ same-import a b t n m l o i k j =
       lost = a.lost;
       merged = a.merged;
     } in z) o i
-    ∙ ap₂ (λ (lost merged : Option ℕ). let z : Import = record { trace = b.trace; nodes = b.nodes; moved = b.moved; lateness = b.lateness; offsets = b.offsets; idle = b.idle; lost = lost; merged = merged } in z) k j
+    ∙ ap₂ (λ (lost merged : Option ℕ). let z : Import = record {
+      trace = b.trace;
+      nodes = b.nodes;
+      moved = b.moved;
+      lateness = b.lateness;
+      offsets = b.offsets;
+      idle = b.idle;
+      lost = lost;
+      merged = merged;
+    } in z) k j
 
 -- as many of them are left, if lost sends are left out
 kept-same : (drop : Bool) (xs ys : List Event) → map seen xs ≡ map seen ys → kept_count drop xs ≡ kept_count drop ys
@@ -151,41 +168,43 @@ log-once drop merge limit spread n xs ys clock a b same s t = (
   s.moved_is ∙ ap₂ (λ (at : Option (List ℕ)) (m : Moved). moved_in at m) left.0 made.1 ∙ sym t.moved_is,
   made.2,
   s.lost ∙ ap₂ (λ (before after : ℕ). removed_by drop before after) (lengths xs ys same) (kept-same drop xs ys same) ∙ sym t.lost,
-  s.merged ∙ ap₂ (λ (before after : ℕ). removed_by merge before after) (kept-same drop xs ys same) (lengths s.left t.left (sym left.1)) ∙ sym t.merged,
+  s.merged ∙ ap₂ (λ (before after : ℕ). removed_by merge before after) (kept-same drop xs ys same) (lengths s.left t.left (sym left.1))
+      ∙ sym t.merged,
 ) where
   left : (s.left_at ≡ t.left_at) × (map seen t.left ≡ map seen s.left)
   left = taken-once xs ys same drop merge clock s.left t.left s.left_at t.left_at s.parts t.parts s.are_left t.are_left
 
   made : (a.trace ≡ b.trace) × (s.moved ≡ t.moved) × (a.idle ≡ b.idle)
-  made = made-once limit spread n s.left clock a.trace b.trace s.moved t.moved a.idle b.idle s.made (made-as-seen t.left s.left left.1 limit spread n clock b.trace t.moved b.idle t.made)
+  made = made-once limit spread n s.left clock a.trace b.trace s.moved t.moved a.idle b.idle s.made
+      (made-as-seen t.left s.left left.1 limit spread n clock b.trace t.moved b.idle t.made)
 
 pub IsImportOf-unique : (o : Options) (text : List ℕ) (a b : Import) → IsImportOf o text a → IsImportOf o text b → a ≡ b
-IsImportOf-unique o text a b s t = same-import a b made.0 (s.nodes ∙ ap (λ l. l.nodes) log ∙ sym t.nodes) made.1 late one.0 made.2 made.3 made.4 where
-  log : s.log ≡ t.log
-  log = same-Ok (IsRead-unique o text (Ok s.log) (Ok t.log) s.told.read t.told.read)
+IsImportOf-unique o text a b s t = same-import a b made.0
+    (s.nodes ∙ ap (λ l. l.nodes) log ∙ sym t.nodes) made.1 late one.0 made.2 made.3 made.4 where
+      log : s.log ≡ t.log
+      log = same-Ok (IsRead-unique o text (Ok s.log) (Ok t.log) s.told.read t.told.read)
 
-  clock : s.clock ≡ t.clock
-  clock = same-Ok (sym s.told.fits ∙ ap (λ l. clock_in o l.kind) log ∙ t.told.fits)
+      clock : s.clock ≡ t.clock
+      clock = same-Ok (sym s.told.fits ∙ ap (λ l. clock_in o l.kind) log ∙ t.told.fits)
 
-  events : map seen t.events ≡ map seen s.events
-  events = t.told.same ∙ sym (ap (λ l. l.events) log) ∙ sym s.told.same
+      events : map seen t.events ≡ map seen s.events
+      events = t.told.same ∙ sym (ap (λ l. l.events) log) ∙ sym s.told.same
 
-  -- the offsets are one, and the aligned events are seen as the same
-  one : (a.offsets ≡ b.offsets) × (map seen t.aligned ≡ map seen s.aligned)
-  one = aligned-once o.align (length s.log.nodes) s.events t.events a.offsets b.offsets s.aligned t.aligned (sym events)
-      s.clocks (subst (λ l. AreAligned o.align (length l.nodes) t.events b.offsets t.aligned) (sym log) t.clocks)
+      -- the offsets are one, and the aligned events are seen as the same
+      one : (a.offsets ≡ b.offsets) × (map seen t.aligned ≡ map seen s.aligned)
+      one = aligned-once o.align (length s.log.nodes) s.events t.events a.offsets b.offsets s.aligned t.aligned (sym events)
+          s.clocks (subst (λ l. AreAligned o.align (length l.nodes) t.events b.offsets t.aligned) (sym log) t.clocks)
 
-  late : a.lateness ≡ b.lateness
-  late = s.lateness ∙ sym (lateness-same t.aligned s.aligned one.1) ∙ sym t.lateness
+      late : a.lateness ≡ b.lateness
+      late = s.lateness ∙ sym (lateness-same t.aligned s.aligned one.1) ∙ sym t.lateness
 
-  limit : s.limit ≡ t.limit
-  limit = same-Ok (sym s.fits_idle ∙ ap₂ (λ (l : SeenLog) (c : Clock). limit_in o l.kind c) log clock ∙ t.fits_idle)
+      limit : s.limit ≡ t.limit
+      limit = same-Ok (sym s.fits_idle ∙ ap₂ (λ (l : SeenLog) (c : Clock). limit_in o l.kind c) log clock ∙ t.fits_idle)
 
-  other : IsMadeOfLog o.drop_lost o.merge s.limit o.spread (length s.log.nodes) t.aligned s.clock b
-  other =
-      subst (λ (l : SeenLog). IsMadeOfLog o.drop_lost o.merge s.limit o.spread (length l.nodes) t.aligned s.clock b) (sym log)
-      (subst (λ (c : Clock). IsMadeOfLog o.drop_lost o.merge s.limit o.spread (length t.log.nodes) t.aligned c b) (sym clock)
-      (subst (λ (m : Option ℕ). IsMadeOfLog o.drop_lost o.merge m o.spread (length t.log.nodes) t.aligned t.clock b) (sym limit) t.made))
+      other : IsMadeOfLog o.drop_lost o.merge s.limit o.spread (length s.log.nodes) t.aligned s.clock b
+      other = subst (λ (l : SeenLog). IsMadeOfLog o.drop_lost o.merge s.limit o.spread (length l.nodes) t.aligned s.clock b) (sym log)
+          (subst (λ (c : Clock). IsMadeOfLog o.drop_lost o.merge s.limit o.spread (length t.log.nodes) t.aligned c b) (sym clock) (subst
+          (λ (m : Option ℕ). IsMadeOfLog o.drop_lost o.merge m o.spread (length t.log.nodes) t.aligned t.clock b) (sym limit) t.made))
 
-  made : (a.trace ≡ b.trace) × (a.moved ≡ b.moved) × (a.idle ≡ b.idle) × (a.lost ≡ b.lost) × (a.merged ≡ b.merged)
-  made = log-once o.drop_lost o.merge s.limit o.spread (length s.log.nodes) s.aligned t.aligned s.clock a b (sym one.1) s.made other
+      made : (a.trace ≡ b.trace) × (a.moved ≡ b.moved) × (a.idle ≡ b.idle) × (a.lost ≡ b.lost) × (a.merged ≡ b.merged)
+      made = log-once o.drop_lost o.merge s.limit o.spread (length s.log.nodes) s.aligned t.aligned s.clock a b (sym one.1) s.made other

@@ -39,14 +39,16 @@ seen-once (x ∷ xs) (y ∷ ys) e =
 same-log : {x y : SeenLog} → ◌≡◌ {A = Result SeenLog LogError} (Ok x) (Ok y) → x ≡ y
 same-log e = cc e
 
-pub aligned-log-once : (o : Options) (text : List ℕ) (ns ms : List (List ℕ)) (xs ys : List Event) → IsAlignedLogOf o text ns xs → IsAlignedLogOf o text ms ys → (ns ≡ ms) × (xs ≡ ys)
-aligned-log-once o text ns ms xs ys s t = (s.nodes_are ∙ ap (λ (l : SeenLog). l.nodes) log ∙ sym t.nodes_are, seen-once xs ys (sym one.1)) where
-  log : s.log ≡ t.log
-  log = same-log (IsRead-unique o text (Ok s.log) (Ok t.log) s.read t.read)
+pub aligned-log-once : (o : Options) (text : List ℕ) (ns ms : List (List ℕ)) (xs ys : List Event)
+    → IsAlignedLogOf o text ns xs → IsAlignedLogOf o text ms ys → (ns ≡ ms) × (xs ≡ ys)
+aligned-log-once o text ns ms xs ys s t =
+    (s.nodes_are ∙ ap (λ (l : SeenLog). l.nodes) log ∙ sym t.nodes_are, seen-once xs ys (sym one.1)) where
+      log : s.log ≡ t.log
+      log = same-log (IsRead-unique o text (Ok s.log) (Ok t.log) s.read t.read)
 
-  events : map seen s.events ≡ map seen t.events
-  events = s.same ∙ ap (λ (l : SeenLog). l.events) log ∙ sym t.same
+      events : map seen s.events ≡ map seen t.events
+      events = s.same ∙ ap (λ (l : SeenLog). l.events) log ∙ sym t.same
 
-  one : (s.offsets ≡ t.offsets) × (map seen ys ≡ map seen xs)
-  one = aligned-once o.align (length s.log.nodes) s.events t.events s.offsets t.offsets xs ys events s.clocks
-      (subst (λ (l : SeenLog). AreAligned o.align (length l.nodes) t.events t.offsets ys) (sym log) t.clocks)
+      one : (s.offsets ≡ t.offsets) × (map seen ys ≡ map seen xs)
+      one = aligned-once o.align (length s.log.nodes) s.events t.events s.offsets t.offsets xs ys events s.clocks
+          (subst (λ (l : SeenLog). AreAligned o.align (length l.nodes) t.events t.offsets ys) (sym log) t.clocks)

@@ -45,10 +45,11 @@ no-cycle events places parts (refused.Cycle j) other i e = absurd (other j refl)
 no-cycle events places parts refused.Memory other i e = absurd (cc e)
 
 -- the event that received a message is one of those of which an event is made
-source-within : (events : List Event) (part : List ℕ) → ((k : ℕ) → k < length part → slice_index part k < MAX_EVENTS) → (k : ℕ) → (source_of events part k).0 < MAX_EVENTS
+source-within : (events : List Event) (part : List ℕ)
+    → ((k : ℕ) → k < length part → slice_index part k < MAX_EVENTS) → (k : ℕ) → (source_of events part k).0 < MAX_EVENTS
 source-within events [] h k = omega arith
-source-within events (p ∷ ps) h k =
-    go (nat_lt k (length (messages_at events p))) (h zero (omega arith)) (source-within events ps (λ j l. h (suc j) (omega (arith, l))) (k - length (messages_at events p))) where
+source-within events (p ∷ ps) h k = go (nat_lt k (length (messages_at events p)))
+    (h zero (omega arith)) (source-within events ps (λ j l. h (suc j) (omega (arith, l))) (k - length (messages_at events p))) where
       go : (t : Bool) → p < MAX_EVENTS → (source_of events ps (k - length (messages_at events p))).0 < MAX_EVENTS
           → (let z : ℕ × ℕ = cond t (p, k) (source_of events ps (k - length (messages_at events p))) in
           z.0 < MAX_EVENTS)
@@ -56,7 +57,8 @@ source-within events (p ∷ ps) h k =
       go false a b = b
 
 -- the parts at a place, if any, are places of events
-pub part-inside : (n : ℕ) (parts : List (List ℕ)) → AreParts n parts → (i j : ℕ) → j < length (slice_index_or parts i []) → slice_index (slice_index_or parts i []) j < n
+pub part-inside : (n : ℕ) (parts : List (List ℕ)) → AreParts n parts
+    → (i j : ℕ) → j < length (slice_index_or parts i []) → slice_index (slice_index_or parts i []) j < n
 part-inside n parts a i j l = go (cases_lt i (length parts)) where
   go : (i < length parts) ⊎ (length parts ≤ i) → slice_index (slice_index_or parts i []) j < n
   go (inl b) = (a i b).inside j l
@@ -71,10 +73,11 @@ module _ (places : List ℕ) (within : (k : ℕ) → k < length places → slice
     go (inr b) = let e = get_or_past places i 0 b in omega (arith, e)
 
   module _ (events : List Event) (few : length events ≤ MAX_EVENTS) where
-    sources-within : (parts : Option (List (List ℕ))) → ((own : List (List ℕ)) → parts ≡ Some own → AreParts (length events) own) → (i k : ℕ) → (source_in events places parts i k).0 < MAX_EVENTS
+    sources-within : (parts : Option (List (List ℕ))) → ((own : List (List ℕ)) → parts ≡ Some own → AreParts (length events) own)
+        → (i k : ℕ) → (source_in events places parts i k).0 < MAX_EVENTS
     sources-within None h i k = place-within i
-    sources-within (Some own) h i k =
-        source-within events (slice_index_or own i []) (λ j l. let b = part-inside (length events) own (h own refl) i j l in omega (arith, b, few)) k
+    sources-within (Some own) h i k = source-within events
+        (slice_index_or own i []) (λ j l. let b = part-inside (length events) own (h own refl) i j l in omega (arith, b, few)) k
 
     module _ (parts : Option (List (List ℕ))) (inside : (own : List (List ℕ)) → parts ≡ Some own → AreParts (length events) own) where
       pub reason-within : (why : EventError) → event_place (reason_in events places parts why) < MAX_EVENTS
@@ -88,7 +91,8 @@ module _ (places : List ℕ) (within : (k : ℕ) → k < length places → slice
       reason-within (refused.Cycle i) = place-within i
       reason-within refused.Memory = omega arith
 
-  pub hops-within : (hops : List Hop) (k : ℕ) (d : Hop) → k < length (map (hop_in places) hops) → (get_or (map (hop_in places) hops) k d).message < MAX_EVENTS
+  pub hops-within : (hops : List Hop) (k : ℕ) (d : Hop)
+      → k < length (map (hop_in places) hops) → (get_or (map (hop_in places) hops) k d).message < MAX_EVENTS
   hops-within [] k d b = absurd (omega (arith, b))
   hops-within (h ∷ hs) zero d b = place-within h.message
   hops-within (h ∷ hs) (suc k) d b = hops-within hs k d (omega (arith, b))

@@ -62,10 +62,12 @@ pub untaken-unmade : (drop merge : Bool) (limit : Option ℕ) (spread : Bool) (t
     (events : List Event) (clock : Clock) (why : LogError)
     → MatchBool (is_memory why) ⊤ (IsEmptied drop events why ⊎ IsUnmergedOf drop merge events clock why)
     → IsUnmadeUnlessMemory drop merge limit spread text nodes events clock why
-untaken-unmade drop merge limit spread text nodes events clock why = unless (is_memory why) _ (IsUnmadeOfLog drop merge limit spread text nodes events clock why) go where
-  go : IsEmptied drop events why ⊎ IsUnmergedOf drop merge events clock why → IsUnmadeOfLog drop merge limit spread text nodes events clock why
-  go (inl none) = inl none
-  go (inr refused) = inr (inl refused)
+untaken-unmade drop merge limit spread text nodes events clock why =
+    unless (is_memory why) _ (IsUnmadeOfLog drop merge limit spread text nodes events clock why) go where
+      go : IsEmptied drop events why ⊎ IsUnmergedOf drop merge events clock why
+          → IsUnmadeOfLog drop merge limit spread text nodes events clock why
+      go (inl none) = inl none
+      go (inr refused) = inr (inl refused)
 
 module _ (o : Options) (text : List ℕ) (log : SeenLog) (events : List Event) (clock : Clock)
     (told : AreEventsOf o text log events clock) (aligned : AlignedLog)
@@ -73,15 +75,19 @@ module _ (o : Options) (text : List ℕ) (log : SeenLog) (events : List Event) (
     (nodes : aligned.log.nodes ≡ log.nodes) (limit : Option ℕ) (fits : limit_in o log.kind clock ≡ Ok limit)
     (drop merge : Bool) (asked : o.drop_lost ≡ drop) (joined : o.merge ≡ merge) where
   pub placed-import : (table : Bool) (lateness : Lateness) → lateness ≡ lateness_of aligned.log.events.items
-      → (import : Import) (filled : List Event) (logged : ℕ) (left_at : Option (List ℕ)) (parts : Option (List (List ℕ))) (first : ℤ) (ticks : Clock) (places : List ℕ)
-      → IsPlacedOfLog table drop merge limit o.spread (length aligned.log.nodes) aligned.log.events.items clock import filled logged left_at parts first places
-      → import.nodes ≡ aligned.log.nodes → import.offsets ≡ aligned.offsets → import.lateness ≡ lateness → ticks ≡ clock
-      → IsPlacedImport table o text import filled logged left_at parts first ticks places
+      → (import : Import) (filled : List Event) (logged : ℕ) (left_at : Option (List ℕ)) (parts : Option (List (List ℕ))) (first : ℤ)
+      (ticks : Clock) (places : List ℕ) → IsPlacedOfLog table drop merge limit o.spread (length aligned.log.nodes) aligned.log.events.items
+      clock import filled logged left_at parts first places → import.nodes ≡ aligned.log.nodes → import.offsets ≡ aligned.offsets
+      → import.lateness ≡ lateness → ticks ≡ clock → IsPlacedImport table o text import filled logged left_at parts first ticks places
   placed-import table lateness late import filled logged left_at parts first ticks places h nodes_are offsets_are lateness_is clock_is =
-      let is : IsPlacedOfLog table o.drop_lost o.merge limit o.spread (length log.nodes) aligned.log.events.items clock import filled logged left_at parts first places =
-      subst (λ (d : Bool). IsPlacedOfLog table d o.merge limit o.spread (length log.nodes) aligned.log.events.items clock import filled logged left_at parts first places) (sym asked)
-      (subst (λ (m : Bool). IsPlacedOfLog table drop m limit o.spread (length log.nodes) aligned.log.events.items clock import filled logged left_at parts first places) (sym joined)
-      (subst (λ (ns : List (List ℕ)). IsPlacedOfLog table drop merge limit o.spread (length ns) aligned.log.events.items clock import filled logged left_at parts first places) nodes h)) in
+      let is : IsPlacedOfLog table o.drop_lost o.merge limit o.spread
+      (length log.nodes) aligned.log.events.items clock import filled logged left_at parts first places =
+      subst (λ (d : Bool). IsPlacedOfLog table d o.merge limit o.spread
+      (length log.nodes) aligned.log.events.items clock import filled logged left_at parts first places) (sym asked)
+      (subst (λ (m : Bool). IsPlacedOfLog table drop m limit o.spread
+      (length log.nodes) aligned.log.events.items clock import filled logged left_at parts first places) (sym joined)
+      (subst (λ (ns : List (List ℕ)). IsPlacedOfLog table drop merge limit o.spread
+      (length ns) aligned.log.events.items clock import filled logged left_at parts first places) nodes h)) in
       subst (λ (c : Clock). IsPlacedImport table o text import filled logged left_at parts first c places) (sym clock_is) (record {
         is = record {
           log = log;
@@ -89,7 +95,8 @@ module _ (o : Options) (text : List ℕ) (log : SeenLog) (events : List Event) (
           clock = clock;
           told = told;
           aligned = aligned.log.events.items;
-          clocks = subst (λ (offsets : Option (List ℤ)). AreAligned o.align (length log.nodes) events offsets aligned.log.events.items) (sym offsets_are) clocks;
+          clocks = subst (λ (offsets : Option (List ℤ)). AreAligned o.align (length log.nodes) events offsets aligned.log.events.items)
+              (sym offsets_are) clocks;
           limit = limit;
           fits_idle = fits;
           made = is.is;
@@ -104,7 +111,8 @@ module _ (o : Options) (text : List ℕ) (log : SeenLog) (events : List Event) (
         placed = is.placed;
       })
 
-  pub unmade-refusal : (why : LogError) → IsUnmadeUnlessMemory drop merge limit o.spread text aligned.log.nodes aligned.log.events.items clock why → IsLogRefusal o text why
+  pub unmade-refusal : (why : LogError)
+      → IsUnmadeUnlessMemory drop merge limit o.spread text aligned.log.nodes aligned.log.events.items clock why → IsLogRefusal o text why
   unmade-refusal why h = untimed-refusal o text why _ h (λ unmade. record {
     log = log;
     events = events;

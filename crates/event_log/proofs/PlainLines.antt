@@ -24,7 +24,14 @@ plain-longer text at end order within plain before =
     let here : at + (end - at) ≡ end = omega arith in
     let byte : get_or (drop at text) (end - at) 0 ≡ get_or text end 0 = get_or-drop at text (end - at) 0 ∙ ap (λ k. get_or text k 0) here in
     let grown = take_more (drop at text) (end - at) 0 (omega (arith, rest)) in
-    rw (next, grown, list_any-append (needs_byte our_writer) (take (end - at) (drop at text)) (get_or (drop at text) (end - at) 0 ∷ []), before, byte, plain) refl
+    rw (
+      next,
+      grown,
+      list_any-append (needs_byte our_writer) (take (end - at) (drop at text)) (get_or (drop at text) (end - at) 0 ∷ []),
+      before,
+      byte,
+      plain,
+    ) refl
 
 -- fields with a comma behind each
 abbrev pub begun_line : List (List ℕ) → List ℕ
@@ -34,8 +41,8 @@ begun_line fields = flat_map (λ field. field ++ 44 ∷ []) fields
 line-ended : (fields : List (List ℕ)) (field : List ℕ) → join_with_byte 44 (fields ++ field ∷ []) ≡ begun_line fields ++ field
 line-ended [] field = refl
 line-ended (f ∷ []) field = sym (ap (λ (t : List ℕ). t ++ field) (append-nil (f ++ 44 ∷ [])) ∙ append_assoc f (44 ∷ []) field)
-line-ended (f ∷ g ∷ gs) field =
-    ap (λ (t : List ℕ). f ++ (44 ∷ t)) (line-ended (g ∷ gs) field) ∙ sym (append_assoc f (44 ∷ []) (begun_line (g ∷ gs) ++ field)) ∙ sym (append_assoc (f ++ 44 ∷ []) (begun_line (g ∷ gs)) field)
+line-ended (f ∷ g ∷ gs) field = ap (λ (t : List ℕ). f ++ (44 ∷ t)) (line-ended (g ∷ gs) field)
+    ∙ sym (append_assoc f (44 ∷ []) (begun_line (g ∷ gs) ++ field)) ∙ sym (append_assoc (f ++ 44 ∷ []) (begun_line (g ∷ gs)) field)
 
 -- a line that begins with these fields
 pub record BeginsLine (text : List ℕ) (at from : ℕ) (fields : List (List ℕ)) : Type 0 where
@@ -45,8 +52,8 @@ pub record BeginsLine (text : List ℕ) (at from : ℕ) (fields : List (List ℕ
   pub is : drop at text ≡ begun_line fields ++ drop from text
 
 -- it begins with one more, which isn't the last
-pub line-goes_on : (text : List ℕ) (at from : ℕ) (fields : List (List ℕ)) (f : PlainField) → BeginsLine text at from fields → IsPlainField text from f → f.is_last ≡ false
-    → BeginsLine text at f.end (fields ++ f.bytes.now ∷ [])
+pub line-goes_on : (text : List ℕ) (at from : ℕ) (fields : List (List ℕ)) (f : PlainField)
+    → BeginsLine text at from fields → IsPlainField text from f → f.is_last ≡ false → BeginsLine text at f.end (fields ++ f.bytes.now ∷ [])
 line-goes_on text at from fields f begun found more = record {
   order = let o = begun.order in let s = found.some in omega arith;
   within = found.end;
@@ -68,8 +75,8 @@ line-goes_on text at from fields f begun found more = record {
       ∙ sym (append_assoc (begun_line fields) (more_field ++ []) rest))
 
 -- or it ends with the last one
-pub line-ends : (text : List ℕ) (at from : ℕ) (fields : List (List ℕ)) (f : PlainField) → BeginsLine text at from fields → IsPlainField text from f → f.is_last ≡ true
-    → EndsLine text at (fields ++ f.bytes.now ∷ []) f.end
+pub line-ends : (text : List ℕ) (at from : ℕ) (fields : List (List ℕ)) (f : PlainField)
+    → BeginsLine text at from fields → IsPlainField text from f → f.is_last ≡ true → EndsLine text at (fields ++ f.bytes.now ∷ []) f.end
 line-ends text at from fields f begun found last = record {
   within = found.end;
   some = let o = begun.order in let s = found.some in omega arith;
@@ -84,7 +91,8 @@ line-ends text at from fields f begun found last = record {
   rest = drop f.end text
 
 -- the field at a place is what the slice there has
-pub slice-field : (slices : List (Bor (List ℕ))) (place : ℕ) (field : Bor (List ℕ)) → place < length slices → field ≡ get_or slices place field → field.now ≡ field_of (map (λ s. s.now) slices) place
+pub slice-field : (slices : List (Bor (List ℕ))) (place : ℕ) (field : Bor (List ℕ))
+    → place < length slices → field ≡ get_or slices place field → field.now ≡ field_of (map (λ s. s.now) slices) place
 unfolding field_at
 slice-field [] place field l h = absurd (omega arith)
 slice-field (s ∷ ss) zero field l h = ap (λ b. b.now) h

@@ -105,10 +105,12 @@ does-same : (numbers : List ℕ) (a b : EventAct) (does : Act) → seen_act a �
 does-same numbers (act.Send to) (act.Send other) does e h = let same : to ≡ other = cc in h ∙ ap step_act.Send same
 does-same numbers (act.Send to) (act.Receive messages) does e h = absurd (cc)
 does-same numbers (act.Receive messages) (act.Send to) does e h = absurd (cc)
-does-same numbers (act.Receive messages) (act.Receive others) does e h = let same : messages ≡ others = cc in (h.0, h.1, subst (λ ms. AreIdsOf numbers ms h.0) same h.2)
+does-same numbers (act.Receive messages) (act.Receive others) does e h =
+    let same : messages ≡ others = cc in (h.0, h.1, subst (λ ms. AreIdsOf numbers ms h.0) same h.2)
 
 module _ (xs ys : List Event) (same : map seen xs ≡ map seen ys) where
-  looks-same : {X : Type 0} (f : Event → X) (g : Seen → X) → ((e : Event) → f e ≡ g (seen e)) → (i : ℕ) (d : X) → option_map_or f (slice_get xs i) d ≡ option_map_or f (slice_get ys i) d
+  looks-same : {X : Type 0} (f : Event → X) (g : Seen → X)
+      → ((e : Event) → f e ≡ g (seen e)) → (i : ℕ) (d : X) → option_map_or f (slice_get xs i) d ≡ option_map_or f (slice_get ys i) d
   looks-same f g h i d = look-seen f g h xs i d ∙ ap (λ ss. option_map_or g (slice_get ss i) d) same ∙ sym (look-seen f g h ys i d)
 
   pub lengths : length xs ≡ length ys
@@ -128,15 +130,17 @@ module _ (xs ys : List Event) (same : map seen xs ≡ map seen ys) where
 
   least : least_time xs ≡ least_time ys
   unfolding least_time
-  least = fold-seen int_min (first_time xs) xs ∙ ap₂ (λ (a : ℤ) (ss : List Seen). fold (λ x s. int_min x s.time) a ss) firsts same ∙ sym (fold-seen int_min (first_time ys) ys) where
-    firsts : first_time xs ≡ first_time ys
-    firsts = first-seen xs ∙ ap first_seen same ∙ sym (first-seen ys)
+  least = fold-seen int_min (first_time xs) xs ∙ ap₂ (λ (a : ℤ) (ss : List Seen). fold (λ x s. int_min x s.time) a ss) firsts same
+      ∙ sym (fold-seen int_min (first_time ys) ys) where
+        firsts : first_time xs ≡ first_time ys
+        firsts = first-seen xs ∙ ap first_seen same ∙ sym (first-seen ys)
 
   greatest : greatest_time xs ≡ greatest_time ys
   unfolding greatest_time
-  greatest = fold-seen int_max (first_time xs) xs ∙ ap₂ (λ (a : ℤ) (ss : List Seen). fold (λ x s. int_max x s.time) a ss) firsts same ∙ sym (fold-seen int_max (first_time ys) ys) where
-    firsts : first_time xs ≡ first_time ys
-    firsts = first-seen xs ∙ ap first_seen same ∙ sym (first-seen ys)
+  greatest = fold-seen int_max (first_time xs) xs ∙ ap₂ (λ (a : ℤ) (ss : List Seen). fold (λ x s. int_max x s.time) a ss) firsts same
+      ∙ sym (fold-seen int_max (first_time ys) ys) where
+        firsts : first_time xs ≡ first_time ys
+        firsts = first-seen xs ∙ ap first_seen same ∙ sym (first-seen ys)
 
   pub own-ticks : (clock : Clock) → time_ticks xs clock ≡ time_ticks ys clock
   own-ticks clock =
@@ -148,9 +152,8 @@ module _ (xs ys : List Event) (same : map seen xs ≡ map seen ys) where
   last-ticks clock = ap₂ (λ (l g : ℤ). unsigned_abs (unwrap_or clock.until g -ℤ l) / clock.width + 1) least greatest
 
   times-refused : (clock : Clock) → times_refusal xs clock ≡ times_refusal ys clock
-  times-refused clock =
-      ap₂ (λ (g : ℤ) (last : ℕ). if int_lt (unwrap_or clock.until g) g then Some UntilTooEarly else if nat_lt MAX_TICKS last then Some TooManyTicks else None)
-      greatest (last-ticks clock)
+  times-refused clock = ap₂ (λ (g : ℤ) (last : ℕ). if int_lt (unwrap_or clock.until g) g then Some UntilTooEarly
+      else if nat_lt MAX_TICKS last then Some TooManyTicks else None) greatest (last-ticks clock)
 
   pub lasts : (clock : Clock) (ticks : List ℕ) → last_of xs clock ticks ≡ last_of ys clock ticks
   lasts clock ticks = ap (λ last. fold max last ticks) (last-ticks clock)
@@ -158,35 +161,35 @@ module _ (xs ys : List Event) (same : map seen xs ≡ map seen ys) where
   -- the tests
   received-same : (i s : ℕ) → received_before xs i s ≡ received_before ys i s
   unfolding received_before
-  received-same i s = any-same (λ j. list_any (is_message s) (messages_at xs j)) (λ j. list_any (is_message s) (messages_at ys j)) (λ j. ap (list_any (is_message s)) (messages j)) i
+  received-same i s = any-same (λ j. list_any (is_message s) (messages_at xs j))
+      (λ j. list_any (is_message s) (messages_at ys j)) (λ j. ap (list_any (is_message s)) (messages j)) i
 
   was-same : (i k s : ℕ) → was_received xs i k s ≡ was_received ys i k s
   was-same i k s = ap₂ (λ (a : Bool) (ms : List (Option ℕ)). a || list_any (is_message s) (take k ms)) (received-same i s) (messages i)
 
   late-same : (s i : ℕ) → late_hint xs s i ≡ late_hint ys s i
-  late-same s i =
-      ap₂ (λ (x y : ℤ). if int_lt x y then Some ShorterTick else if not (processor_at xs s == processor_at xs i) then Some Spread else if not (int_lt y x) && nat_lt s i then Some Spread else None) (times s) (times i)
+  late-same s i = ap₂ (λ (x y : ℤ). if int_lt x y then Some ShorterTick else if not (processor_at xs s == processor_at xs i)
+      then Some Spread else if not (int_lt y x) && nat_lt s i then Some Spread else None) (times s) (times i)
       ∙ ap₂ (λ (p q : ℕ). if int_lt (time_at ys s) (time_at ys i) then Some ShorterTick else if not (p == q) then Some
-      Spread else if not (int_lt (time_at ys i) (time_at ys s)) && nat_lt s i then Some Spread else None) (processors s)
-      (processors i)
+      Spread else if not (int_lt (time_at ys i) (time_at ys s)) && nat_lt s i then Some Spread else None) (processors s) (processors i)
 
-  message-same : (ticks : List ℕ) (i k : ℕ) (m : Option ℕ) → message_refusal xs ticks (was_received xs i k) i k m ≡ message_refusal ys ticks (was_received ys i k) i k m
+  message-same : (ticks : List ℕ) (i k : ℕ) (m : Option ℕ)
+      → message_refusal xs ticks (was_received xs i k) i k m ≡ message_refusal ys ticks (was_received ys i k) i k m
   message-same ticks i k None = refl
-  message-same ticks i k (Some s) =
-      ap₂ (λ (u v : Bool). cond u (cond v (Some (ReceivedBefore i k)) (cond (nat_lt (slice_index_or ticks s 0) (slice_index_or ticks i 0)) None (Some (NotLater i k (late_hint xs s i))))) (Some (WrongReceiver i k)))
+  message-same ticks i k (Some s) = ap₂ (λ (u v : Bool). cond u (cond v (Some (ReceivedBefore i k)) (cond (nat_lt (slice_index_or ticks s 0)
+      (slice_index_or ticks i 0)) None (Some (NotLater i k (late_hint xs s i))))) (Some (WrongReceiver i k)))
       (receivers s (processor_at xs i) ∙ ap (is_for ys s) (processors i)) (was-same i k s)
-      ∙ ap (λ (h : Option Hint). cond (is_for ys s (processor_at ys i))
-      (cond (was_received ys i k s) (Some (ReceivedBefore i k))
+      ∙ ap (λ (h : Option Hint). cond (is_for ys s (processor_at ys i)) (cond (was_received ys i k s) (Some (ReceivedBefore i k))
       (cond (nat_lt (slice_index_or ticks s 0) (slice_index_or ticks i 0)) None (Some (NotLater i k h))))
       (Some (WrongReceiver i k))) (late-same s i)
 
   messages-refused : (ticks : List ℕ) (i : ℕ) → messages_refusal xs ticks i ≡ messages_refusal ys ticks i
   unfolding messages_refusal
-  messages-refused ticks i =
-      first-same _ (λ k. message_refusal ys ticks (was_received ys i k) i k (slice_index_or (messages_at ys i) k None))
-      (λ k. message-same ticks i k (slice_index_or (messages_at xs i) k None) ∙ ap (λ ms. message_refusal ys ticks (was_received ys i k) i k (slice_index_or ms k None)) (messages i))
-      (length (messages_at xs i))
-      ∙ ap (λ ms. first_of (λ k. message_refusal ys ticks (was_received ys i k) i k (slice_index_or (messages_at ys i) k None)) (length ms)) (messages i)
+  messages-refused ticks i = first-same _ (λ k. message_refusal ys ticks (was_received ys i k) i k
+      (slice_index_or (messages_at ys i) k None)) (λ k. message-same ticks i k (slice_index_or (messages_at xs i) k None)
+      ∙ ap (λ ms. message_refusal ys ticks (was_received ys i k) i k (slice_index_or ms k None)) (messages i)) (length (messages_at xs i))
+      ∙ ap (λ ms. first_of (λ k. message_refusal ys ticks (was_received ys i k) i k (slice_index_or (messages_at ys i) k None)) (length ms))
+      (messages i)
 
   fault-same : (i k : ℕ) (m : Option ℕ) → message_fault xs (was_received xs i k) i k m ≡ message_fault ys (was_received ys i k) i k m
   fault-same i k None = refl
@@ -196,11 +199,10 @@ module _ (xs ys : List Event) (same : map seen xs ≡ map seen ys) where
 
   faults-same : (i : ℕ) → message_faults xs i ≡ message_faults ys i
   unfolding message_faults
-  faults-same i =
-      first-same _ (λ k. message_fault ys (was_received ys i k) i k (slice_index_or (messages_at ys i) k None))
-      (λ k. fault-same i k (slice_index_or (messages_at xs i) k None) ∙ ap (λ ms. message_fault ys (was_received ys i k) i k (slice_index_or ms k None)) (messages i))
-      (length (messages_at xs i))
-      ∙ ap (λ ms. first_of (λ k. message_fault ys (was_received ys i k) i k (slice_index_or (messages_at ys i) k None)) (length ms)) (messages i)
+  faults-same i = first-same _ (λ k. message_fault ys (was_received ys i k) i k (slice_index_or (messages_at ys i) k None))
+      (λ k. fault-same i k (slice_index_or (messages_at xs i) k None)
+      ∙ ap (λ ms. message_fault ys (was_received ys i k) i k (slice_index_or ms k None)) (messages i)) (length (messages_at xs i)) ∙ ap
+      (λ ms. first_of (λ k. message_fault ys (was_received ys i k) i k (slice_index_or (messages_at ys i) k None)) (length ms)) (messages i)
 
   first-faults : first_fault xs ≡ first_fault ys
   unfolding first_fault
@@ -220,19 +222,20 @@ module _ (xs ys : List Event) (same : map seen xs ≡ map seen ys) where
 
   second-same : (ticks : List ℕ) (i : ℕ) → second_refusal xs ticks i ≡ second_refusal ys ticks i
   unfolding second_refusal
-  second-same ticks i = hints (earlier_at xs ticks i (moment_at xs ticks i)) ∙ ap (option_map (λ j. SecondEvent i (slice_index_or ticks i 0) (apart_hint ys j i))) earliest where
-    earliest : earlier_at xs ticks i (moment_at xs ticks i) ≡ earlier_at ys ticks i (moment_at ys ticks i)
-    earliest = earlier-same ticks i (moment_at xs ticks i) ∙ ap (earlier_at ys ticks i) (moments ticks i)
+  second-same ticks i = hints (earlier_at xs ticks i (moment_at xs ticks i))
+      ∙ ap (option_map (λ j. SecondEvent i (slice_index_or ticks i 0) (apart_hint ys j i))) earliest where
+        earliest : earlier_at xs ticks i (moment_at xs ticks i) ≡ earlier_at ys ticks i (moment_at ys ticks i)
+        earliest = earlier-same ticks i (moment_at xs ticks i) ∙ ap (earlier_at ys ticks i) (moments ticks i)
 
-    hints : (o : Option ℕ) → option_map (λ j. SecondEvent i (slice_index_or ticks i 0) (apart_hint xs j i)) o ≡ option_map (λ j. SecondEvent i (slice_index_or ticks i 0) (apart_hint ys j i)) o
-    hints None = refl
-    hints (Some j) = ap (λ h. Some (SecondEvent i (slice_index_or ticks i 0) h)) (apart-same j i)
+        hints : (o : Option ℕ) → option_map (λ j. SecondEvent i (slice_index_or ticks i 0) (apart_hint xs j i)) o
+            ≡ option_map (λ j. SecondEvent i (slice_index_or ticks i 0) (apart_hint ys j i)) o
+        hints None = refl
+        hints (Some j) = ap (λ h. Some (SecondEvent i (slice_index_or ticks i 0) h)) (apart-same j i)
 
   refused : (ticks : List ℕ) → events_refusal xs ticks ≡ events_refusal ys ticks
   unfolding events_refusal
-  refused ticks =
-      first-same (event_refusal xs ticks) (event_refusal ys ticks) (λ i. ap₂ (λ a b. option_or a b) (messages-refused ticks i) (second-same ticks i)) (length xs)
-      ∙ ap (first_of (event_refusal ys ticks)) lengths
+  refused ticks = first-same (event_refusal xs ticks) (event_refusal ys ticks) (λ i. ap₂
+      (λ a b. option_or a b) (messages-refused ticks i) (second-same ticks i)) (length xs) ∙ ap (first_of (event_refusal ys ticks)) lengths
 
   pub earlier : (j i : ℕ) → is_earlier xs j i ≡ is_earlier ys j i
   earlier j i = ap₂ (λ (x y : ℤ). int_lt x y || (not (int_lt y x) && nat_lt j i)) (times j) (times i)
@@ -242,13 +245,15 @@ module _ (xs ys : List Event) (same : map seen xs ≡ map seen ys) where
   hops-at i = ap₂ (λ (n : ℕ) (ms : List (Option ℕ)). flat_map (hop_in n i) ms) lengths (messages i)
 
   hops : hops_of xs ≡ hops_of ys
-  hops = each-hops (hops_at xs) (hops_at ys) hops-at (range_with_len 0 (length xs)) ∙ ap (λ n. flat_map (hops_at ys) (range_with_len 0 n)) lengths
+  hops = each-hops (hops_at xs) (hops_at ys) hops-at (range_with_len 0 (length xs))
+      ∙ ap (λ n. flat_map (hops_at ys) (range_with_len 0 n)) lengths
 
   late : (hop : Hop) → is_late xs hop ≡ is_late ys hop
   late hop = ap₂ (λ (s r : ℤ). not (int_lt s r)) (times hop.message) (times hop.event)
 
   late-message : (hop : Hop) → late_message xs hop ≡ late_message ys hop
-  late-message hop = ap₂ (λ (s r : ℤ). let m : LateMessage = record { event = hop.event; message = hop.message; by = unsigned_abs (s -ℤ r) } in m) (times hop.message) (times hop.event)
+  late-message hop = ap₂ (λ (s r : ℤ). let m : LateMessage =
+      record { event = hop.event; message = hop.message; by = unsigned_abs (s -ℤ r) } in m) (times hop.message) (times hop.event)
 
   lates : (hs : List Hop) → filter (is_late xs) hs ≡ filter (is_late ys) hs
   lates [] = refl
@@ -259,11 +264,9 @@ module _ (xs ys : List Event) (same : map seen xs ≡ map seen ys) where
   late-messages (h ∷ hs) = ap₂ (λ (m : LateMessage) (ms : List LateMessage). m ∷ ms) (late-message h) (late-messages hs)
 
   lateness-as-seen : lateness_of xs ≡ lateness_of ys
-  lateness-as-seen =
-      ap (lateness_among xs) hops
-      ∙ ap₂ (λ (hs : List Hop) (ms : List LateMessage). let l : Lateness = record { messages = length hs; worst = fold (λ worst late. Some (worse worst late)) None ms } in l)
-      (lates (hops_of ys))
-      (late-messages (filter (is_late xs) (hops_of ys)) ∙ ap (map (late_message ys)) (lates (hops_of ys)))
+  lateness-as-seen = ap (lateness_among xs) hops ∙ ap₂ (λ (hs : List Hop) (ms : List LateMessage). let l : Lateness =
+      record { messages = length hs; worst = fold (λ worst late. Some (worse worst late)) None ms } in l)
+      (lates (hops_of ys)) (late-messages (filter (is_late xs) (hops_of ys)) ∙ ap (map (late_message ys)) (lates (hops_of ys)))
 
   -- the trace
   orders : (ticks order : List ℕ) → IsOrder xs ticks order → IsOrder ys ticks order
@@ -275,7 +278,8 @@ module _ (xs ys : List Event) (same : map seen xs ≡ map seen ys) where
 
   step-same : (numbers : List ℕ) (place : ℕ) (step : Step) → IsStepAt xs numbers place step → IsStepAt ys numbers place step
   step-same numbers place step s =
-      let at = sym (slice_get-map seen ys place) ∙ ap (λ ss. slice_get ss place) (sym same) ∙ slice_get-map seen xs place ∙ ap (option_map seen) s.at in
+      let at = sym (slice_get-map seen ys place) ∙ ap (λ ss. slice_get ss place) (sym same)
+      ∙ slice_get-map seen xs place ∙ ap (option_map seen) s.at in
       let f = found-by (slice_get ys place) (seen s.event) at in
       record {
         event = f.0;
@@ -284,7 +288,8 @@ module _ (xs ys : List Event) (same : map seen xs ≡ map seen ys) where
         does = does-same numbers s.event.act f.0.act step.act (ap (λ v. v.act) (sym f.2)) s.does;
       }
 
-  steps-same : (numbers places : List ℕ) (steps : List Step) → AllZip (IsStepAt xs numbers) places steps → AllZip (IsStepAt ys numbers) places steps
+  steps-same : (numbers places : List ℕ) (steps : List Step)
+      → AllZip (IsStepAt xs numbers) places steps → AllZip (IsStepAt ys numbers) places steps
   steps-same numbers [] [] h = tt
   steps-same numbers [] (z ∷ zs) h = absurd h
   steps-same numbers (p ∷ ps) [] h = absurd h
@@ -332,15 +337,17 @@ causal-order xs ys e order h = record {
   found = λ i l. h.found i (subst (λ n. i < n) (sym (lengths xs ys e)) l);
 }
 
-spread-at : (xs ys : List Event) → map seen xs ≡ map seen ys → (own ticks : List ℕ) (i : ℕ) → IsSpreadAt xs own ticks i → IsSpreadAt ys own ticks i
+spread-at : (xs ys : List Event) → map seen xs ≡ map seen ys
+    → (own ticks : List ℕ) (i : ℕ) → IsSpreadAt xs own ticks i → IsSpreadAt ys own ticks i
 spread-at xs ys e own ticks i h = record {
   from = h.from;
   after_own = λ j b. h.after_own j (own-before ys xs (sym e) i j b);
   after_sent = λ j b. h.after_sent j (sent-to ys xs (sym e) i j b);
   least = go h.least;
 } where
-  go : (slice_index ticks i ≡ slice_index own i) ⊎ ((j : ℕ) × (IsOwnBefore xs i j ⊎ IsSentTo xs i j) × (slice_index ticks i ≡ slice_index ticks j + 1))
-      → (slice_index ticks i ≡ slice_index own i) ⊎ ((j : ℕ) × (IsOwnBefore ys i j ⊎ IsSentTo ys i j) × (slice_index ticks i ≡ slice_index ticks j + 1))
+  go : (slice_index ticks i ≡ slice_index own i) ⊎ ((j : ℕ) × (IsOwnBefore xs i j ⊎ IsSentTo xs i j)
+      × (slice_index ticks i ≡ slice_index ticks j + 1)) → (slice_index ticks i ≡ slice_index own i)
+      ⊎ ((j : ℕ) × (IsOwnBefore ys i j ⊎ IsSentTo ys i j) × (slice_index ticks i ≡ slice_index ticks j + 1))
   go (inl s) = inl s
   go (inr w) = inr (w.0, cause xs ys e i w.0 w.1, w.2)
 
@@ -350,8 +357,8 @@ module _ (xs ys : List Event) (same : map seen xs ≡ map seen ys) where
   after-times None h = (sym (first-faults xs ys same) ∙ h.0, (h.1.0, causal-order xs ys same h.1.0 h.1.1))
 
   pub passed : (spread : Bool) (clock : Clock) → HavePassed spread xs clock → HavePassed spread ys clock
-  passed false clock h =
-      sym (ap₂ (λ a b. option_or a b) (times-refused xs ys same clock) (refused xs ys same (time_ticks xs clock) ∙ ap (events_refusal ys) (own-ticks xs ys same clock))) ∙ h
+  passed false clock h = sym (ap₂ (λ a b. option_or a b)
+      (times-refused xs ys same clock) (refused xs ys same (time_ticks xs clock) ∙ ap (events_refusal ys) (own-ticks xs ys same clock))) ∙ h
   passed true clock h = subst (λ t. IsAfterTimes t ys None) (times-refused xs ys same clock) (after-times (times_refusal xs clock) h)
 
   least-ticks : (own ticks : List ℕ) → AreLeast xs own ticks → AreLeast ys own ticks
@@ -362,15 +369,18 @@ module _ (xs ys : List Event) (same : map seen xs ≡ map seen ys) where
 
   pub ticks-same : (spread : Bool) (clock : Clock) (ticks : List ℕ) → AreTicks spread xs clock ticks → AreTicks spread ys clock ticks
   ticks-same false clock ticks h = h ∙ own-ticks xs ys same clock
-  ticks-same true clock ticks h = subst (λ own. AreLeast ys own ticks) (own-ticks xs ys same clock) (least-ticks (time_ticks xs clock) ticks h)
+  ticks-same true clock ticks h = subst (λ own. AreLeast ys own ticks)
+      (own-ticks xs ys same clock) (least-ticks (time_ticks xs clock) ticks h)
 
   -- so events are timed by what is seen of them
-  pub timed-as-seen : (spread : Bool) (n : ℕ) (clock : Clock) (timed : TimedTrace) → IsTimed spread n xs clock timed → IsTimed spread n ys clock timed
+  pub timed-as-seen : (spread : Bool) (n : ℕ) (clock : Clock) (timed : TimedTrace)
+      → IsTimed spread n xs clock timed → IsTimed spread n ys clock timed
   timed-as-seen spread n clock timed t = record {
     passed = passed spread clock t.passed;
     ticks = t.ticks;
     are = ticks-same spread clock t.ticks t.are;
-    trace = subst (λ last. IsTraceOf n ys t.ticks last timed.trace) (lasts xs ys same clock t.ticks) (traces xs ys same n t.ticks (last_of xs clock t.ticks) timed.trace t.trace);
+    trace = subst (λ last. IsTraceOf n ys t.ticks last timed.trace)
+        (lasts xs ys same clock t.ticks) (traces xs ys same n t.ticks (last_of xs clock t.ticks) timed.trace t.trace);
     moved = t.moved ∙ ap (λ own. moved_of own t.ticks) (own-ticks xs ys same clock);
   }
 

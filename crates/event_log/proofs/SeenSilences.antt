@@ -19,7 +19,8 @@ use Rattle.event_log.specs.Events.{seen}
 use Rattle.event_log.specs.LogTraces.{IsMadeBy}
 use Rattle.event_log.proofs.SeenEvents.{lasts, lengths, own-ticks, passed, processors, ticks-same, timed-as-seen, traces}
 
-has-event : (xs ys : List Event) → map seen xs ≡ map seen ys → (ticks : List ℕ) (p y : ℕ) → HasEventIn xs ticks p y → HasEventIn ys ticks p y
+has-event : (xs ys : List Event) → map seen xs ≡ map seen ys
+    → (ticks : List ℕ) (p y : ℕ) → HasEventIn xs ticks p y → HasEventIn ys ticks p y
 has-event xs ys same ticks p y h = record {
   place = h.place;
   inside = subst (λ n. h.place < n) (lengths xs ys same) h.inside;
@@ -27,11 +28,13 @@ has-event xs ys same ticks p y h = record {
   at = h.at;
 }
 
-or-event : (xs ys : List Event) → map seen xs ≡ map seen ys → (A : Type 0) (ticks : List ℕ) (p y : ℕ) → A ⊎ HasEventIn xs ticks p y → A ⊎ HasEventIn ys ticks p y
+or-event : (xs ys : List Event) → map seen xs ≡ map seen ys
+    → (A : Type 0) (ticks : List ℕ) (p y : ℕ) → A ⊎ HasEventIn xs ticks p y → A ⊎ HasEventIn ys ticks p y
 or-event xs ys same A ticks p y (inl a) = inl a
 or-event xs ys same A ticks p y (inr h) = inr (has-event xs ys same ticks p y h)
 
-short-silence : (xs ys : List Event) → map seen xs ≡ map seen ys → (ticks : List ℕ) (limit p y : ℕ) → IsShortSilence xs ticks limit p y → IsShortSilence ys ticks limit p y
+short-silence : (xs ys : List Event) → map seen xs ≡ map seen ys
+    → (ticks : List ℕ) (limit p y : ℕ) → IsShortSilence xs ticks limit p y → IsShortSilence ys ticks limit p y
 short-silence xs ys same ticks limit p y h = record {
   since = h.since;
   from = or-event xs ys same (h.since ≡ 0) ticks p h.since h.from;
@@ -40,14 +43,16 @@ short-silence xs ys same ticks limit p y h = record {
   short = h.short;
 }
 
-idle-end : (xs ys : List Event) → map seen xs ≡ map seen ys → (ticks : List ℕ) (last limit p y : ℕ) → IsIdleEnd xs ticks last limit p y → IsIdleEnd ys ticks last limit p y
+idle-end : (xs ys : List Event) → map seen xs ≡ map seen ys
+    → (ticks : List ℕ) (last limit p y : ℕ) → IsIdleEnd xs ticks last limit p y → IsIdleEnd ys ticks last limit p y
 idle-end xs ys same ticks last limit p y h = record {
   silence = short-silence xs ys same ticks limit p y h.silence;
   ends = or-event xs ys same (y ≡ last) ticks p (y + 1) h.ends;
 }
 
 module _ (xs ys : List Event) (same : map seen xs ≡ map seen ys) where
-  idles-same : (n : ℕ) (ticks : List ℕ) (last limit : ℕ) (idles : List IdleTick) → AreIdle n xs ticks last limit idles → AreIdle n ys ticks last limit idles
+  idles-same : (n : ℕ) (ticks : List ℕ) (last limit : ℕ) (idles : List IdleTick)
+      → AreIdle n xs ticks last limit idles → AreIdle n ys ticks last limit idles
   idles-same n ticks last limit idles h = record {
     each = All-weaker (IsIdleTick n xs ticks last limit) (IsIdleTick n ys ticks last limit)
         (λ x i.
@@ -81,8 +86,10 @@ module _ (xs ys : List Event) (same : map seen xs ≡ map seen ys) where
     ticks = t.ticks;
     are = ticks-same xs ys same spread clock t.ticks t.are;
     idles = t.idles;
-    idle = subst (λ last. AreIdle n ys t.ticks last limit t.idles) ends (idles-same n t.ticks (last_of xs clock t.ticks) limit t.idles t.idle);
-    filled = subst (λ last. IsFilled n ys (ys ++ t.filled.added) t.ticks last t.idles timed.trace) ends (filled-same n new t.ticks (last_of xs clock t.ticks) t.idles timed.trace t.filled);
+    idle = subst (λ last. AreIdle n ys t.ticks last limit t.idles) ends
+        (idles-same n t.ticks (last_of xs clock t.ticks) limit t.idles t.idle);
+    filled = subst (λ last. IsFilled n ys (ys ++ t.filled.added) t.ticks last t.idles timed.trace) ends
+        (filled-same n new t.ticks (last_of xs clock t.ticks) t.idles timed.trace t.filled);
     moved = t.moved ∙ ap (λ own. moved_of own t.ticks) (own-ticks xs ys same clock);
     added = t.added;
   } where
@@ -93,7 +100,8 @@ module _ (xs ys : List Event) (same : map seen xs ≡ map seen ys) where
   pub made-as-seen : (limit : Option ℕ) (spread : Bool) (n : ℕ) (clock : Clock) (trace : Recorded) (moved : Moved)
       (idle : Option IdleReceives) → IsMadeBy limit spread n xs clock trace moved idle
       → IsMadeBy limit spread n ys clock trace moved idle
-  made-as-seen None spread n clock trace moved idle h = (timed-as-seen xs ys same spread n clock (record { trace = trace; moved = moved }) h.0, h.1)
+  made-as-seen None spread n clock trace moved idle h =
+      (timed-as-seen xs ys same spread n clock (record { trace = trace; moved = moved }) h.0, h.1)
   made-as-seen (Some limit) spread n clock trace moved idle h = record {
     new = ys ++ h.timed.filled.added;
     added = h.added;
@@ -113,7 +121,11 @@ made-once None spread n events clock t u m o i j h k =
 made-once (Some limit) spread n events clock t u m o i j h k =
     let a : IdleTrace = record { trace = t; moved = m; added = h.added } in
     let b : IdleTrace = record { trace = u; moved = o; added = k.added } in
-    let e = IsIdleTimed-unique spread n events clock limit a b h.new k.new h.timed k.timed in
-    (ap (λ (z : IdleTrace). z.trace) e, ap (λ (z : IdleTrace). z.moved) e, h.told ∙ ap (λ (z : IdleTrace). Some (idle z.added)) e ∙ sym k.told) where
+    let e = IsIdleTimed-unique spread n events clock limit a b h.new k.new h.timed k.timed in (
+      ap (λ (z : IdleTrace). z.trace) e,
+      ap (λ (z : IdleTrace). z.moved) e,
+      h.told
+          ∙ ap (λ (z : IdleTrace). Some (idle z.added)) e ∙ sym k.told,
+    ) where
       idle : ℕ → IdleReceives
       idle count = record { count = count; limit = limit }

@@ -57,14 +57,15 @@ grows : (nodes : List (List ℕ)) (name : List ℕ) → length nodes ≤ length 
 unfolding with_name
 grows nodes name = grows-go (has_name nodes name) nodes name
 
-numbered-go : (t : Bool) (xs : List (List ℕ)) (x : List ℕ) (a : ℕ) → (t ≡ true → a < length xs) → a ≤ length xs → a + 1 ≤ length (cond t xs (xs ++ x ∷ []))
+numbered-go : (t : Bool) (xs : List (List ℕ)) (x : List ℕ) (a : ℕ)
+    → (t ≡ true → a < length xs) → a ≤ length xs → a + 1 ≤ length (cond t xs (xs ++ x ∷ []))
 numbered-go true xs x a f l = let m = f refl in omega (arith, m)
 numbered-go false xs x a f l = omega (arith, l, length-append xs (x ∷ []))
 
 numbered : (nodes : List (List ℕ)) (name : List ℕ) → number_of nodes name ≤ length (with_name nodes name)
 unfolding with_name
-numbered nodes name =
-    numbered-go (has_name nodes name) nodes name (position_or_len (bytes_eq name) nodes) (any-place (bytes_eq name) nodes) (place-le (bytes_eq name) nodes)
+numbered nodes name = numbered-go (has_name nodes name) nodes name
+    (position_or_len (bytes_eq name) nodes) (any-place (bytes_eq name) nodes) (place-le (bytes_eq name) nodes)
 
 -- the nodes of an event are among those after it
 nodes-grow : (v : Verb) (nodes : List (List ℕ)) (s : Said) → length nodes ≤ length (nodes_after_by v nodes s)
@@ -98,7 +99,8 @@ later-act a b (kept.Receive messages) l h = tt
 later : (a b : ℕ) (event : KeptEvent) → a ≤ b → EventWithin a event → EventWithin b event
 later a b event l h = ((h.0.0, let m = h.0.1 in omega (arith, m, l)), later-act a b event.act l h.1)
 
-send-go : (t : Bool) (at to : ℕ) (messages : List ℕ) (act : KeptAct) (count : ℕ) → IsNumber count to → cond t (Err (SentBefore at messages)) (Ok (kept.Send to)) ≡ Ok act → KeptWithin count act
+send-go : (t : Bool) (at to : ℕ) (messages : List ℕ) (act : KeptAct) (count : ℕ)
+    → IsNumber count to → cond t (Err (SentBefore at messages)) (Ok (kept.Send to)) ≡ Ok act → KeptWithin count act
 unfolding KeptWithin
 send-go true at to messages act count h e = cc e
 send-go false at to messages act count h e = let same : kept.Send to ≡ act = cc e in rw (← same) h
@@ -132,8 +134,10 @@ one-more place n m s h e =
     let count = length nodes in
     let event : KeptEvent = record { time = s.moment.time; processor = number_of n.nodes s.node; act = act.0 } in
     let own : IsNumber count (number_of n.nodes s.node) = (omega arith, own-number s.verb n.nodes s) in
-    let to = act-within s.verb (place + 2) (number_to_by s.verb n.nodes s) n.sent n.events s act.0 count (to-above s.verb n.nodes s, to-number s.verb n.nodes s) act.1 in
-    let old = All-weaker (EventWithin (length n.nodes)) (EventWithin count) (λ x w. later (length n.nodes) count x (nodes-grow s.verb n.nodes s) w) n.events h.within in
+    let to = act-within s.verb (place + 2) (number_to_by s.verb n.nodes s) n.sent n.events s act.0 count
+    (to-above s.verb n.nodes s, to-number s.verb n.nodes s) act.1 in
+    let old = All-weaker (EventWithin (length n.nodes))
+    (EventWithin count) (λ x w. later (length n.nodes) count x (nodes-grow s.verb n.nodes s) w) n.events h.within in
     let new : All (EventWithin count) (event ∷ []) = All-cons (EventWithin count) event [] (own, to) (All-nil (EventWithin count)) in
     let len = h.events in
     rw (← ok act.2) (record {
@@ -150,7 +154,8 @@ pub record IsReached (r : Reading) : Type 0 where
   pub kind : IfSome r.kind (λ _. 0 < r.count)
   pub names : IfOk r.names (IsNamed r.count)
 
-told : (place : ℕ) (names : Result Named LogError) (s : Said) → IfOk names (IsNamed place) → IfOk (after_told place names s) (IsNamed (place + 1))
+told : (place : ℕ) (names : Result Named LogError) (s : Said)
+    → IfOk names (IsNamed place) → IfOk (after_told place names s) (IsNamed (place + 1))
 told place (Err e) s h = tt
 told place (Ok n) s h = go (after_said place n s) (λ m e. one-more place n m s h e) where
   go : (r : Result Named LogError) → ((m : Named) → r ≡ Ok m → IsNamed (place + 1) m) → IfOk r (IsNamed (place + 1))
@@ -178,7 +183,8 @@ reached r q (fields ∷ more) h e =
     let n = bound (next_reading r fields) (λ t. after_records next_reading t more) q e in
     reached n.0 q more (reached-by r.columns r n.0 fields h n.1) n.2
 
-begins : (unit : Option TimeUnit) (listed : Option (Bor (List (List ℕ)))) (nodes : List (List ℕ)) → IsReached (nothing_read unit listed nodes)
+begins : (unit : Option TimeUnit) (listed : Option (Bor (List (List ℕ)))) (nodes : List (List ℕ))
+    → IsReached (nothing_read unit listed nodes)
 begins unit listed nodes = record {
   few = omega arith;
   kind = tt;
@@ -193,8 +199,8 @@ pub record IsWhole (n : Named) : Type 0 where
   pub few_events : length n.events ≤ MAX_EVENTS
   pub within : All (EventWithin (length n.nodes)) n.events
 
-whole-names : (count : ℕ) (names : Result Named LogError) (kind : TimeKind) (x : TimeKind × Named) → count ≤ MAX_EVENTS → 0 < count → IfOk names (IsNamed count)
-    → names >>= (λ n. enough_nodes kind n) ≡ Ok x → IsWhole x.1
+whole-names : (count : ℕ) (names : Result Named LogError) (kind : TimeKind) (x : TimeKind × Named)
+    → count ≤ MAX_EVENTS → 0 < count → IfOk names (IsNamed count) → names >>= (λ n. enough_nodes kind n) ≡ Ok x → IsWhole x.1
 whole-names count (Err e) kind x few some h k = cc k
 whole-names count (Ok n) kind x few some h k =
     let two = over (nat_lt (length n.nodes) 2) TooFewNodes (Ok (kind, n)) x k in
@@ -208,8 +214,8 @@ whole-names count (Ok n) kind x few some h k =
       within = h.within;
     })
 
-whole-kind : (r : Reading) (kind : Option TimeKind) (x : TimeKind × Named) → r.count ≤ MAX_EVENTS → IfSome kind (λ _. 0 < r.count) → IfOk r.names (IsNamed r.count)
-    → named_by kind r.names ≡ Ok x → IsWhole x.1
+whole-kind : (r : Reading) (kind : Option TimeKind) (x : TimeKind × Named)
+    → r.count ≤ MAX_EVENTS → IfSome kind (λ _. 0 < r.count) → IfOk r.names (IsNamed r.count) → named_by kind r.names ≡ Ok x → IsWhole x.1
 whole-kind r None x few some h k = cc k
 whole-kind r (Some kind) x few some h k = whole-names r.count r.names kind x few some h k
 
@@ -221,19 +227,22 @@ either : {A : Type 0} (b : Bool) (r : Result A LogError) (e : LogError) (x : A) 
 either true r e x h = h
 either false r e x h = cc h
 
-whole : (unit : Option TimeUnit) (listed : Option (Bor (List (List ℕ)))) (nodes : List (List ℕ)) (text : List ℕ) (x : TimeKind × Named) → named_of unit listed nodes text ≡ Ok x → IsWhole x.1
+whole : (unit : Option TimeUnit) (listed : Option (Bor (List (List ℕ)))) (nodes : List (List ℕ)) (text : List ℕ) (x : TimeKind × Named)
+    → named_of unit listed nodes text ≡ Ok x → IsWhole x.1
 whole unit listed nodes text x e =
     let read = either (nat_le (length text) MAX_TEXT_BYTES) _ TooLarge x e in
     let r = bound (after_records next_reading (nothing_read unit listed nodes) (records_of_text text)) named_at_end x read in
     whole-end r.0.columns r.0 x (reached (nothing_read unit listed nodes) r.0 (records_of_text text) (begins unit listed nodes) r.1) r.2
 
 -- the same with the places of sends in place of the names of messages
-act-resolved : (sent : Sent) (processor : ℕ) (act : KeptAct) (count : ℕ) → KeptWithin count act → SendsWithin count (resolved_act sent processor act)
+act-resolved : (sent : Sent) (processor : ℕ) (act : KeptAct) (count : ℕ)
+    → KeptWithin count act → SendsWithin count (resolved_act sent processor act)
 unfolding KeptWithin
 act-resolved sent processor (kept.Send to) count h = h
 act-resolved sent processor (kept.Receive names) count h = tt
 
-all-resolved : (sent : Sent) (count : ℕ) (events : List KeptEvent) → All (EventWithin count) events → All (IsWithin count) (map (resolved sent) events)
+all-resolved : (sent : Sent) (count : ℕ) (events : List KeptEvent)
+    → All (EventWithin count) events → All (IsWithin count) (map (resolved sent) events)
 all-resolved sent count [] h = All-nil (IsWithin count)
 all-resolved sent count (x ∷ xs) h =
     let first = All-head (EventWithin count) x xs h in
@@ -241,7 +250,8 @@ all-resolved sent count (x ∷ xs) h =
     (first.0, act-resolved sent x.processor x.act count first.1)
     (all-resolved sent count xs (All-tail (EventWithin count) x xs h))
 
-sound-log : (unit : Option TimeUnit) (listed : Option (Bor (List (List ℕ)))) (nodes : List (List ℕ)) (text : List ℕ) (log : SeenLog) → events_in unit listed nodes text ≡ Ok log → IsSound log
+sound-log : (unit : Option TimeUnit) (listed : Option (Bor (List (List ℕ)))) (nodes : List (List ℕ)) (text : List ℕ) (log : SeenLog)
+    → events_in unit listed nodes text ≡ Ok log → IsSound log
 sound-log unit listed nodes text log e =
     let x = bound (named_of unit listed nodes text) (λ r. Ok (resolved_log r.0 r.1)) log e in
     let h = whole unit listed nodes text x.0 x.1 in
@@ -258,7 +268,8 @@ sound-log unit listed nodes text log e =
     })
 
 -- so an answer that is no refusal is sound
-pub gives-sound : (unit : Option TimeUnit) (listed : Option (Bor (List (List ℕ)))) (nodes : List (List ℕ)) (text : List ℕ) (result : Result NamedEvents LogError)
+pub gives-sound : (unit : Option TimeUnit) (listed : Option (Bor (List (List ℕ))))
+    (nodes : List (List ℕ)) (text : List ℕ) (result : Result NamedEvents LogError)
     → GivesUnless is_memory seen_log result (events_in unit listed nodes text) → IfOk result (λ log. IsSound (seen_log log))
 gives-sound unit listed nodes text (Ok log) e = sound-log unit listed nodes text (seen_log log) e
 gives-sound unit listed nodes text (Err why) e = tt

@@ -18,18 +18,21 @@ use Rattle.event_log.specs.LogTraces.{ArePlacedBy}
 use Rattle.event_log.specs.StepTables.{IsTableOf, table_text}
 
 -- there is one for each step
-one-each : (n : ℕ) (events : List Event) (places : List ℕ) (trace : Recorded) → HasStepsAt n events places trace → length places ≡ length trace.steps
+one-each : (n : ℕ) (events : List Event) (places : List ℕ) (trace : Recorded)
+    → HasStepsAt n events places trace → length places ≡ length trace.steps
 one-each n events places trace h = sym (AllZip-long (IsStepAt events h.numbers) places trace.steps h.has.steps)
 
 pub places-long : (spread : Bool) (n : ℕ) (events : List Event) (clock : Clock) (timed : TimedTrace) (places : List ℕ)
     → IsTimed spread n events clock timed → AreStepPlaces spread events clock places
     → length places ≡ length timed.trace.steps
-places-long spread n events clock timed places t p = one-each n events places timed.trace (steps-placed spread n events clock timed places t p)
+places-long spread n events clock timed places t p =
+    one-each n events places timed.trace (steps-placed spread n events clock timed places t p)
 
 pub filled-long : (spread : Bool) (n : ℕ) (events : List Event) (clock : Clock) (limit : ℕ) (timed : IdleTrace)
     (filled : List Event) (places : List ℕ) → IsIdleTimed spread n events clock limit timed filled
     → AreFilledPlaces spread n events clock limit filled places → length places ≡ length timed.trace.steps
-filled-long spread n events clock limit timed filled places t p = one-each n filled places timed.trace (steps-filled spread n events clock limit timed filled places t p)
+filled-long spread n events clock limit timed filled places t p =
+    one-each n filled places timed.trace (steps-filled spread n events clock limit timed filled places t p)
 
 -- the table of an import whose events, clock and places are known
 pub table-made : (o : Options) (text : List ℕ) (import : Import) (filled : List Event) (logged : ℕ)
@@ -41,9 +44,11 @@ table-made o text import filled logged left_at parts first clock places table h 
   is = h.is;
   filled = filled;
   places = places;
-  placed = subst (λ (c : Clock). ArePlacedBy h.is.limit o.spread (length h.is.log.nodes) h.is.made.left c filled places) (sym h.clock_is) h.placed;
-  written = e
-      ∙ ap₂ (λ (n : ℕ) (at : Option (List ℕ)). table_text text import.nodes filled n at parts first clock.width import.trace.ticks places) h.so_many h.at
-      ∙ ap (λ (ps : Option (List (List ℕ))). table_text text import.nodes filled (length h.is.made.left) h.is.made.left_at ps first clock.width import.trace.ticks places) (h.parts_are refl)
-      ∙ ap₂ (λ (z : ℤ) (c : Clock). table_text text import.nodes filled (length h.is.made.left) h.is.made.left_at h.is.made.parts z c.width import.trace.ticks places) h.begins (sym h.clock_is);
+  placed = subst (λ (c : Clock). ArePlacedBy h.is.limit o.spread (length h.is.log.nodes) h.is.made.left c filled places)
+      (sym h.clock_is) h.placed;
+  written = e ∙ ap₂ (λ (n : ℕ) (at : Option (List ℕ)).
+      table_text text import.nodes filled n at parts first clock.width import.trace.ticks places) h.so_many h.at
+      ∙ ap (λ (ps : Option (List (List ℕ))). table_text text import.nodes filled (length h.is.made.left) h.is.made.left_at
+      ps first clock.width import.trace.ticks places) (h.parts_are refl) ∙ ap₂ (λ (z : ℤ) (c : Clock). table_text text import.nodes filled
+      (length h.is.made.left) h.is.made.left_at h.is.made.parts z c.width import.trace.ticks places) h.begins (sym h.clock_is);
 }

@@ -26,27 +26,32 @@ same-nil [] = refl
 same-nil (x ∷ xs) = ap (λ (ys : List ℕ). x ∷ ys) (same-nil xs)
 
 filter-without : (p : ℕ → Bool) (k : ℕ) → p k ≡ false → filter p (range_with_len 0 (k + 1)) ≡ filter p (range_with_len 0 k)
-filter-without p k e = filter-next p k ∙ ap (λ (b : Bool). filter p (range_with_len 0 k) ++ cond b (k ∷ []) []) e ∙ same-nil (filter p (range_with_len 0 k))
+filter-without p k e = filter-next p k ∙ ap (λ (b : Bool). filter p (range_with_len 0 k) ++ cond b (k ∷ []) []) e
+    ∙ same-nil (filter p (range_with_len 0 k))
 
 -- one length more
 pub told-none : (kind : TimeKind) (log : ℕ) → told_before kind log 0 ≡ []
 unfolding told_before
 told-none kind log = refl
 
-pub told-with : (kind : TimeKind) (log k : ℕ) → is_told kind log k ≡ true → told_before kind log (k + 1) ≡ told_before kind log k ++ tick_width k ∷ []
+pub told-with : (kind : TimeKind) (log k : ℕ) → is_told kind log k ≡ true
+    → told_before kind log (k + 1) ≡ told_before kind log k ++ tick_width k ∷ []
 unfolding told_before
-told-with kind log k e = ap (map tick_width) (filter-with (is_told kind log) k e) ∙ map-append tick_width (filter (is_told kind log) (range_with_len 0 k)) (k ∷ [])
+told-with kind log k e = ap (map tick_width) (filter-with (is_told kind log) k e)
+    ∙ map-append tick_width (filter (is_told kind log) (range_with_len 0 k)) (k ∷ [])
 
 pub told-without : (kind : TimeKind) (log k : ℕ) → is_told kind log k ≡ false → told_before kind log (k + 1) ≡ told_before kind log k
 unfolding told_before
 told-without kind log k e = ap (map tick_width) (filter-without (is_told kind log) k e)
 
 -- one step more
-pub far-with : (own ticks places : List ℕ) (k : ℕ) → is_far own ticks places k ≡ true → far_before own ticks places (k + 1) ≡ far_before own ticks places k + 1
-far-with own ticks places k e =
-    ap (λ (xs : List ℕ). length xs) (filter-with (is_far own ticks places) k e) ∙ length-append (filter (is_far own ticks places) (range_with_len 0 k)) (k ∷ [])
+pub far-with : (own ticks places : List ℕ) (k : ℕ)
+    → is_far own ticks places k ≡ true → far_before own ticks places (k + 1) ≡ far_before own ticks places k + 1
+far-with own ticks places k e = ap (λ (xs : List ℕ). length xs) (filter-with (is_far own ticks places) k e)
+    ∙ length-append (filter (is_far own ticks places) (range_with_len 0 k)) (k ∷ [])
 
-pub far-without : (own ticks places : List ℕ) (k : ℕ) → is_far own ticks places k ≡ false → far_before own ticks places (k + 1) ≡ far_before own ticks places k
+pub far-without : (own ticks places : List ℕ) (k : ℕ)
+    → is_far own ticks places k ≡ false → far_before own ticks places (k + 1) ≡ far_before own ticks places k
 far-without own ticks places k e = ap (λ (xs : List ℕ). length xs) (filter-without (is_far own ticks places) k e)
 
 -- powers of ten that are looked at fit

@@ -37,10 +37,12 @@ use Rattle.event_log.proofs.PlacedImports.{left-unmade, unmade-refusal, whole-un
 use Rattle.event_log.proofs.TickRows.{units-some}
 
 -- the text is read the same
-pub read-with : (o : Options) (text : List ℕ) (width : ℕ) (answer : Result SeenLog LogError) → IsRead o text answer → IsRead (with_width o width) text answer
+pub read-with : (o : Options) (text : List ℕ) (width : ℕ) (answer : Result SeenLog LogError)
+    → IsRead o text answer → IsRead (with_width o width) text answer
 read-with o text width answer r = record { listed = r.listed; same = r.same; staged = r.staged }
 
-pub unread-with : (o : Options) (text : List ℕ) (width : ℕ) (why : LogError) → IsReadRefusal o text why → IsReadRefusal (with_width o width) text why
+pub unread-with : (o : Options) (text : List ℕ) (width : ℕ) (why : LogError)
+    → IsReadRefusal o text why → IsReadRefusal (with_width o width) text why
 unread-with o text width why h = go (is_memory why) h where
   go : (t : Bool) → MatchBool t ⊤ (IsRead o text (Err why)) → MatchBool t ⊤ (IsRead (with_width o width) text (Err why))
   go true p = p
@@ -50,14 +52,17 @@ unread-with o text width why h = go (is_memory why) h where
 above : (kind : TimeKind) (width : ℕ) → 0 < width → nat_lt 0 (units_in kind width) ≡ true
 above kind width some = let h = units-some kind width some in grind (arith, nat_tests)
 
-pub fits-with : (o : Options) (kind : TimeKind) (until : Option ℤ) (width : ℕ) → 0 < width → until_in kind o.until ≡ Ok until → clock_in (with_width o width) kind ≡ Ok (clock_of kind until width)
+pub fits-with : (o : Options) (kind : TimeKind) (until : Option ℤ) (width : ℕ)
+    → 0 < width → until_in kind o.until ≡ Ok until → clock_in (with_width o width) kind ≡ Ok (clock_of kind until width)
 fits-with o kind until width some ends = rw (above kind width some, ends) refl
 
-pub unfit-with : (o : Options) (kind : TimeKind) (width : ℕ) (why : LogError) → 0 < width → until_in kind o.until ≡ Err why → clock_in (with_width o width) kind ≡ Err why
+pub unfit-with : (o : Options) (kind : TimeKind) (width : ℕ) (why : LogError)
+    → 0 < width → until_in kind o.until ≡ Err why → clock_in (with_width o width) kind ≡ Err why
 unfit-with o kind width why some ends = rw (above kind width some, ends) refl
 
 -- the events are taken the same, since none are merged
-pub kept-taken : (drop : Bool) (events left : List Event) (clock : Clock) (left_at : Option (List ℕ)) → AreLeftBy drop events left left_at → AreTaken drop false events clock left left_at None
+pub kept-taken : (drop : Bool) (events left : List Event) (clock : Clock) (left_at : Option (List ℕ))
+    → AreLeftBy drop events left left_at → AreTaken drop false events clock left left_at None
 kept-taken drop events left clock left_at are = record {
   kept = left;
   kept_at = left_at;
@@ -70,7 +75,8 @@ kept-taken drop events left clock left_at are = record {
 
 pub taken-kept : (events left : List Event) (clock : Clock) (places : List ℕ) (parts : Option (List (List ℕ)))
     → AreTaken true false events clock left (Some places) parts → (at : Option (List ℕ)) × AreLeftBy true events left at
-taken-kept events left clock places parts t = (t.kept_at, subst (λ (es : List Event). AreLeftBy true events es t.kept_at) (sym t.are_merged.0) t.are_kept)
+taken-kept events left clock places parts t =
+    (t.kept_at, subst (λ (es : List Event). AreLeftBy true events es t.kept_at) (sym t.are_merged.0) t.are_kept)
 
 -- and the same whatever the clock
 pub taken-by : (events left : List Event) (places : List ℕ) (parts : Option (List (List ℕ))) (clock other : Clock)
@@ -117,19 +123,22 @@ module _ (o : Options) (text : List ℕ) (log : SeenLog) (events : List Event) (
     (clocks : AreAligned o.align (length log.nodes) events aligned.offsets aligned.log.events.items)
     (nodes : aligned.log.nodes ≡ log.nodes) (until : Option ℤ) (ends : until_in log.kind o.until ≡ Ok until) where
   told-with : (width : ℕ) → 0 < width → AreEventsOf (with_width o width) text log events (clock_of log.kind until width)
-  told-with width some = record { read = read-with o text width (Ok log) read; same = same; fits = fits-with o log.kind until width some ends }
+  told-with width some =
+      record { read = read-with o text width (Ok log) read; same = same; fits = fits-with o log.kind until width some ends }
 
   unmade-with : (width : ℕ) (some : 0 < width) (why : LogError)
       → IsUnmadeUnlessMemory o.drop_lost false None true text aligned.log.nodes aligned.log.events.items
       (clock_of log.kind until width) why → IsLogRefusal (with_width o width) text why
-  unmade-with width some why =
-      unmade-refusal (with_width o width) text log events (clock_of log.kind until width) (told-with width some) aligned clocks nodes None refl o.drop_lost false refl refl why
+  unmade-with width some why = unmade-refusal (with_width o width) text log events
+      (clock_of log.kind until width) (told-with width some) aligned clocks nodes None refl o.drop_lost false refl refl why
 
-  pub rows-refused : (why : LogError) → IsLogRowRefusal o.drop_lost text aligned.log.nodes aligned.log.events.items log.kind until why → IsTickRefusal o text why
+  pub rows-refused : (why : LogError) → IsLogRowRefusal o.drop_lost text aligned.log.nodes aligned.log.events.items log.kind until why
+      → IsTickRefusal o text why
   rows-refused why h = (h.0, h.1, unmade-with h.0 h.1 why h.2)
 
   module _ (left : List Event) (left_at : Option (List ℕ)) (are : AreLeftBy o.drop_lost aligned.log.events.items left left_at) where
-    too-far : (width : ℕ) → 0 < width → IsPlacedBy (length aligned.log.nodes) left (clock_of log.kind until width) None → IsLogRefusal (with_width o width) text TooManyTicks
+    too-far : (width : ℕ) → 0 < width → IsPlacedBy (length aligned.log.nodes) left (clock_of log.kind until width) None
+        → IsLogRefusal (with_width o width) text TooManyTicks
     too-far width some h = unmade-with width some TooManyTicks (inr (inr (record {
       left = left;
       left_at = left_at;
@@ -152,7 +161,8 @@ module _ (o : Options) (text : List ℕ) (log : SeenLog) (events : List Event) (
       merged = None;
     }
 
-    placed : (width : ℕ) → 0 < width → (p : Placing) → IsPlacingOf (length log.nodes) left (clock_of log.kind until width) p → IsImportPlacing (with_width o width) text p
+    placed : (width : ℕ) → 0 < width → (p : Placing)
+        → IsPlacingOf (length log.nodes) left (clock_of log.kind until width) p → IsImportPlacing (with_width o width) text p
     placed width some p h =
         let clock = clock_of log.kind until width in
         record {
@@ -185,11 +195,14 @@ module _ (o : Options) (text : List ℕ) (log : SeenLog) (events : List Event) (
           numbers = numbers-in left clock h.trace h.moved h.places p left_at h.numbers;
         }
 
-    pub row-told : (row : TickRow) → IsRowOf (length aligned.log.nodes) left log.kind until row → IsToldBy (with_width o row.width) text row.placing
+    pub row-told : (row : TickRow) → IsRowOf (length aligned.log.nodes) left log.kind until row
+        → IsToldBy (with_width o row.width) text row.placing
     row-told row h = go row.placing h.1 where
-      go : (placing : Option Placing) → IsPlacedBy (length aligned.log.nodes) left (clock_of log.kind until row.width) placing → IsToldBy (with_width o row.width) text placing
+      go : (placing : Option Placing) → IsPlacedBy (length aligned.log.nodes) left (clock_of log.kind until row.width) placing
+          → IsToldBy (with_width o row.width) text placing
       go None far = too-far row.width h.0 far
-      go (Some p) is = placed row.width h.0 p (subst (λ (ns : List (List ℕ)). IsPlacingOf (length ns) left (clock_of log.kind until row.width) p) nodes is)
+      go (Some p) is = placed row.width h.0 p
+          (subst (λ (ns : List (List ℕ)). IsPlacingOf (length ns) left (clock_of log.kind until row.width) p) nodes is)
 
 -- the rows of the events of a log, by the same events and the same number of nodes
 pub log-rows : (drop : Bool) (kind : TimeKind) (n m : ℕ) (events left xs : List Event) (left_at : Option (List ℕ))
@@ -201,7 +214,8 @@ log-rows drop kind n m events left xs left_at until rows number same are widths 
   left_at = left_at;
   are_left = are;
   widths = widths ∙ ap (λ (es : List Event). told_widths kind (log_length es until)) same;
-  each = subst (λ k. All (IsRowOf k left kind until) rows) number (subst (λ (es : List Event). All (IsRowOf m es kind until) rows) same each);
+  each = subst (λ k. All (IsRowOf k left kind until) rows) number
+      (subst (λ (es : List Event). All (IsRowOf m es kind until) rows) same each);
 }
 
 -- a reason against all events of a log
@@ -209,8 +223,12 @@ pub whole-refused : (text : List ℕ) (nodes : List (List ℕ)) (events xs : Lis
     (until : Option ℤ) (why : EventError) (error : LogError) → xs ≡ events → IsRowRefusal xs kind until why
     → IsIdleErrorUnlessMemory text nodes events (filled.Events why) error
     → IsLogRowRefusal false text nodes events kind until error
-whole-refused text nodes events xs kind until why error same h is =
-    (h.0, h.1, whole-unmade None true text nodes events (clock_of kind until h.0) (filled.Events why) error (subst (λ (es : List Event). IsTimedRefusal true es (clock_of kind until h.0) why) same h.2) is)
+whole-refused text nodes events xs kind until why error same h is = (
+  h.0,
+  h.1,
+  whole-unmade None true text nodes events (clock_of kind
+      until h.0) (filled.Events why) error (subst (λ (es : List Event). IsTimedRefusal true es (clock_of kind until h.0) why) same h.2) is,
+)
 
 -- a reason against those that are left
 pub left-refused : (text : List ℕ) (nodes : List (List ℕ)) (events left xs : List Event) (places : List ℕ)

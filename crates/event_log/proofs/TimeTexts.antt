@@ -26,5 +26,7 @@ one-left (suc n) zero x h = absurd (omega (arith, h))
 one-left (suc n) (suc m) x h = one-left n m x (omega (arith, h))
 
 -- a text that was written over so many times Z, and the Z behind it
-pub zulu-text : (xs : List ℕ) → length xs ≤ MAX_LOCAL_BYTES → take (length xs + 1) (xs ++ drop (length xs) (replicate 41 90)) ≡ xs ++ 90 ∷ []
-zulu-text xs h = front-and_one xs (drop (length xs) (replicate 41 90)) ∙ ap (λ rest. xs ++ rest) (one-left (length xs) 41 90 (omega (arith, h)))
+pub zulu-text : (xs : List ℕ) → length xs ≤ MAX_LOCAL_BYTES
+    → take (length xs + 1) (xs ++ drop (length xs) (replicate 41 90)) ≡ xs ++ 90 ∷ []
+zulu-text xs h = front-and_one xs (drop (length xs) (replicate 41 90))
+    ∙ ap (λ rest. xs ++ rest) (one-left (length xs) 41 90 (omega (arith, h)))

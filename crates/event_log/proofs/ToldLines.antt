@@ -44,20 +44,25 @@ accepted-same listed number x s h = go (are_nodes listed x) (are_messages x) h w
   go false b e = cc e
 
 -- the kind of the times is that of the rules
-kind-told : (rules : Rules) (number : ℕ) (fields : List (List ℕ)) (s : Said) (k : TimeKind) → rules.kind ≡ Some k → said_of rules number fields ≡ Ok s → s.moment.kind ≡ k
-kind-told rules number fields s k settled_is h = go (length fields == rules.columns.fields) (moment_as rules.kind (field_of fields rules.columns.time)) (verb_of (field_of fields rules.columns.event)) refl h where
-  go : (b : Bool) (m : Option Moment) (v : Option Verb) → moment_as rules.kind (field_of fields rules.columns.time) ≡ m
-      → cond b (ok_or m (BadTime number) >>= λ moment. ok_or v (BadEvent number) >>= λ verb. accepted rules.listed number (said_by rules.columns moment verb fields)) (Err (BadFields number)) ≡ Ok s → s.moment.kind ≡ k
-  go true (Some m) (Some v) is e =
-      let same = accepted-same rules.listed number (said_by rules.columns m v fields) s e in
-      let kind = in-kind k (field_of fields rules.columns.time) m (ap (λ (o : Option TimeKind). moment_as o (field_of fields rules.columns.time)) (sym settled_is) ∙ is) in
-      ap (λ (x : Said). x.moment.kind) (sym same) ∙ kind
-  go true (Some m) None is e = cc e
-  go true None v is e = cc e
-  go false m v is e = cc e
+kind-told : (rules : Rules) (number : ℕ) (fields : List (List ℕ)) (s : Said) (k : TimeKind)
+    → rules.kind ≡ Some k → said_of rules number fields ≡ Ok s → s.moment.kind ≡ k
+kind-told rules number fields s k settled_is h = go (length fields == rules.columns.fields)
+    (moment_as rules.kind (field_of fields rules.columns.time)) (verb_of (field_of fields rules.columns.event)) refl h where
+      go : (b : Bool) (m : Option Moment) (v : Option Verb) → moment_as rules.kind (field_of fields rules.columns.time) ≡ m
+          → cond b (ok_or m (BadTime number) >>= λ moment. ok_or v (BadEvent number) >>= λ verb.
+          accepted rules.listed number (said_by rules.columns moment verb fields)) (Err (BadFields number)) ≡ Ok s → s.moment.kind ≡ k
+      go true (Some m) (Some v) is e =
+          let same = accepted-same rules.listed number (said_by rules.columns m v fields) s e in
+          let kind = in-kind k (field_of fields rules.columns.time) m
+          (ap (λ (o : Option TimeKind). moment_as o (field_of fields rules.columns.time)) (sym settled_is) ∙ is) in
+          ap (λ (x : Said). x.moment.kind) (sym same) ∙ kind
+      go true (Some m) None is e = cc e
+      go true None v is e = cc e
+      go false m v is e = cc e
 
 -- what is accepted is so whatever its number
-accepted-any : (listed : Option (Bor (List (List ℕ)))) (number : ℕ) (x s : Said) → accepted listed 0 x ≡ Ok s → accepted listed number x ≡ Ok x
+accepted-any : (listed : Option (Bor (List (List ℕ)))) (number : ℕ) (x s : Said)
+    → accepted listed 0 x ≡ Ok s → accepted listed number x ≡ Ok x
 accepted-any listed number x s h = go (are_nodes listed x) (are_messages x) h where
   go : (a b : Bool) → cond a (cond b (Ok x) (Err (BadMessage 0))) (Err (BadNode 0 (bad_node listed x))) ≡ Ok s
       → cond a (cond b (Ok x) (Err (BadMessage number))) (Err (BadNode number (bad_node listed x))) ≡ Ok x
@@ -66,19 +71,21 @@ accepted-any listed number x s h = go (are_nodes listed x) (are_messages x) h wh
   go false b e = cc e
 
 -- what a record says is so whatever its number, and its names are its fields
-pub told-by : (rules : Rules) (fields : List (List ℕ)) (s : Said) (number : ℕ) → said_of rules 0 fields ≡ Ok s → said_of rules number fields ≡ Ok (said_by rules.columns s.moment s.verb fields)
-told-by rules fields s number h = go (length fields == rules.columns.fields) (moment_as rules.kind (field_of fields rules.columns.time)) (verb_of (field_of fields rules.columns.event)) h where
-  go : (b : Bool) (m : Option Moment) (v : Option Verb)
-      → cond b (ok_or m (BadTime 0) >>= λ moment. ok_or v (BadEvent 0) >>= λ verb. accepted rules.listed 0 (said_by rules.columns moment verb fields)) (Err (BadFields 0)) ≡ Ok s
-      → cond b (ok_or m (BadTime number) >>= λ moment. ok_or v (BadEvent number) >>= λ verb. accepted rules.listed number (said_by rules.columns moment verb fields)) (Err (BadFields number))
-      ≡ Ok (said_by rules.columns s.moment s.verb fields)
-  go true (Some m) (Some v) e =
-      let x : Said = said_by rules.columns m v fields in
-      let same = accepted-same rules.listed 0 x s e in
-      accepted-any rules.listed number x s e ∙ ap (λ (y : Said). Ok (said_by rules.columns y.moment y.verb fields)) same
-  go true (Some m) None e = cc e
-  go true None v e = cc e
-  go false m v e = cc e
+pub told-by : (rules : Rules) (fields : List (List ℕ)) (s : Said) (number : ℕ)
+    → said_of rules 0 fields ≡ Ok s → said_of rules number fields ≡ Ok (said_by rules.columns s.moment s.verb fields)
+told-by rules fields s number h = go (length fields == rules.columns.fields)
+    (moment_as rules.kind (field_of fields rules.columns.time)) (verb_of (field_of fields rules.columns.event)) h where
+      go : (b : Bool) (m : Option Moment) (v : Option Verb) → cond b (ok_or m (BadTime 0) >>= λ moment. ok_or v (BadEvent 0)
+          >>= λ verb. accepted rules.listed 0 (said_by rules.columns moment verb fields)) (Err (BadFields 0)) ≡ Ok s
+          → cond b (ok_or m (BadTime number) >>= λ moment. ok_or v (BadEvent number) >>= λ verb. accepted rules.listed number
+          (said_by rules.columns moment verb fields)) (Err (BadFields number)) ≡ Ok (said_by rules.columns s.moment s.verb fields)
+      go true (Some m) (Some v) e =
+          let x : Said = said_by rules.columns m v fields in
+          let same = accepted-same rules.listed 0 x s e in
+          accepted-any rules.listed number x s e ∙ ap (λ (y : Said). Ok (said_by rules.columns y.moment y.verb fields)) same
+      go true (Some m) None e = cc e
+      go true None v e = cc e
+      go false m v e = cc e
 
 -- a value that there is
 some-of : {A : Type 0} (o : Option A) → IsSome o → (x : A) × (o ≡ Some x)
@@ -86,10 +93,12 @@ some-of (Some x) h = (x, refl)
 some-of None h = cc h
 
 -- once the kind is settled, an event doesn't change the rules
-rules-stay : (rules : Rules) (r : Reading) (fields : List (List ℕ)) (told : Told) → AreRulesOf rules r → IsToldBy rules fields told → AreRulesOf rules (with_event r (said told))
+rules-stay : (rules : Rules) (r : Reading) (fields : List (List ℕ)) (told : Told)
+    → AreRulesOf rules r → IsToldBy rules fields told → AreRulesOf rules (with_event r (said told))
 rules-stay rules r fields told h t = record {
   columns = h.columns;
-  are = h.are ∙ ap (λ (kind : Option TimeKind). record { columns = rules.columns; kind = kind; listed = r.listed }) (sym (same r.unit (sym settled_is ∙ k.1)));
+  are = h.are ∙ ap (λ (kind : Option TimeKind). record { columns = rules.columns; kind = kind; listed = r.listed })
+      (sym (same r.unit (sym settled_is ∙ k.1)));
   kind = h.kind;
 } where
   k : (x : TimeKind) × (rules.kind ≡ Some x)
@@ -111,7 +120,8 @@ one-event rules r fields told h t =
     (ap (λ (q : Rules). said_of q (r.count + 2) fields) (sym h.are) ∙ t (r.count + 2))
 
 -- events lead where the records lead that say them
-pub rows-lead : (rules : Rules) (r : Reading) (records rest : List (List (List ℕ))) (rows : List Told) → AreRulesOf rules r → AllZip (IsToldBy rules) records rows
+pub rows-lead : (rules : Rules) (r : Reading) (records rest : List (List (List ℕ))) (rows : List Told)
+    → AreRulesOf rules r → AllZip (IsToldBy rules) records rows
     → after_records next_reading r (records ++ rest) ≡ after_rows r (map said rows) >>= λ s. after_records next_reading s rest
 rows-lead rules r [] rest [] h z = refl
 rows-lead rules r [] rest (t ∷ ts) h z = absurd z
@@ -122,28 +132,31 @@ rows-lead rules r (f ∷ fs) rest (t ∷ ts) h z =
       next : Reading
       next = with_event r (said t)
 
-      go : (b : Bool) → after_records next_reading next (fs ++ rest) ≡ after_rows next (map said ts) >>= (λ s. after_records next_reading s rest)
-          → cond b (Err TooManyEvents) (Ok next) >>= (λ q. after_records next_reading q (fs ++ rest))
+      go : (b : Bool) → after_records next_reading next (fs ++ rest) ≡ after_rows next (map said ts) >>= (λ s.
+          after_records next_reading s rest) → cond b (Err TooManyEvents) (Ok next) >>= (λ q. after_records next_reading q (fs ++ rest))
           ≡ cond b (Err TooManyEvents) (after_rows next (map said ts)) >>= (λ s. after_records next_reading s rest)
       go true later = refl
       go false later = later
 
 -- and the rules stay
-rows-stay : (rules : Rules) (r : Reading) (records : List (List (List ℕ))) (rows : List Told) (s : Reading) → AreRulesOf rules r → AllZip (IsToldBy rules) records rows
-    → after_rows r (map said rows) ≡ Ok s → AreRulesOf rules s
+rows-stay : (rules : Rules) (r : Reading) (records : List (List (List ℕ))) (rows : List Told) (s : Reading)
+    → AreRulesOf rules r → AllZip (IsToldBy rules) records rows → after_rows r (map said rows) ≡ Ok s → AreRulesOf rules s
 rows-stay rules r [] [] s h z e = subst (AreRulesOf rules) (cc e) h
 rows-stay rules r [] (t ∷ ts) s h z e = absurd z
 rows-stay rules r (f ∷ fs) [] s h z e = absurd z
-rows-stay rules r (f ∷ fs) (t ∷ ts) s h z e = go (nat_le MAX_EVENTS r.count) e (rows-stay rules (with_event r (said t)) fs ts s (rules-stay rules r f t h z.0) z.1) where
-  go : (b : Bool) → cond b (Err TooManyEvents) (after_rows (with_event r (said t)) (map said ts)) ≡ Ok s
-      → (after_rows (with_event r (said t)) (map said ts) ≡ Ok s → AreRulesOf rules s) → AreRulesOf rules s
-  go true x later = cc x
-  go false x later = later x
+rows-stay rules r (f ∷ fs) (t ∷ ts) s h z e = go (nat_le MAX_EVENTS r.count) e
+    (rows-stay rules (with_event r (said t)) fs ts s (rules-stay rules r f t h z.0) z.1) where
+      go : (b : Bool) → cond b (Err TooManyEvents) (after_rows (with_event r (said t)) (map said ts)) ≡ Ok s
+          → (after_rows (with_event r (said t)) (map said ts) ≡ Ok s → AreRulesOf rules s) → AreRulesOf rules s
+      go true x later = cc x
+      go false x later = later x
 
 -- no event is taken in above the greatest number of events
-pub full-row : (r : Reading) (rows : List Told) (k : ℕ) → k < length rows → MAX_EVENTS ≤ r.count → after_rows r (map said (drop k rows)) ≡ Err TooManyEvents
+pub full-row : (r : Reading) (rows : List Told) (k : ℕ)
+    → k < length rows → MAX_EVENTS ≤ r.count → after_rows r (map said (drop k rows)) ≡ Err TooManyEvents
 full-row r [] k l full = absurd (omega (arith, l))
-full-row r (t ∷ ts) zero l full = ap (λ (b : Bool). cond b (Err TooManyEvents) (after_rows (with_event r (said t)) (map said ts))) (le-leb MAX_EVENTS r.count full)
+full-row r (t ∷ ts) zero l full = ap (λ (b : Bool). cond b (Err TooManyEvents) (after_rows (with_event r (said t)) (map said ts)))
+    (le-leb MAX_EVENTS r.count full)
 full-row r (t ∷ ts) (suc k) l full = full-row r ts k (omega (arith, l)) full
 
 -- Some lines were told, and are yet to be taken in. What was read leads on from where they begin.
@@ -151,57 +164,60 @@ pub record IsAhead (rules : Rules) (begun : Reading) (text : List ℕ) (at : ℕ
   pub by : AreRulesOf rules reading
   pub from : ℕ
   pub lines : AreTold rules text from told
-  pub leads : after_records next_reading begun (records_of_text (drop at text)) ≡ after_records next_reading reading (records_of_text (drop from text))
+  pub leads : after_records next_reading begun (records_of_text (drop at text))
+      ≡ after_records next_reading reading (records_of_text (drop from text))
 
 -- where the told lines and those behind them lead
-lines-lead : (rules : Rules) (begun : Reading) (text : List ℕ) (at : ℕ) (reading : Reading) (told : ToldLines) → IsAhead rules begun text at reading told
-    → after_records next_reading begun (records_of_text (drop at text)) ≡ after_rows reading (map said told.rows.items) >>= λ s. after_records next_reading s (records_of_text (drop told.end text))
-lines-lead rules begun text at reading told h =
-    h.leads ∙ ap (after_records next_reading reading) h.lines.are ∙ rows-lead rules reading h.lines.records (records_of_text (drop told.end text)) told.rows.items h.by h.lines.each
+lines-lead : (rules : Rules) (begun : Reading) (text : List ℕ) (at : ℕ) (reading : Reading) (told : ToldLines)
+    → IsAhead rules begun text at reading told → after_records next_reading begun (records_of_text (drop at text))
+    ≡ after_rows reading (map said told.rows.items) >>= λ s. after_records next_reading s (records_of_text (drop told.end text))
+lines-lead rules begun text at reading told h = h.leads ∙ ap (after_records next_reading reading) h.lines.are
+    ∙ rows-lead rules reading h.lines.records (records_of_text (drop told.end text)) told.rows.items h.by h.lines.each
 
 -- they are taken in
-pub ahead-next : (rules : Rules) (begun : Reading) (text : List ℕ) (at : ℕ) (reading : Reading) (told : ToldLines) (new : Reading) (next : ToldLines)
-    → IsAhead rules begun text at reading told
+pub ahead-next : (rules : Rules) (begun : Reading) (text : List ℕ)
+    (at : ℕ) (reading : Reading) (told : ToldLines) (new : Reading) (next : ToldLines) → IsAhead rules begun text at reading told
     → after_rows reading (map said told.rows.items) ≡ Ok new → AreTold rules text told.end next → IsAhead rules begun text at new next
 ahead-next rules begun text at reading told new next h e t = record {
   by = rows-stay rules reading h.lines.records told.rows.items new h.by h.lines.each e;
   from = told.end;
   lines = t;
-  leads = lines-lead rules begun text at reading told h ∙ ap (λ (x : Result Reading LogError). x >>= λ s. after_records next_reading s (records_of_text (drop told.end text))) e;
+  leads = lines-lead rules begun text at reading told h
+      ∙ ap (λ (x : Result Reading LogError). x >>= λ s. after_records next_reading s (records_of_text (drop told.end text))) e;
 }
 
 -- or one of them is refused
-pub ahead-refused : (rules : Rules) (begun : Reading) (text : List ℕ) (at : ℕ) (reading : Reading) (told : ToldLines) (why : LogError) → IsAhead rules begun text at reading told
+pub ahead-refused : (rules : Rules) (begun : Reading) (text : List ℕ) (at : ℕ) (reading : Reading) (told : ToldLines) (why : LogError)
+    → IsAhead rules begun text at reading told
     → MatchBool (is_memory why) ⊤ (after_rows reading (map said told.rows.items) ≡ Err why) → LeadsOn begun text at (Err why)
-ahead-refused rules begun text at reading told why h e = unless
-    (is_memory why)
-    (after_rows reading (map said told.rows.items) ≡ Err why)
-    (after_records next_reading begun (records_of_text (drop at text)) ≡ Err why)
-    (λ x. lines-lead rules begun text at reading told h ∙ ap (λ (y : Result Reading LogError). y >>= λ s. after_records next_reading s (records_of_text (drop told.end text))) x) e
+ahead-refused rules begun text at reading told why h e = unless (is_memory why) (after_rows reading (map said told.rows.items) ≡ Err why)
+    (after_records next_reading begun (records_of_text (drop at text)) ≡ Err why) (λ x. lines-lead rules begun text at reading told h
+    ∙ ap (λ (y : Result Reading LogError). y >>= λ s. after_records next_reading s (records_of_text (drop told.end text))) x) e
 
 -- or there are none
-pub ahead-ended : (rules : Rules) (begun : Reading) (text : List ℕ) (at : ℕ) (reading : Reading) (told : ToldLines) → IsAhead rules begun text at reading told → length told.rows.items ≡ 0
-    → LeadsOn begun text at (Ok (reading, told.end))
+pub ahead-ended : (rules : Rules) (begun : Reading) (text : List ℕ) (at : ℕ) (reading : Reading) (told : ToldLines)
+    → IsAhead rules begun text at reading told → length told.rows.items ≡ 0 → LeadsOn begun text at (Ok (reading, told.end))
 ahead-ended rules begun text at reading told h none = (
   h.lines.within,
-  lines-lead rules begun text at reading told h
-      ∙ ap (λ (rows : List Told). after_rows reading (map said rows) >>= λ s. after_records next_reading s (records_of_text (drop told.end text)))
-      (nil_from_length told.rows.items none),
+  lines-lead rules begun text at reading told h ∙ ap (λ (rows : List Told). after_rows reading (map said rows)
+      >>= λ s. after_records next_reading s (records_of_text (drop told.end text))) (nil_from_length told.rows.items none),
 )
 
 -- what lines say goes on with the next one
-pub told-more : (rules : Rules) (text : List ℕ) (at : ℕ) (told : ToldLines) (fields : List (List ℕ)) (end : ℕ) (row : Told) (next : ToldLines)
-    → AreTold rules text at told → IsPlainLine text told.end fields end → IsToldBy rules fields row → next.rows.items ≡ told.rows.items ++ row ∷ [] → next.end ≡ end → AreTold rules text at next
+pub told-more : (rules : Rules) (text : List ℕ) (at : ℕ) (told : ToldLines)
+    (fields : List (List ℕ)) (end : ℕ) (row : Told) (next : ToldLines) → AreTold rules text at told → IsPlainLine text told.end fields end
+    → IsToldBy rules fields row → next.rows.items ≡ told.rows.items ++ row ∷ [] → next.end ≡ end → AreTold rules text at next
 told-more rules text at told fields end row next h line says rows is = record {
   within = let w = line.within in omega (arith, is, w);
-  forward = let f = h.forward in let s = line.some in let l = ap length rows ∙ length-append told.rows.items (row ∷ []) in omega (arith, f, s, l, is);
+  forward = let f = h.forward in let s = line.some in
+      let l = ap length rows ∙ length-append told.rows.items (row ∷ []) in omega (arith, f, s, l, is);
   records = h.records ++ fields ∷ [];
   each = subst (AllZip (IsToldBy rules) (h.records ++ fields ∷ [])) (sym rows) (zip-more h.records told.rows.items h.each);
-  are = h.are
-      ∙ ap (λ (rest : List (List (List ℕ))). h.records ++ rest) (line.records ∙ ap (λ (k : ℕ). fields ∷ records_of_text (drop k text)) (sym is))
-      ∙ sym (append_assoc h.records (fields ∷ []) (records_of_text (drop next.end text)));
+  are = h.are ∙ ap (λ (rest : List (List (List ℕ))). h.records ++ rest) (line.records ∙ ap (λ (k : ℕ).
+      fields ∷ records_of_text (drop k text)) (sym is)) ∙ sym (append_assoc h.records (fields ∷ []) (records_of_text (drop next.end text)));
 } where
-  zip-more : (records : List (List (List ℕ))) (told_rows : List Told) → AllZip (IsToldBy rules) records told_rows → AllZip (IsToldBy rules) (records ++ fields ∷ []) (told_rows ++ row ∷ [])
+  zip-more : (records : List (List (List ℕ))) (told_rows : List Told)
+      → AllZip (IsToldBy rules) records told_rows → AllZip (IsToldBy rules) (records ++ fields ∷ []) (told_rows ++ row ∷ [])
   zip-more [] [] z = (says, tt)
   zip-more [] (t ∷ ts) z = absurd z
   zip-more (f ∷ fs) [] z = absurd z
@@ -213,7 +229,8 @@ one_if_any [] = 0
 one_if_any (t ∷ ts) = 1
 
 -- some rows are taken in, and the next ones, if any, end further on
-pub told-shrinks : (n end next_end : ℕ) (rows next : List Told) → end + length next ≤ next_end → next_end ≤ n → 0 < length rows → n - next_end + one_if_any next < n - end + one_if_any rows
+pub told-shrinks : (n end next_end : ℕ) (rows next : List Told)
+    → end + length next ≤ next_end → next_end ≤ n → 0 < length rows → n - next_end + one_if_any next < n - end + one_if_any rows
 told-shrinks n end next_end [] next forward within some = absurd (omega (arith, some))
 told-shrinks n end next_end (t ∷ ts) [] forward within some = omega (arith, forward, within)
 told-shrinks n end next_end (t ∷ ts) (x ∷ xs) forward within some = omega (arith, forward, within)

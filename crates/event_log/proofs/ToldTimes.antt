@@ -13,7 +13,8 @@ use Rattle.event_log.specs.Times.{IsEnd, IsWidth, unit_of}
 
 pub told-unit : (text : Option (List ℕ)) (unit : Option TimeUnit) → IsUnitIn text unit → ¬ HasBadUnit text
 told-unit None unit h b = absurd (cc b.1)
-told-unit (Some t) unit h b = let same : t ≡ b.0 = cc b.1 in let none : unit_of t ≡ None = ap unit_of same ∙ b.2 in let some = h.1 in absurd (cc)
+told-unit (Some t) unit h b = let same : t ≡ b.0 = cc b.1 in
+    let none : unit_of t ≡ None = ap unit_of same ∙ b.2 in let some = h.1 in absurd (cc)
 
 pub told-width : (text : Option (List ℕ)) (width : Width) → IsWidthIn text width → ¬ HasBadTick text
 told-width None width h b = absurd (cc b.1)

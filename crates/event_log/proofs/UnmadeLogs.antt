@@ -36,9 +36,11 @@ module _ (log : NamedEvents) (sound : IsSound (seen_log log)) where
 pub unmade-place : (limit : Option ℕ) (spread : Bool) (n : ℕ) (events : List Event) (clock : Clock) (why : IdleError)
     → 0 < length events → length events ≤ MAX_EVENTS → IsUnmadeFor limit spread n events clock why
     → idle_place why < MAX_EVENTS
-unmade-place None spread n events clock (filled.Events why) some few h = let lt = place-within spread events clock why some h in omega (arith, lt, few)
+unmade-place None spread n events clock (filled.Events why) some few h =
+    let lt = place-within spread events clock why some h in omega (arith, lt, few)
 unmade-place None spread n events clock filled.TooManySteps some few h = absurd h
-unmade-place (Some limit) spread n events clock (filled.Events why) some few h = let lt = place-within spread events clock why some h in omega (arith, lt, few)
+unmade-place (Some limit) spread n events clock (filled.Events why) some few h =
+    let lt = place-within spread events clock why some h in omega (arith, lt, few)
 unmade-place (Some limit) spread n events clock filled.TooManySteps some few h = omega (arith, some, few)
 
 behind-unmade : (limit : Option ℕ) (spread : Bool) (n : ℕ) (events : List Event) (clock : Clock) (i : ℕ)
@@ -50,4 +52,5 @@ behind-unmade (Some limit) spread n events clock i h = behind-cycle spread event
 pub unmade-behind : (limit : Option ℕ) (spread : Bool) (n : ℕ) (events : List Event) (clock : Clock) (why : IdleError)
     → IsUnmadeFor limit spread n events clock why → (i : ℕ) → why ≡ filled.Events (refused.Cycle i)
     → IsBehindCycle events i
-unmade-behind limit spread n events clock why h i e = behind-unmade limit spread n events clock i (subst (λ w. IsUnmadeFor limit spread n events clock w) e h)
+unmade-behind limit spread n events clock why h i e =
+    behind-unmade limit spread n events clock i (subst (λ w. IsUnmadeFor limit spread n events clock w) e h)

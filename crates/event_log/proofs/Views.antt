@@ -16,7 +16,8 @@ prefix_len-map f p [] = refl
 prefix_len-map f p (x ∷ xs) = ap (λ n. cond (p (f x)) (1 + n) 0) (prefix_len-map f p xs)
 
 -- the first place of a map that passes
-pub position_or_len-map : {X Y : Type 0} (f : X → Y) (p : Y → Bool) (xs : List X) → position_or_len p (map f xs) ≡ position_or_len (λ x. p (f x)) xs
+pub position_or_len-map : {X Y : Type 0} (f : X → Y) (p : Y → Bool) (xs : List X)
+    → position_or_len p (map f xs) ≡ position_or_len (λ x. p (f x)) xs
 position_or_len-map f p xs = prefix_len-map f (λ y. not (p y)) xs
 
 -- the same of the place, or none
@@ -24,7 +25,8 @@ pub position-map : {X Y : Type 0} (f : X → Y) (p : Y → Bool) (xs : List X) �
 position-map f p xs = rw (position_or_len-map f p xs, length-map xs f) refl
 
 -- one more element, or none
-pub map-one : {X Y : Type 0} (f : X → Y) (x : X) (xs : List X) (t : Bool) → map f (if t then xs else xs ++ x ∷ []) ≡ (if t then map f xs else map f xs ++ f x ∷ [])
+pub map-one : {X Y : Type 0} (f : X → Y) (x : X) (xs : List X) (t : Bool)
+    → map f (if t then xs else xs ++ x ∷ []) ≡ (if t then map f xs else map f xs ++ f x ∷ [])
 map-one f x xs true = refl
 map-one f x xs false = map-append f xs (x ∷ [])
 
@@ -44,13 +46,15 @@ pub list_all-more : {X : Type 0} (p : X → Bool) (xs : List X) (y : X) → list
 list_all-more p [] y h k = rw k refl
 list_all-more p (x ∷ xs) y h k = more-go (p x) (list_all p xs) (list_all p (xs ++ y ∷ [])) (λ e. list_all-more p xs y e k) h
 
-pub list_all-stops : {X : Type 0} (p : X → Bool) (xs : List X) (k : ℕ) (d : X) → k < length xs → p (get_or xs k d) ≡ false → list_all p xs ≡ false
+pub list_all-stops : {X : Type 0} (p : X → Bool) (xs : List X) (k : ℕ) (d : X)
+    → k < length xs → p (get_or xs k d) ≡ false → list_all p xs ≡ false
 list_all-stops p [] k d lt e = absurd (omega (arith, lt))
 list_all-stops p (x ∷ xs) zero d lt e = rw e refl
 list_all-stops p (x ∷ xs) (suc k) d lt e = and_right (p x) (list_all p xs) (list_all-stops p xs k d (omega (arith, lt)) e)
 
 -- elements that are the same to a view, one by one
-pub map-same : {X Y : Type 0} (f : X → Y) (R : X → X → Type 0) → ((x y : X) → R x y → f y ≡ f x) → (xs ys : List X) → AllZip R xs ys → map f ys ≡ map f xs
+pub map-same : {X Y : Type 0} (f : X → Y) (R : X → X → Type 0)
+    → ((x y : X) → R x y → f y ≡ f x) → (xs ys : List X) → AllZip R xs ys → map f ys ≡ map f xs
 map-same f R same [] [] h = refl
 map-same f R same (x ∷ xs) (y ∷ ys) h = rw (same x y h.0, map-same f R same xs ys h.1) refl
 map-same f R same [] (y ∷ ys) h = absurd h

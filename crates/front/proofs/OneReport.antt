@@ -15,8 +15,10 @@ rising-same [] [] a b into back = refl
 rising-same [] (y ∷ ys) a b into back = absurd (Contains-nil y (back y (Contains-head y ys)))
 rising-same (x ∷ xs) [] a b into back = absurd (Contains-nil x (into x (Contains-head x xs)))
 rising-same (x ∷ xs) (y ∷ ys) a b into back =
-    let above_x = λ (r : Row) (c : Contains xs r). rising-first x.gst (map (λ z. z.gst) xs) a r.gst (Contains-map (λ (z : Row). z.gst) xs r c) in
-    let above_y = λ (r : Row) (c : Contains ys r). rising-first y.gst (map (λ z. z.gst) ys) b r.gst (Contains-map (λ (z : Row). z.gst) ys r c) in
+    let above_x = λ (r : Row) (c : Contains xs r).
+    rising-first x.gst (map (λ z. z.gst) xs) a r.gst (Contains-map (λ (z : Row). z.gst) xs r c) in
+    let above_y = λ (r : Row) (c : Contains ys r).
+    rising-first y.gst (map (λ z. z.gst) ys) b r.gst (Contains-map (λ (z : Row). z.gst) ys r c) in
     let first : x ≡ y = elim (Contains-cons_cases y x ys (into x (Contains-head x xs))) [
       | inl e ↦ sym e
       | inr later ↦ elim (Contains-cons_cases x y xs (back y (Contains-head y ys))) [
@@ -51,12 +53,15 @@ row-same set trace a b time x y e =
     rw (gst, delta, phi, miss, gap) refl in
     same
 
-report-has : (set : ℕ) (trace : Recorded) (xs ys : List Row) → IsTimed trace → IsReport set trace xs → IsReport set trace ys → (r : Row) → Contains xs r → Contains ys r
+report-has : (set : ℕ) (trace : Recorded) (xs ys : List Row)
+    → IsTimed trace → IsReport set trace xs → IsReport set trace ys → (r : Row) → Contains xs r → Contains ys r
 report-has set trace xs ys time a b r c =
     let row = a.sound r c in
     let m = Contains-from_map triple_of ys (triple_of r) (b.complete (triple_of r) row.front) in
     subst (Contains ys) (row-same set trace m.0 r time (b.sound m.0 m.1) row m.2) m.1
 
 -- two reports of a trace and a set are the same
-pub IsReport-unique : (set : ℕ) (trace : Recorded) (xs ys : List Row) → IsTimed trace → IsReport set trace xs → IsReport set trace ys → xs ≡ ys
-IsReport-unique set trace xs ys time a b = rising-same xs ys a.rising b.rising (report-has set trace xs ys time a b) (report-has set trace ys xs time b a)
+pub IsReport-unique : (set : ℕ) (trace : Recorded) (xs ys : List Row)
+    → IsTimed trace → IsReport set trace xs → IsReport set trace ys → xs ≡ ys
+IsReport-unique set trace xs ys time a b = rising-same xs ys a.rising b.rising
+    (report-has set trace xs ys time a b) (report-has set trace ys xs time b a)

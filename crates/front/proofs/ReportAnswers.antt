@@ -23,7 +23,8 @@ IsRecordRefusal why.Read = ⊥
 IsRecordRefusal why.Memory = ⊥
 IsRecordRefusal e = ⊤
 
-row-refusal : (at : ℕ) (entries : List (Option (Option ℕ))) (b : Bool) (e : ReportError) → cond b (row_of_entries at entries) (Err (why.BadFields at)) ≡ Err e → IsRecordRefusal e
+row-refusal : (at : ℕ) (entries : List (Option (Option ℕ))) (b : Bool) (e : ReportError)
+    → cond b (row_of_entries at entries) (Err (why.BadFields at)) ≡ Err e → IsRecordRefusal e
 unfolding IsRecordRefusal
 row-refusal at entries true e h = elim (row_of_entries-refused at entries e h) [
   | inl same ↦ subst IsRecordRefusal (sym same) tt
@@ -40,13 +41,15 @@ next-refusal None fields e h = go (is_header fields) h where
 next-refusal (Some rows) fields e h = go (row_of (length rows + 1) fields) refl h where
   go : (r : Result Row ReportError) → row_of (length rows + 1) fields ≡ r → with_row rows r ≡ Err e → IsRecordRefusal e
   go (Ok x) k h = cc h
-  go (Err f) k h = let same : f ≡ e = cc h in subst IsRecordRefusal same (row-refusal (length rows + 1) (map entry_of fields) (length fields == COLUMNS) f k)
+  go (Err f) k h = let same : f ≡ e = cc h in
+      subst IsRecordRefusal same (row-refusal (length rows + 1) (map entry_of fields) (length fields == COLUMNS) f k)
 
-after-refusal : (rows : Option (List Row)) (rs : List (List (List ℕ))) (e : ReportError) → after_records next_rows rows rs ≡ Err e → IsRecordRefusal e
+after-refusal : (rows : Option (List Row)) (rs : List (List (List ℕ))) (e : ReportError)
+    → after_records next_rows rows rs ≡ Err e → IsRecordRefusal e
 after-refusal rows [] e h = cc h
 after-refusal rows (r ∷ rs) e h = go (next_rows rows r) refl (λ more. after-refusal more rs e) h where
-  go : (n : Result (Option (List Row)) ReportError) → next_rows rows r ≡ n → ((more : Option (List Row)) → after_records next_rows more rs ≡ Err e → IsRecordRefusal e)
-      → n >>= (λ more. after_records next_rows more rs) ≡ Err e → IsRecordRefusal e
+  go : (n : Result (Option (List Row)) ReportError) → next_rows rows r ≡ n → ((more : Option (List Row)) → after_records next_rows more rs
+      ≡ Err e → IsRecordRefusal e) → n >>= (λ more. after_records next_rows more rs) ≡ Err e → IsRecordRefusal e
   go (Ok more) k rest h = rest more h
   go (Err f) k rest h = let same : f ≡ e = cc h in subst IsRecordRefusal same (next-refusal rows r f k)
 
@@ -59,8 +62,8 @@ records-refusal rs e h = go (after_records next_rows None rs) refl h where
   go (Err f) k h = let same : f ≡ e = cc h in subst IsRecordRefusal same (after-refusal None rs f k)
 
 -- rows that were answered are those of the text
-pub stands-from : {A : Type 0} (items : A → List Row) (r : Result A ReportError) (known : Option (List ℕ)) (text : List ℕ)
-    → Gives items r (rows_of_records (records_of_text text)) → IfSome known (λ xs. text ≡ xs) → IfOk r (λ v. IfSome known (λ t. StandsFor t (items v)))
+pub stands-from : {A : Type 0} (items : A → List Row) (r : Result A ReportError) (known : Option (List ℕ)) (text : List ℕ) → Gives items r
+    (rows_of_records (records_of_text text)) → IfSome known (λ xs. text ≡ xs) → IfOk r (λ v. IfSome known (λ t. StandsFor t (items v)))
 stands-from items (Err e) known text h k = tt
 stands-from items (Ok v) None text h k = tt
 stands-from items (Ok v) (Some t) text h k = subst (λ t. StandsFor t (items v)) k (rows_of_records-ok (records_of_text text) (items v) h)
@@ -95,7 +98,8 @@ small-rows text l = let small : nat_le (length text) MAX_TEXT_BYTES ≡ true = g
 
 -- a refusal is the first of the text, or out of memory
 pub refused-from : {A : Type 0} (items : A → List Row) (r : Result A ReportError) (known : Option (List ℕ)) (text : List ℕ) (old new : ℕ)
-    → length text ≤ MAX_TEXT_BYTES → Gives items r (rows_of_records (records_of_text text)) → IfSome known (λ xs. text ≡ xs) → IfErr r (λ e. RefusedFor e old new known)
+    → length text ≤ MAX_TEXT_BYTES → Gives items r (rows_of_records (records_of_text text))
+    → IfSome known (λ xs. text ≡ xs) → IfErr r (λ e. RefusedFor e old new known)
 unfolding IsRecordRefusal
 refused-from items (Ok v) known text old new l h k = tt
 refused-from items (Err e) known text old new l h k = go e h known k where
@@ -104,8 +108,8 @@ refused-from items (Err e) known text old new l h k = go e h known k where
   first e h None k = tt
   first e h (Some t) k = subst (λ t. rows_of_text t ≡ Err e) k (small-rows text l ∙ h)
 
-  go : (e : ReportError) → MatchBool (is_memory e) ⊤ (rows_of_records (records_of_text text) ≡ Err e) → (known : Option (List ℕ)) → IfSome known (λ xs. text ≡ xs)
-      → RefusedFor e old new known
+  go : (e : ReportError) → MatchBool (is_memory e) ⊤ (rows_of_records (records_of_text text) ≡ Err e)
+      → (known : Option (List ℕ)) → IfSome known (λ xs. text ≡ xs) → RefusedFor e old new known
   go why.TooLarge h known k = absurd (records-refusal (records_of_text text) why.TooLarge h)
   go why.Read h known k = absurd (records-refusal (records_of_text text) why.Read h)
   go why.Memory h known k = tt

@@ -40,7 +40,8 @@ entry_of-text (Some n) h = go (decimal n) refl where
   go (b ∷ bs) e = let number = rw e at (number_of-decimal n h) in rw number refl
 
 -- fields that were read are the texts of their entries
-entries-some : (fields : List (List ℕ)) (entries : List (Option ℕ)) → map entry_of fields ≡ map (λ e. Some e) entries → fields ≡ map entry_text entries
+entries-some : (fields : List (List ℕ)) (entries : List (Option ℕ))
+    → map entry_of fields ≡ map (λ e. Some e) entries → fields ≡ map entry_text entries
 entries-some [] [] h = refl
 entries-some [] (e ∷ es) h = cc h
 entries-some (f ∷ fs) [] h = cc h
@@ -50,7 +51,8 @@ entries-some (f ∷ fs) (e ∷ es) h =
     rw (entry_of-some f e one, entries-some fs es more) refl
 
 -- one more field
-pub entry_more : (fields : List (List ℕ)) (k : ℕ) → k < length fields → map entry_of (take (k + 1) fields) ≡ map entry_of (take k fields) ++ entry_of (field_of fields k) ∷ []
+pub entry_more : (fields : List (List ℕ)) (k : ℕ) → k < length fields
+    → map entry_of (take (k + 1) fields) ≡ map entry_of (take k fields) ++ entry_of (field_of fields k) ∷ []
 entry_more fields k inside =
     rw (field_of-get_or fields k) (map_more entry_of fields k [] inside)
 
@@ -60,25 +62,31 @@ entries-texts [] h = refl
 entries-texts (e ∷ es) h = rw (entry_of-text e h.0, entries-texts es h.1) refl
 
 -- entries of which a row was made are its entries
-row_of_entries-ok : (at : ℕ) (entries : List (Option (Option ℕ))) (r : Row) → row_of_entries at entries ≡ Ok r → entries ≡ map (λ e. Some e) (entries_of r)
-row_of_entries-ok at (Some (Some gst) ∷ Some (Some delta) ∷ Some (Some phi) ∷ Some sent ∷ Some missed ∷ Some proc ∷ Some from ∷ Some to ∷ []) r h = go sent missed proc from to h where
-  made : (miss : Option Miss) (gap : Option Gap) (o : Result Row ReportError) → o ≡ Ok (record { gst = gst; delta = delta; phi = phi; miss = miss; gap = gap }) → o ≡ Ok r
-      → map (λ e. Some e) (entries_of (record { gst = gst; delta = delta; phi = phi; miss = miss; gap = gap })) ≡ map (λ e. Some e) (entries_of r)
-  made miss gap o a b = let same : record { gst = gst; delta = delta; phi = phi; miss = miss; gap = gap } ≡ r = cc (a, b) in ap (λ (y : Row). map (λ e. Some e) (entries_of y)) same
+row_of_entries-ok : (at : ℕ) (entries : List (Option (Option ℕ))) (r : Row)
+    → row_of_entries at entries ≡ Ok r → entries ≡ map (λ e. Some e) (entries_of r)
+row_of_entries-ok at (Some (Some gst) ∷ Some (Some delta) ∷ Some
+    (Some phi) ∷ Some sent ∷ Some missed ∷ Some proc ∷ Some from ∷ Some to ∷ []) r h = go sent missed proc from to h where
+      made : (miss : Option Miss) (gap : Option Gap) (o : Result Row ReportError)
+          → o ≡ Ok (record { gst = gst; delta = delta; phi = phi; miss = miss; gap = gap }) → o ≡ Ok r → map (λ e. Some e)
+          (entries_of (record { gst = gst; delta = delta; phi = phi; miss = miss; gap = gap })) ≡ map (λ e. Some e) (entries_of r)
+      made miss gap o a b = let same : record { gst = gst; delta = delta; phi = phi; miss = miss; gap = gap } ≡ r = cc (a, b) in
+          ap (λ (y : Row). map (λ e. Some e) (entries_of y)) same
 
-  go : (s m p x y : Option ℕ) → ok_or (with_witnesses gst delta phi (miss_of s m) (gap_of p x y)) (HalfWitness at) ≡ Ok r
-      → map (λ e. Some e) (Some gst ∷ Some delta ∷ Some phi ∷ s ∷ m ∷ p ∷ x ∷ y ∷ []) ≡ map (λ e. Some e) (entries_of r)
-  go None None None None None h = made None None _ refl h
-  go (Some s) (Some m) None None None h = made (Some (record { sent = s; missed = m })) None _ refl h
-  go None None (Some p) (Some x) (Some y) h = made None (Some (record { proc = p; from = x; to = y })) _ refl h
-  go (Some s) (Some m) (Some p) (Some x) (Some y) h = made (Some (record { sent = s; missed = m })) (Some (record { proc = p; from = x; to = y })) _ refl h
-  go _ _ _ _ _ h = cc h
+      go : (s m p x y : Option ℕ) → ok_or (with_witnesses gst delta phi (miss_of s m) (gap_of p x y)) (HalfWitness at) ≡ Ok r
+          → map (λ e. Some e) (Some gst ∷ Some delta ∷ Some phi ∷ s ∷ m ∷ p ∷ x ∷ y ∷ []) ≡ map (λ e. Some e) (entries_of r)
+      go None None None None None h = made None None _ refl h
+      go (Some s) (Some m) None None None h = made (Some (record { sent = s; missed = m })) None _ refl h
+      go None None (Some p) (Some x) (Some y) h = made None (Some (record { proc = p; from = x; to = y })) _ refl h
+      go (Some s) (Some m) (Some p) (Some x) (Some y) h =
+          made (Some (record { sent = s; missed = m })) (Some (record { proc = p; from = x; to = y })) _ refl h
+      go _ _ _ _ _ h = cc h
 row_of_entries-ok at _ r h = cc h
 
 -- and if none was made a field or a witness is to blame
-pub row_of_entries-refused : (at : ℕ) (entries : List (Option (Option ℕ))) (e : ReportError) → row_of_entries at entries ≡ Err e → (e ≡ BadNumber at) ⊎ (e ≡ HalfWitness at)
-row_of_entries-refused at (Some (Some gst) ∷ Some (Some delta) ∷ Some (Some phi) ∷ Some sent ∷ Some missed ∷ Some proc ∷ Some from ∷ Some to ∷ []) e h =
-    go (with_witnesses gst delta phi (miss_of sent missed) (gap_of proc from to)) h
+pub row_of_entries-refused : (at : ℕ) (entries : List (Option (Option ℕ))) (e : ReportError)
+    → row_of_entries at entries ≡ Err e → (e ≡ BadNumber at) ⊎ (e ≡ HalfWitness at)
+row_of_entries-refused at (Some (Some gst) ∷ Some (Some delta) ∷ Some (Some phi) ∷ Some sent ∷ Some missed
+    ∷ Some proc ∷ Some from ∷ Some to ∷ []) e h = go (with_witnesses gst delta phi (miss_of sent missed) (gap_of proc from to)) h
   where
     go : (o : Option Row) → ok_or o (HalfWitness at) ≡ Err e → (e ≡ BadNumber at) ⊎ (e ≡ HalfWitness at)
     go None h = inr (cc h)
@@ -106,11 +114,12 @@ row_of-ok at fields r h = go (length fields == COLUMNS) h where
 -- the rows that were taken after others are those whose records were read
 rows_after-ok : (taken : List Row) (rs : List (List (List ℕ))) (o : Option (List Row)) → after_records next_rows (Some taken) rs ≡ Ok o
     → (new : List Row) × (o ≡ Some (taken ++ new)) × (rs ≡ map row_record new)
-rows_after-ok taken [] o h = ([], let same : Some taken ≡ o = cc h in sym same ∙ ap (λ (t : List Row). Some t) (sym (append-nil taken)), refl)
+rows_after-ok taken [] o h =
+    ([], let same : Some taken ≡ o = cc h in sym same ∙ ap (λ (t : List Row). Some t) (sym (append-nil taken)), refl)
 rows_after-ok taken (r ∷ rs) o h = go (row_of (length taken + 1) r) refl (λ x. rows_after-ok (taken ++ x ∷ []) rs o) h where
-  go : (t : Result Row ReportError) → row_of (length taken + 1) r ≡ t
-      → ((x : Row) → after_records next_rows (Some (taken ++ x ∷ [])) rs ≡ Ok o → (new : List Row) × (o ≡ Some ((taken ++ x ∷ []) ++ new)) × (rs ≡ map row_record new))
-      → with_row taken t >>= (λ more. after_records next_rows more rs) ≡ Ok o → (new : List Row) × (o ≡ Some (taken ++ new)) × (r ∷ rs ≡ map row_record new)
+  go : (t : Result Row ReportError) → row_of (length taken + 1) r ≡ t → ((x : Row) → after_records next_rows (Some (taken ++ x ∷ [])) rs
+      ≡ Ok o → (new : List Row) × (o ≡ Some ((taken ++ x ∷ []) ++ new)) × (rs ≡ map row_record new)) → with_row taken t
+      >>= (λ more. after_records next_rows more rs) ≡ Ok o → (new : List Row) × (o ≡ Some (taken ++ new)) × (r ∷ rs ≡ map row_record new)
   go (Err e) k more h = cc h
   go (Ok x) k more h =
       let m = more x h in
@@ -126,7 +135,8 @@ header-same fields h = go (length fields == COLUMNS) h where
 pub rows_of_records-ok : (rs : List (List (List ℕ))) (rows : List Row) → rows_of_records rs ≡ Ok rows → rs ≡ report_records rows
 rows_of_records-ok [] rows h = cc h
 rows_of_records-ok (r ∷ rs) rows h = go (is_header r) refl h where
-  end : r ≡ report_header → (o : Result (Option (List Row)) ReportError) → after_records next_rows (Some []) rs ≡ o → o >>= rows_at_end ≡ Ok rows → r ∷ rs ≡ report_records rows
+  end : r ≡ report_header → (o : Result (Option (List Row)) ReportError)
+      → after_records next_rows (Some []) rs ≡ o → o >>= rows_at_end ≡ Ok rows → r ∷ rs ≡ report_records rows
   end e (Err f) k h = cc h
   end e (Ok None) k h = cc h
   end e (Ok (Some ys)) k h =
@@ -134,7 +144,8 @@ rows_of_records-ok (r ∷ rs) rows h = go (is_header r) refl h where
       let new : m.0 ≡ rows = sym (same_Some ys m.0 m.1) ∙ cc h in
       rw (e, m.2, new) refl
 
-  go : (t : Bool) → is_header r ≡ t → (cond t (Ok (Some [])) (Err BadHeader) >>= λ more. after_records next_rows more rs) >>= rows_at_end ≡ Ok rows → r ∷ rs ≡ report_records rows
+  go : (t : Bool) → is_header r ≡ t → (cond t (Ok (Some [])) (Err BadHeader) >>= λ more. after_records next_rows more rs) >>= rows_at_end
+      ≡ Ok rows → r ∷ rs ≡ report_records rows
   go true t h = end (header-same r t) (after_records next_rows (Some []) rs) refl h
   go false t h = cc h
 
@@ -142,11 +153,11 @@ rows_of_records-ok (r ∷ rs) rows h = go (is_header r) refl h where
 row_of-record : (at : ℕ) (r : Row) → IsRow64 r → row_of at (row_record r) ≡ Ok r
 row_of-record at r h = rw (entries-texts (entries_of r) h.numbers) (row_of_entries-entries at r)
 
-rows_after-records : (taken rows : List Row) → All IsRow64 rows → after_records next_rows (Some taken) (map row_record rows) ≡ Ok (Some (taken ++ rows))
+rows_after-records : (taken rows : List Row) → All IsRow64 rows
+    → after_records next_rows (Some taken) (map row_record rows) ≡ Ok (Some (taken ++ rows))
 rows_after-records taken [] h = ap (λ (t : List Row). Ok (Some t)) (sym (append-nil taken))
-rows_after-records taken (r ∷ rows) h =
-    rw (row_of-record (length taken + 1) r (All-head IsRow64 r rows h))
-    (rows_after-records (taken ++ r ∷ []) rows (All-tail IsRow64 r rows h) ∙ ap (λ (t : List Row). Ok (Some t)) (append_assoc taken (r ∷ []) rows))
+rows_after-records taken (r ∷ rows) h = rw (row_of-record (length taken + 1) r (All-head IsRow64 r rows h)) (rows_after-records
+    (taken ++ r ∷ []) rows (All-tail IsRow64 r rows h) ∙ ap (λ (t : List Row). Ok (Some t)) (append_assoc taken (r ∷ []) rows))
 
 -- the records of rows are read as these rows
 pub rows_of_records-records : (rows : List Row) → All IsRow64 rows → rows_of_records (report_records rows) ≡ Ok rows

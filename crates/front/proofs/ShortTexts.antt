@@ -24,7 +24,8 @@ use Rattle.step_trace.proofs.ListMembers.{Contains-head, Contains-rest, Contains
 bytes_of-short : (entries : List (Option ℕ)) → AreBelow (10 ^ 7) entries → bytes_of (map entry_text entries) ≤ 7 * length entries
 bytes_of-short [] short = omega arith
 bytes_of-short (None ∷ rest) short = let more = bytes_of-short rest short.1 in omega (arith, more)
-bytes_of-short (Some n ∷ rest) short = let one = short-decimal n short.0 in let more = bytes_of-short rest short.1 in omega (arith, one, more)
+bytes_of-short (Some n ∷ rest) short = let one = short-decimal n short.0 in
+    let more = bytes_of-short rest short.1 in omega (arith, one, more)
 
 member_high : (members p : ℕ) → IsTrue (has_proc members p) → p ≤ 64
 member_high members p m =
@@ -64,7 +65,8 @@ short-gap members trace g f (Some w) sound named =
       short = (omega (arith, proc), (omega (arith, limit, order, inside), (omega (arith, limit, inside), tt)));
     }
 
-length-row_line : (members : ℕ) (trace : Recorded) (r : Row) → IsTrace trace → IsReportRow members trace r → length (record_line (row_record r)) ≤ 65
+length-row_line : (members : ℕ) (trace : Recorded) (r : Row)
+    → IsTrace trace → IsReportRow members trace r → length (record_line (row_record r)) ≤ 65
 length-row_line members trace r sound row =
     let limit : trace.last ≤ 1000000 = sound.time.end in
     let miss = short-miss members trace r.gst r.delta r.miss sound row.miss in
@@ -75,7 +77,8 @@ length-row_line members trace r sound row =
     let line = length-line (row_record r) in
     omega (arith, line, bytes)
 
-length-lines : (rows : List Row) → ((r : Row) → Contains rows r → length (record_line (row_record r)) ≤ 65) → length (text_of_records (map row_record rows)) ≤ 65 * length rows
+length-lines : (rows : List Row) → ((r : Row) → Contains rows r → length (record_line (row_record r)) ≤ 65)
+    → length (text_of_records (map row_record rows)) ≤ 65 * length rows
 length-lines [] short = omega arith
 length-lines (r ∷ rows) short =
     let line = short r (Contains-head r rows) in
@@ -107,7 +110,8 @@ length-rows members trace (r ∷ rest) report =
     omega (arith, above, last)
 
 -- the text of a report is shorter than 64 MiB
-pub short-report_text : (members : ℕ) (trace : Recorded) (rows : List Row) → IsTrace trace → IsReport members trace rows → length (report_text rows) < 67108864
+pub short-report_text : (members : ℕ) (trace : Recorded) (rows : List Row)
+    → IsTrace trace → IsReport members trace rows → length (report_text rows) < 67108864
 short-report_text members trace rows sound report =
     let limit : trace.last ≤ 1000000 = sound.time.end in
     let lines = length-lines rows (λ r c. length-row_line members trace r sound (report.sound r c)) in

@@ -24,7 +24,8 @@ named_miss-reaches set trace h g d m later more holds least named = elim (cases_
               | inr very_late ↦ absurd (undelivered ((holds.each s (omega arith)).on_time r b message receive very_late))
               | inl r_below ↦ (
                   let at_most : tick_of trace s ≤ tick_of trace m.sent = named.latest (record { sent = s; missed = r })
-                  (record { to = b; message = message; receive = receive; late = omega arith; undelivered = undelivered }) (omega arith) (omega arith) in
+                  (record { to = b; message = message; receive = receive; late = omega arith; undelivered = undelivered })
+                  (omega arith) (omega arith) in
                   absurd (omega arith))
             ]
           ];
@@ -45,7 +46,13 @@ named_gap-reaches set trace h g f w start later more least named = elim (cases_l
           | inl stepped ↦ stepped
           | inr silent ↦ (
               let at_most : x ≤ w.from = named.greatest (record { proc = p; from = x; to = x + (f - 2) })
-              (record { member = member; start = omega arith; order = omega arith; inside = omega arith; silent = λ z low high step. silent (record { tick = z; from = low; until = omega arith; step = step }) })
+              (record {
+                member = member;
+                start = omega arith;
+                order = omega arith;
+                inside = omega arith;
+                silent = λ z low high step. silent (record { tick = z; from = low; until = omega arith; step = step });
+              })
               (omega arith) (omega arith) in
               absurd (omega arith))
         ];

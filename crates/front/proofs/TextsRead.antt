@@ -17,7 +17,8 @@ plain-entries (Some n ∷ rest) h = (IsPlain-decimal n h.0, plain-entries rest h
 
 lines-rows : (rows : List Row) → All IsRow64 rows → AreLines (map row_record rows)
 lines-rows [] h = tt
-lines-rows (r ∷ rows) h = (omega arith, plain-entries (entries_of r) (All-head IsRow64 r rows h).numbers, lines-rows rows (All-tail IsRow64 r rows h))
+lines-rows (r ∷ rows) h =
+    (omega arith, plain-entries (entries_of r) (All-head IsRow64 r rows h).numbers, lines-rows rows (All-tail IsRow64 r rows h))
 
 lines-report : (rows : List Row) → All IsRow64 rows → AreLines (report_records rows)
 lines-report rows h = (omega arith, (refl, (refl, (refl, (refl, (refl, (refl, (refl, (refl, tt)))))))), lines-rows rows h)
@@ -31,5 +32,6 @@ pub StandsFor-report_text : (rows : List Row) → All IsRow64 rows → StandsFor
 StandsFor-report_text rows h = lines-read (report_records rows) (lines-report rows h) (no-mark rows)
 
 -- one more entry
-pub entries_more : (entries : List (Option ℕ)) (k : ℕ) → k < length entries → map entry_text (take (k + 1) entries) ≡ map entry_text (take k entries) ++ entry_text (get_or entries k None) ∷ []
+pub entries_more : (entries : List (Option ℕ)) (k : ℕ) → k < length entries
+    → map entry_text (take (k + 1) entries) ≡ map entry_text (take k entries) ++ entry_text (get_or entries k None) ∷ []
 entries_more entries k inside = map_more entry_text entries k None inside

@@ -42,12 +42,14 @@ AreReceivers-more steps p q n old new sends added others known x = elim (cases_e
   )
   | inr other ↦ (
     λ has. later steps p x n ((known x).0 (subst (λ (b : Bool). IsTrue b) (others x other) has)),
-    λ before. subst (λ (b : Bool). IsTrue b) (sym (others x other)) ((known x).1 (before_next steps p x n (λ too. other (same_receiver steps p x q n too sends)) before)),
+    λ before. subst (λ (b : Bool). IsTrue b) (sym (others x other))
+        ((known x).1 (before_next steps p x n (λ too. other (same_receiver steps p x q n too sends)) before)),
   )
 ]
 
 -- a step that is no Send of p
-pub AreReceivers-same : (steps : List Step) (p n set : ℕ) → ((q : ℕ) → ¬ IsFrom steps p q n) → AreReceivers steps p n set → AreReceivers steps p (n + 1) set
+pub AreReceivers-same : (steps : List Step) (p n set : ℕ)
+    → ((q : ℕ) → ¬ IsFrom steps p q n) → AreReceivers steps p n set → AreReceivers steps p (n + 1) set
 AreReceivers-same steps p n set none known x = (
   λ has. later steps p x n ((known x).0 has),
   λ before. (known x).1 (before_next steps p x n (none x) before),
@@ -57,15 +59,16 @@ AreReceivers-same steps p n set none known x = (
 pub members_to-member : (set n q : ℕ) → Contains (members_to set n) q → IsTrue (has_proc set q) × (1 ≤ q) × (q ≤ n)
 unfolding members_to
 members_to-member set zero q among = absurd (Contains-nil q among)
-members_to-member set (suc n) q among = go (has_proc set (suc n)) refl (λ before. members_to-member set n q before) (Contains-append_cases (members_to set n) _ q among) where
-  go : (b : Bool) → has_proc set (suc n) ≡ b → (Contains (members_to set n) q → IsTrue (has_proc set q) × (1 ≤ q) × (q ≤ n)) → (Contains (members_to set n) q) ⊎ (Contains (cond b (suc n ∷ []) []) q)
-      → IsTrue (has_proc set q) × (1 ≤ q) × (q ≤ suc n)
-  go b e earlier (inl before) = let m = earlier before in (m.0, m.1, omega (arith, m.2))
-  go true e earlier (inr last) = elim (Contains-cons_cases (suc n) q [] last) [
-    | inl same ↦ (subst (λ (z : ℕ). IsTrue (has_proc set z)) same e, omega (arith, same), omega (arith, same))
-    | inr none ↦ absurd (Contains-nil q none)
-  ]
-  go false e earlier (inr none) = absurd (Contains-nil q none)
+members_to-member set (suc n) q among = go (has_proc set (suc n)) refl
+    (λ before. members_to-member set n q before) (Contains-append_cases (members_to set n) _ q among) where
+      go : (b : Bool) → has_proc set (suc n) ≡ b → (Contains (members_to set n) q → IsTrue (has_proc set q) × (1 ≤ q) × (q ≤ n))
+          → (Contains (members_to set n) q) ⊎ (Contains (cond b (suc n ∷ []) []) q) → IsTrue (has_proc set q) × (1 ≤ q) × (q ≤ suc n)
+      go b e earlier (inl before) = let m = earlier before in (m.0, m.1, omega (arith, m.2))
+      go true e earlier (inr last) = elim (Contains-cons_cases (suc n) q [] last) [
+        | inl same ↦ (subst (λ (z : ℕ). IsTrue (has_proc set z)) same e, omega (arith, same), omega (arith, same))
+        | inr none ↦ absurd (Contains-nil q none)
+      ]
+      go false e earlier (inr none) = absurd (Contains-nil q none)
 
 -- the members up to p, if p is one, or isn't
 pub members_to-next : (set p : ℕ) → 1 ≤ p → has_proc set p ≡ true → members_to set p ≡ members_to set (p - 1) ++ p ∷ []
@@ -87,7 +90,8 @@ pub All-contained : (P : ℕ → Type 0) (xs : List ℕ) → ((x : ℕ) → Cont
 All-contained P xs h k d l = h (get_or xs k d) (k, l, get_or_default xs k (get_or xs k d) d l)
 
 -- where a step sends to is a processor
-pub destination : (c : Setup) (steps : List Step) (n : ℕ) (x : Step) (to : ℕ) → IsWellFormed c steps → step_at steps n ≡ Some x → x.act ≡ Send to → IsProc c to
+pub destination : (c : Setup) (steps : List Step) (n : ℕ) (x : Step) (to : ℕ)
+    → IsWellFormed c steps → step_at steps n ≡ Some x → x.act ≡ Send to → IsProc c to
 destination c steps n x to w at act = subst (λ (a : Act). IfSome (act_dest a) (IsProc c)) act (w.dests n x at)
 
 -- what is sent at all is sent before the number after the last

@@ -19,7 +19,8 @@ AreFollowed-more trace p given at followers i old f inside is here known = recor
       ∙ sym (take_more followers i 0 inside);
   each = λ g among. elim (Contains-append_cases old (f ∷ []) g among) [
     | inl before ↦ known.each g before
-    | inr last ↦ elim (Contains-cons_cases f g [] last) [ inl same ↦ subst (IsFollowed trace p given at) same here | inr none ↦ absurd (Contains-nil g none) ]
+    | inr last ↦ elim (Contains-cons_cases f g [] last)
+        [ inl same ↦ subst (IsFollowed trace p given at) same here | inr none ↦ absurd (Contains-nil g none) ]
   ];
 }
 

@@ -20,7 +20,11 @@ plain-numbers (n ∷ ns) h = (IsPlain-decimal n (All-head (λ n. n < 2 ^ 64) n n
 
 lines-timeouts : (q : ℕ) (ts : List Timeout) → All (λ t. AreSmall (numbers_of q t)) ts → AreLines (map (timeout_record q) ts)
 lines-timeouts q [] h = tt
-lines-timeouts q (t ∷ ts) h = (omega arith, plain-numbers (numbers_of q t) (All-head (λ t. AreSmall (numbers_of q t)) t ts h), lines-timeouts q ts (All-tail (λ t. AreSmall (numbers_of q t)) t ts h))
+lines-timeouts q (t ∷ ts) h = (
+  omega arith,
+  plain-numbers (numbers_of q t) (All-head (λ t. AreSmall (numbers_of q t)) t ts h),
+  lines-timeouts q ts (All-tail (λ t. AreSmall (numbers_of q t)) t ts h),
+)
 
 lines-followers : (all : List FollowerTimeouts) → All AreOf64 all → AreLines (flat_map follower_records all)
 lines-followers [] h = tt
@@ -34,14 +38,18 @@ no-mark all = refl
 
 -- the text of timeouts encodes them
 pub StandsFor-timeouts_text : (all : List FollowerTimeouts) → All AreOf64 all → StandsFor (timeouts_text all) all
-StandsFor-timeouts_text all h = lines-read (timeouts_records all) (omega arith, (refl, (refl, (refl, (refl, (refl, (refl, (refl, (refl, (refl, (refl, (refl, tt))))))))))), lines-followers all h) (no-mark all)
+StandsFor-timeouts_text all h = lines-read (timeouts_records all)
+    (omega arith, (refl, (refl, (refl, (refl, (refl, (refl, (refl, (refl, (refl, (refl, (refl, tt))))))))))), lines-followers all h)
+    (no-mark all)
 
 -- one more number
-pub numbers_more : (ns : List ℕ) (k : ℕ) → k < length ns → map decimal (take (k + 1) ns) ≡ map decimal (take k ns) ++ decimal (get_or ns k 0) ∷ []
+pub numbers_more : (ns : List ℕ) (k : ℕ) → k < length ns
+    → map decimal (take (k + 1) ns) ≡ map decimal (take k ns) ++ decimal (get_or ns k 0) ∷ []
 numbers_more ns k inside = map_more decimal ns k 0 inside
 
 -- one follower more
-pub timeouts_text-more : (all : List FollowerTimeouts) (f : FollowerTimeouts) → timeouts_text (all ++ f ∷ []) ≡ timeouts_text all ++ text_of_records (follower_records f)
+pub timeouts_text-more : (all : List FollowerTimeouts) (f : FollowerTimeouts)
+    → timeouts_text (all ++ f ∷ []) ≡ timeouts_text all ++ text_of_records (follower_records f)
 timeouts_text-more all f =
     ap (flat_map record_line) (ap (λ (rs : List (List (List ℕ))). timeouts_header ∷ rs)
     (flat_map-append follower_records all (f ∷ [])

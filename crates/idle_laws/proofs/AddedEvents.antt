@@ -8,7 +8,8 @@ use Rattle.idle_laws.proofs.Common.{Event, IdleTick, AreReceives, IsIdleReceive,
 abbrev pub poll_of : ℕ → ℕ → IdleTick
 poll_of p y = record { processor = p; tick = y }
 
-module _ (events added : List Event) (ticks : List ℕ) (polls : List IdleTick) (long : length ticks ≡ length events) (r : AreReceives polls added) where
+module _ (events added : List Event) (ticks : List ℕ)
+    (polls : List IdleTick) (long : length ticks ≡ length events) (r : AreReceives polls added) where
   abbrev all : List Event
   all = events ++ added
 

@@ -53,7 +53,8 @@ pub record IsTakenBy (events : List Event) (ticks : List ℕ) (i y : ℕ) : Type
 
 -- the communication bound d holds from tick g of the events and of receives of nothing in these ticks
 pub record DeltaOfEvents (set : ℕ) (events : List Event) (ticks : List ℕ) (polls : List IdleTick) (g d : ℕ) : Type 0 where
-  pub each : (i b y : ℕ) → IsSending set events i b → g ≤ slice_index ticks i → Looks events ticks polls b y → slice_index ticks i + d ≤ y → IsTakenBy events ticks i y
+  pub each : (i b y : ℕ) → IsSending set events i b
+      → g ≤ slice_index ticks i → Looks events ticks polls b y → slice_index ticks i + d ≤ y → IsTakenBy events ticks i y
 
 -- p has a step in tick y: an event, or a receive of nothing
 abbrev pub Acts : List Event → List ℕ → List IdleTick → ℕ → ℕ → Type 0
@@ -73,11 +74,13 @@ received-by numbers (Send to) ends ids h = absurd (let e = ap act_dest h in cc)
 received-by numbers (Receive messages) ends ids h = tt
 
 -- and an event of its act
-receive-does : (numbers : List ℕ) (e : EventAct) (a : Act) → IsReceive e → IsActOf numbers e a → (ends : Bool) × (ids : List ℕ) × (a ≡ act.Receive ends ids)
+receive-does : (numbers : List ℕ) (e : EventAct) (a : Act)
+    → IsReceive e → IsActOf numbers e a → (ends : Bool) × (ids : List ℕ) × (a ≡ act.Receive ends ids)
 receive-does numbers (Send to) a r h = absurd r
 receive-does numbers (Receive messages) a r h = (Bool.false, h.0, h.1)
 
-ids-of : (numbers : List ℕ) (e : EventAct) (a : Act) (s : ℕ) → IsActOf numbers e a → Contains (map (sent_number numbers) (received_in e)) s → Contains (act_ids a) s
+ids-of : (numbers : List ℕ) (e : EventAct) (a : Act) (s : ℕ)
+    → IsActOf numbers e a → Contains (map (sent_number numbers) (received_in e)) s → Contains (act_ids a) s
 ids-of numbers (Send to) a s h c = absurd (Contains-nil s c)
 ids-of numbers (Receive messages) a s h c = subst (λ b. Contains (act_ids b) s) (sym h.1) (Contains-permutation _ _ s h.2.each c)
 
@@ -127,7 +130,8 @@ module _ (n : ℕ) (events added : List Event) (ticks : List ℕ) (last : ℕ) (
   abbrev all_ticks : List ℕ
   all_ticks = ticks ++ ticks_of polls
 
-  step-cases : (k : ℕ) (x : Step) → step_at trace.steps k ≡ Some x → OldStep events ticks t.numbers trace k x ⊎ NewStep t.numbers polls trace k x
+  step-cases : (k : ℕ) (x : Step) → step_at trace.steps k ≡ Some x
+      → OldStep events ticks t.numbers trace k x ⊎ NewStep t.numbers polls trace k x
   step-cases k x e = go (event-of n all all_ticks last trace t k x e) where
     old : (f : EventOf all all_ticks t.numbers trace k x) → f.place < length events → OldStep events ticks t.numbers trace k x
     old f l = record {
@@ -150,7 +154,8 @@ module _ (n : ℕ) (events added : List Event) (ticks : List ℕ) (last : ℕ) (
         let w = received-at polls added j d r within in
         let same = same_Some w.0 f.is.event (sym w.1 ∙ sym (get-right events added f.place j at) ∙ f.is.at) in
         let proc : (get_or polls j d).processor ≡ x.proc = sym w.2.own ∙ ap (λ (v : Event). v.processor) same ∙ sym f.is.proc in
-        let tick : (get_or polls j d).tick ≡ tick_of trace k = sym (new-tick events added ticks polls long r f.place j d at within) ∙ sym f.tick in
+        let tick : (get_or polls j d).tick ≡ tick_of trace k = sym (new-tick events added ticks polls long r f.place j d at within)
+        ∙ sym f.tick in
         record {
           act = f.is.event.act;
           nothing = subst (λ (v : Event). IsOfNothing v.act) same w.2.act;
@@ -200,7 +205,8 @@ module _ (n : ℕ) (events added : List Event) (ticks : List ℕ) (last : ℕ) (
   -- the steps of the trace
   pub acts-in : (y p : ℕ) → StepsIn trace y p → Acts events ticks polls p y
   acts-in y p s = go (step-cases s.place (record { proc = p; act = s.step.0 }) s.step.1) where
-    go : OldStep events ticks t.numbers trace s.place (record { proc = p; act = s.step.0 }) ⊎ NewStep t.numbers polls trace s.place (record { proc = p; act = s.step.0 }) → Acts events ticks polls p y
+    go : OldStep events ticks t.numbers trace s.place (record { proc = p; act = s.step.0 })
+        ⊎ NewStep t.numbers polls trace s.place (record { proc = p; act = s.step.0 }) → Acts events ticks polls p y
     go (inl o) = inl (record {
       place = o.place;
       inside = slice_get_within events o.place o.event o.at;
@@ -237,7 +243,8 @@ module _ (n : ℕ) (events added : List Event) (ticks : List ℕ) (last : ℕ) (
         receiver = s.receiver;
       }
 
-  sending : (set s b : ℕ) → (m : IsMessage set trace.steps s b) → (i : ℕ) × IsSending set events i b × (slice_index t.numbers i ≡ s) × (tick_of trace s ≡ slice_index ticks i)
+  sending : (set s b : ℕ) → (m : IsMessage set trace.steps s b)
+      → (i : ℕ) × IsSending set events i b × (slice_index t.numbers i ≡ s) × (tick_of trace s ≡ slice_index ticks i)
   sending set s b m = go (step-cases s (record { proc = m.from; act = act.Send b }) m.sent) where
     go : OldStep events ticks t.numbers trace s (record { proc = m.from; act = act.Send b })
         ⊎ NewStep t.numbers polls trace s (record { proc = m.from; act = act.Send b })
@@ -257,13 +264,23 @@ module _ (n : ℕ) (events added : List Event) (ticks : List ℕ) (last : ℕ) (
     go (inr w) = absurd (subst IsOfNothing (sent-by t.numbers w.act b w.does) w.nothing)
 
   -- the Receives of the trace
-  receive-step : (i y p : ℕ) (e : Event) → IsReceive e.act → e.processor ≡ p → StepAt t.numbers trace i e y → (k : ℕ) × IsReceiveOf trace.steps k p × (tick_of trace k ≡ y)
+  receive-step : (i y p : ℕ) (e : Event) → IsReceive e.act
+      → e.processor ≡ p → StepAt t.numbers trace i e y → (k : ℕ) × IsReceiveOf trace.steps k p × (tick_of trace k ≡ y)
   receive-step i y p e h own f =
-      let does = receive-does t.numbers e.act f.step.act h f.does in
-      (slice_index t.numbers i, record { ids = does.1; ends = does.0; step = f.at ∙ step-is f.step p (act.Receive does.0 does.1) (f.proc ∙ own) does.2 }, f.tick_is)
+      let does = receive-does t.numbers e.act f.step.act h f.does in (
+        slice_index t.numbers i,
+        record {
+          ids = does.1;
+          ends = does.0;
+          step = f.at
+              ∙ step-is f.step p (act.Receive does.0 does.1) (f.proc ∙ own) does.2;
+        },
+        f.tick_is,
+      )
 
   receive-of : (p y : ℕ) → Looks events ticks polls p y → (k : ℕ) × IsReceiveOf trace.steps k p × (tick_of trace k ≡ y)
-  receive-of p y (inl h) = receive-step h.place y p h.event h.act h.own (subst (StepAt t.numbers trace h.place h.event) h.tick (old-step h.place h.event h.at))
+  receive-of p y (inl h) = receive-step h.place y p h.event h.act h.own
+      (subst (StepAt t.numbers trace h.place h.event) h.tick (old-step h.place h.event h.at))
   receive-of p y (inr c) =
       let f = new-step p y c in
       receive-step f.place y p f.event (nothing-is_receive f.event.act f.nothing) f.own f.step_of
@@ -284,7 +301,8 @@ module _ (n : ℕ) (events added : List Event) (ticks : List ℕ) (last : ℕ) (
     go (inr w) = inr w.poll
 
   -- what is delivered in the trace is taken by an event
-  names : (i : ℕ) (ms : List (Option ℕ)) → i < length events → Contains (map (sent_number t.numbers) ms) (slice_index t.numbers i) → Contains ms (Some i)
+  names : (i : ℕ) (ms : List (Option ℕ)) → i < length events
+      → Contains (map (sent_number t.numbers) ms) (slice_index t.numbers i) → Contains ms (Some i)
   names i ms l c = let f = Contains-from_map (sent_number t.numbers) ms (slice_index t.numbers i) c in go f.0 f.1 f.2 where
     inside : i < length all
     inside = let m = long-all events added ticks polls long r in omega arith
@@ -293,11 +311,14 @@ module _ (n : ℕ) (events added : List Event) (ticks : List ℕ) (last : ℕ) (
     go None h e = absurd (let p = (place-in n all all_ticks last trace t i inside).3 in omega arith)
     go (Some q) h e = subst (λ z. Contains ms (Some z)) (one-number n all all_ticks last trace t i q inside e) h
 
-  taken-by : (i y : ℕ) → i < length events → IsDelivered trace (slice_index t.numbers i) y → tick_of trace (slice_index t.numbers i) ≡ slice_index ticks i → IsTakenBy events ticks i y
+  taken-by : (i y : ℕ) → i < length events → IsDelivered trace (slice_index t.numbers i) y
+      → tick_of trace (slice_index t.numbers i) ≡ slice_index ticks i → IsTakenBy events ticks i y
   taken-by i y l d e = go (step-cases d.place d.takes.0 d.takes.1) where
-    go : OldStep events ticks t.numbers trace d.place d.takes.0 ⊎ NewStep t.numbers polls trace d.place d.takes.0 → IsTakenBy events ticks i y
+    go : OldStep events ticks t.numbers trace d.place d.takes.0 ⊎ NewStep t.numbers polls trace d.place d.takes.0
+        → IsTakenBy events ticks i y
     go (inl o) =
-        let ms = names i (received_in o.event.act) l (ids-from t.numbers o.event.act d.takes.0.act (slice_index t.numbers i) o.does d.takes.2) in
+        let ms = names i (received_in o.event.act) l
+        (ids-from t.numbers o.event.act d.takes.0.act (slice_index t.numbers i) o.does d.takes.2) in
         record {
           place = o.place;
           inside = slice_get_within events o.place o.event o.at;
@@ -307,15 +328,18 @@ module _ (n : ℕ) (events added : List Event) (ticks : List ℕ) (last : ℕ) (
         }
     go (inr w) =
         let c = ids-from t.numbers w.act d.takes.0.act (slice_index t.numbers i) w.does d.takes.2 in
-        absurd (Contains-nil (slice_index t.numbers i) (subst (λ ms. Contains (map (sent_number t.numbers) ms) (slice_index t.numbers i)) (nothing-received w.act w.nothing) c))
+        absurd (Contains-nil (slice_index t.numbers i)
+        (subst (λ ms. Contains (map (sent_number t.numbers) ms) (slice_index t.numbers i)) (nothing-received w.act w.nothing) c))
 
-  delivered-by : (i y : ℕ) (e : Event) → slice_get events i ≡ Some e → IsTakenBy events ticks i y → IsDelivered trace (slice_index t.numbers i) y
+  delivered-by : (i y : ℕ) (e : Event) → slice_get events i ≡ Some e
+      → IsTakenBy events ticks i y → IsDelivered trace (slice_index t.numbers i) y
   delivered-by i y e at h =
       let x = event-at events h.place h.inside in
       let f = old-step h.place x.0 x.1 in
       let s = old-step i e at in
       let ms = subst (λ xs. Contains xs (Some i)) (ap (λ v. option_map_or (λ (z : Event). received_in z.act) v []) x.1) h.takes in
-      let ids = ids-of t.numbers x.0.act f.step.act (slice_index t.numbers i) f.does (Contains-map (sent_number t.numbers) (received_in x.0.act) (Some i) ms) in
+      let ids = ids-of t.numbers x.0.act f.step.act
+      (slice_index t.numbers i) f.does (Contains-map (sent_number t.numbers) (received_in x.0.act) (Some i) ms) in
       record {
         place = slice_index t.numbers h.place;
         after = omega (arith, s.tick_is, f.tick_is, h.after);

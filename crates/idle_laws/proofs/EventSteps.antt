@@ -37,7 +37,8 @@ module _ (n : ℕ) (events : List Event) (ticks : List ℕ) (last : ℕ) (trace 
       }
 
   -- where an event is in the order
-  pub place-in : (p : ℕ) → p < length events → (j : ℕ) × (j < length t.order) × (slice_index t.order j ≡ p) × (slice_index t.numbers p ≡ suc j)
+  pub place-in : (p : ℕ) → p < length events → (j : ℕ)
+      × (j < length t.order) × (slice_index t.order j ≡ p) × (slice_index t.numbers p ≡ suc j)
   place-in p l =
       let c = place-found (length events) t.order p t.ordered.places l in
       let number = t.numbered.each c.0 c.1 in
@@ -51,7 +52,8 @@ module _ (n : ℕ) (events : List Event) (ticks : List ℕ) (last : ℕ) (trace 
         step = z.0;
         at = ap (step_at trace.steps) c.3 ∙ z.1;
         is = subst (λ q. IsStepAt events t.numbers q z.0) c.2 z.2;
-        tick = ap (tick_of trace) c.3 ∙ ap (λ ts. get_or ts c.0 0) t.has.timed ∙ get_or-map (slice_index ticks) t.order c.0 0 0 c.1 ∙ ap (slice_index ticks) c.2;
+        tick = ap (tick_of trace) c.3 ∙ ap (λ ts. get_or ts c.0 0) t.has.timed
+            ∙ get_or-map (slice_index ticks) t.order c.0 0 0 c.1 ∙ ap (slice_index ticks) c.2;
       }
 
   -- only an event has its number

@@ -43,20 +43,26 @@ module _ (n : ℕ) (events added : List Event) (ticks : List ℕ) (last limit : 
   nobody = record { processor = 0; tick = 0 }
 
   old-moment : (i : ℕ) → i < length events → moment_at all all_ticks i ≡ moment_at events ticks i
-  old-moment i l = ap₂ moment_of (old-tick events added ticks a.polls long r i l) (ap (λ v. option_map_or (λ (e : Event). e.processor) v 0) (get-left events added i l))
+  old-moment i l = ap₂ moment_of (old-tick events added ticks a.polls long r i l)
+      (ap (λ v. option_map_or (λ (e : Event). e.processor) v 0) (get-left events added i l))
 
-  new-moment : (i j : ℕ) → i ≡ length events + j → j < length a.polls → moment_at all all_ticks i ≡ moment_of (get_or a.polls j nobody).tick (get_or a.polls j nobody).processor
+  new-moment : (i j : ℕ) → i ≡ length events + j → j < length a.polls
+      → moment_at all all_ticks i ≡ moment_of (get_or a.polls j nobody).tick (get_or a.polls j nobody).processor
   new-moment i j e l =
       let w = received-at a.polls added j nobody r l in
-      ap₂ moment_of (new-tick events added ticks a.polls long r i j nobody e l) (ap (λ v. option_map_or (λ (x : Event). x.processor) v 0) (get-right events added i j e ∙ w.1) ∙ w.2.own)
+      ap₂ moment_of (new-tick events added ticks a.polls long r i j nobody e l)
+      (ap (λ v. option_map_or (λ (x : Event). x.processor) v 0) (get-right events added i j e ∙ w.1) ∙ w.2.own)
 
   -- an event isn't at the moment of a receive of nothing
-  old-new : (i j : ℕ) → i < length events → j < length a.polls → ¬ (moment_at events ticks i ≡ moment_of (get_or a.polls j nobody).tick (get_or a.polls j nobody).processor)
+  old-new : (i j : ℕ) → i < length events → j < length a.polls
+      → ¬ (moment_at events ticks i ≡ moment_of (get_or a.polls j nobody).tick (get_or a.polls j nobody).processor)
   old-new i j l m e =
       let s = a.silent.each j nobody m in
       let upto = s.most in
-      let parts = moment-parts (slice_index ticks i) (get_or a.polls j nobody).tick (processor_at events i) (get_or a.polls j nobody).processor (o i l) (s.least, omega arith) e in
-      s.inside.is.silence.silent (get_or a.polls j nobody).tick s.inside.after s.inside.until (record { place = i; inside = l; own = parts.1; at = parts.0 })
+      let parts = moment-parts (slice_index ticks i)
+      (get_or a.polls j nobody).tick (processor_at events i) (get_or a.polls j nobody).processor (o i l) (s.least, omega arith) e in
+      s.inside.is.silence.silent (get_or a.polls j nobody).tick s.inside.after s.inside.until
+      (record { place = i; inside = l; own = parts.1; at = parts.0 })
 
   all-apart : HaveOwnMoments all all_ticks
   all-apart j i l m e = go (cases_lt i (length events)) (cases_lt j (length events)) where
@@ -73,7 +79,8 @@ module _ (n : ℕ) (events added : List Event) (ticks : List ℕ) (last limit : 
         let c = many in
         let h = j - length events in
         let k = i - length events in
-        a.apart h k nobody (omega arith) (omega arith) (sym (new-moment j h (omega arith) (omega arith)) ∙ e ∙ new-moment i k (omega arith) (omega arith))
+        a.apart h k nobody (omega arith) (omega arith)
+        (sym (new-moment j h (omega arith) (omega arith)) ∙ e ∙ new-moment i k (omega arith) (omega arith))
 
 module _ (nothing : EventAct) (is : IsOfNothing nothing) where
   abbrev receive_in : IdleTick → Event
@@ -83,18 +90,21 @@ module _ (nothing : EventAct) (is : IsOfNothing nothing) where
   receives [] = tt
   receives (x ∷ polls) = (record { own = refl; act = is }, receives polls)
 
-  pub full : (log : Log) (limit : ℕ) (sparse : Recorded) → log.n ≤ MAX_PROCESSORS → AreMeant log.events log.n → IsSparse log limit sparse → (full : Recorded) × IsFull log limit full
+  pub full : (log : Log) (limit : ℕ) (sparse : Recorded)
+      → log.n ≤ MAX_PROCESSORS → AreMeant log.events log.n → IsSparse log limit sparse → (full : Recorded) × IsFull log limit full
   full log limit sparse few meant s =
       let ticks = s.is.ticks in
       let last = last_of log.events log.clock ticks in
       let long = ticks-long log.spread log.events log.clock ticks s.is.are in
       let o = meant-processors log.n log.events few meant in
       let own = events-apart log.spread log.events log.clock ticks o s.is.passed s.is.are in
-      let within : (i : ℕ) → i < length log.events → slice_index ticks i ≤ last = (λ i l. greatest-each (last_tick log.events log.clock) ticks i (omega arith)) in
+      let within : (i : ℕ) → i < length log.events
+      → slice_index ticks i ≤ last = (λ i l. greatest-each (last_tick log.events log.clock) ticks i (omega arith)) in
       let a = all-silent log.n log.events ticks last limit within few in
       let added = map receive_in a.polls in
       let r = receives a.polls in
-      let m = made log.n (log.events ++ added) (ticks ++ ticks_of a.polls) last (all-apart log.n log.events added ticks last limit within few o own long a r) in (
+      let m = made log.n (log.events ++ added) (ticks ++ ticks_of a.polls) last
+      (all-apart log.n log.events added ticks last limit within few o own long a r) in (
         m.0,
         record {
           passed = s.is.passed;

@@ -16,15 +16,21 @@ phi-greater set trace g e f l h = record {
 }
 
 -- The bounds P imply the bounds Q, and as of a limit they hold alike; each bound Q implies the greater ones.
-module _ (P Q : ℕ → Type 0) (limit : ℕ) (to : (e : ℕ) → P e → Q e) (from : (e : ℕ) → limit ≤ e → Q e → P e) (greater : (e f : ℕ) → e ≤ f → Q e → Q f) where
+module _ (P Q : ℕ → Type 0) (limit : ℕ) (to : (e : ℕ) → P e → Q e)
+    (from : (e : ℕ) → limit ≤ e → Q e → P e) (greater : (e f : ℕ) → e ≤ f → Q e → Q f) where
   pub least-above : (f : ℕ) → limit < f → IsLeastBound P f → IsLeastBound Q f
   least-above f far h = record { positive = h.positive; holds = to f h.holds; least = λ e one q. go e one q (cases_lt e limit) } where
     go : (e : ℕ) → 1 ≤ e → Q e → (e < limit) ⊎ (limit ≤ e) → f ≤ e
-    go e one q (inl below) = let l = h.least limit (omega arith) (from limit (omega arith) (greater e limit (omega arith) q)) in absurd (omega arith)
+    go e one q (inl below) = let l = h.least limit (omega arith) (from limit (omega arith) (greater e limit (omega arith) q)) in
+        absurd (omega arith)
     go e one q (inr above) = h.least e one (from e above q)
 
   pub least-back : (f : ℕ) → limit < f → IsLeastBound Q f → IsLeastBound P f
   least-back f far h = record { positive = h.positive; holds = from f (omega arith) h.holds; least = λ e one p. h.least e one (to e p) }
 
   pub least-between : (f e : ℕ) → IsLeastBound P f → IsLeastBound Q e → (e ≤ f) × (f ≤ max e limit)
-  least-between f e h q = (q.least f h.positive (to f h.holds), h.least (max e limit) (let o = q.positive in omega arith) (from (max e limit) (omega arith) (greater e (max e limit) (omega arith) q.holds)))
+  least-between f e h q = (
+    q.least f h.positive (to f h.holds),
+    h.least (max e limit) (let o = q.positive in omega arith)
+        (from (max e limit) (omega arith) (greater e (max e limit) (omega arith) q.holds)),
+  )

@@ -17,7 +17,8 @@ act-of numbers (Receive messages) =
     let r = sorted (λ x. x) (map (sent_number numbers) messages) in
     (act.Receive false r.0, (r.0, refl, record { each = r.1; rising = r.2 }))
 
-steps-at : (events : List Event) (numbers places : List ℕ) → ((k : ℕ) → k < length places → slice_index places k < length events) → (steps : List Step) × AllZip (IsStepAt events numbers) places steps
+steps-at : (events : List Event) (numbers places : List ℕ) → ((k : ℕ) → k < length places → slice_index places k < length events)
+    → (steps : List Step) × AllZip (IsStepAt events numbers) places steps
 steps-at events numbers [] h = ([], tt)
 steps-at events numbers (p ∷ places) h =
     let e = event-at events p (h 0 (omega arith)) in
@@ -29,11 +30,13 @@ ordered : (events : List Event) (ticks order : List ℕ) → HaveOwnMoments even
     → IsPermutation (range_with_len 0 (length events)) order → IsNonDecreasingBy (moment_at events ticks) order
     → IsOrder events ticks order
 ordered events ticks order own h up = record { places = h; rising = rising } where
-  rising : (j k : ℕ) → j < k → k < length order → moment_at events ticks (slice_index order j) < moment_at events ticks (slice_index order k)
+  rising : (j k : ℕ) → j < k → k < length order → moment_at events ticks (slice_index order j)
+      < moment_at events ticks (slice_index order k)
   rising j k l m =
       let o = up j k 0 (omega arith) m in
       let inside = (places-inside (length events) order h).1 in
-      let differ : ¬ (slice_index order j ≡ slice_index order k) = (λ e. (let z = (places-apart (length events) order h).each j k (omega arith) m e in omega arith)) in
+      let differ : ¬ (slice_index order j ≡ slice_index order k) =
+      (λ e. (let z = (places-apart (length events) order h).each j k (omega arith) m e in omega arith)) in
       let other = apart (slice_index order j) (slice_index order k) (inside j (omega arith)) (inside k m) differ in
       omega arith where
         apart : (p q : ℕ) → p < length events → q < length events → ¬ (p ≡ q) → ¬ (moment_at events ticks p ≡ moment_at events ticks q)
@@ -43,7 +46,8 @@ ordered events ticks order own h up = record { places = h; rising = rising } whe
           go (inr more) (inl less) = own q p less lp (sym e)
           go (inr more) (inr least) = d (omega arith)
 
-pub made : (n : ℕ) (events : List Event) (ticks : List ℕ) (last : ℕ) → HaveOwnMoments events ticks → (trace : Recorded) × IsTraceOf n events ticks last trace
+pub made : (n : ℕ) (events : List Event) (ticks : List ℕ) (last : ℕ)
+    → HaveOwnMoments events ticks → (trace : Recorded) × IsTraceOf n events ticks last trace
 made n events ticks last own =
     let order = sorted (moment_at events ticks) (range_with_len 0 (length events)) in
     let numbers = numbered (length events) order.0 order.1 in

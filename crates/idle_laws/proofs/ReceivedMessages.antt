@@ -23,7 +23,8 @@ after-passed None events h = h.0
 pub received-for : (spread : Bool) (events : List Event) (clock : Clock) (k i : ℕ) → HavePassed spread events clock
     → k < length events → i < length events → Contains (messages_at events k) (Some i)
     → is_for events i (processor_at events k) ≡ true
-received-for false events clock k i passed inside sent c = received-in_time events (time_ticks events clock) k i (or_none (times_refusal events clock) (events_refusal events (time_ticks events clock)) passed).1 inside c
+received-for false events clock k i passed inside sent c = received-in_time events
+    (time_ticks events clock) k i (or_none (times_refusal events clock) (events_refusal events (time_ticks events clock)) passed).1 inside c
 received-for true events clock k i passed inside sent c =
     received-by events (after-passed (times_refusal events clock) events passed) k i inside (record {
       inside = sent;

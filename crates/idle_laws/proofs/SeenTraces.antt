@@ -30,7 +30,8 @@ seen-sparse log limit trace h = record {
   added = h.is.filled.added;
   receives = h.is.filled.receives;
   long = ticks-long log.spread log.events log.clock h.is.ticks h.is.are;
-  is = subst (IsTraceOf log.n (log.events ++ h.is.filled.added) (h.is.ticks ++ ticks_of h.is.idles) (last_of log.events log.clock h.is.ticks)) (sym h.same) h.is.filled.trace;
+  is = subst (IsTraceOf log.n (log.events ++ h.is.filled.added)
+      (h.is.ticks ++ ticks_of h.is.idles) (last_of log.events log.clock h.is.ticks)) (sym h.same) h.is.filled.trace;
 }
 
 seen-full : (log : Log) (limit : ℕ) (trace : Recorded) → (h : IsFull log limit trace) → IsSeen log h.ticks h.polls trace
@@ -58,12 +59,14 @@ module _ (log : Log) (ticks : List ℕ) (idles : List IdleTick) (trace : Recorde
   steps-of y p h = steps-in log.n log.events s.added ticks last idles trace s.long s.receives s.is y p h
 
 -- two traces of the log, with the same ticks
-module _ (log : Log) (ticks : List ℕ) (few many : List IdleTick) (a b : Recorded) (s : IsSeen log ticks few a) (t : IsSeen log ticks many b) where
+module _ (log : Log) (ticks : List ℕ) (few many : List IdleTick)
+    (a b : Recorded) (s : IsSeen log ticks few a) (t : IsSeen log ticks many b) where
   same-end : b.last ≡ a.last
   same-end = t.is.end ∙ sym s.is.end
 
   -- if each step of the first is one of the second, so is each processor bound
-  phi-more : (set g f : ℕ) → ((p y : ℕ) → Acts log.events ticks few p y → Acts log.events ticks many p y) → PhiHolds set a g f → PhiHolds set b g f
+  phi-more : (set g f : ℕ) → ((p y : ℕ) → Acts log.events ticks few p y → Acts log.events ticks many p y)
+      → PhiHolds set a g f → PhiHolds set b g f
   phi-more set g f more h = record {
     each = λ x lo inside p m. (
         let e = same-end in
@@ -135,7 +138,8 @@ module _ (log : Log) (limit : ℕ) (sparse plain : Recorded) (s : IsSparse log l
   some = seen-sparse log limit sparse s
 
   pub delta-plain : (set g d : ℕ) → DeltaHolds set sparse g d → DeltaHolds set plain g d
-  delta-plain set g d h = of-trace log s.is.ticks [] plain none set g d (plain-delta set log.events s.is.ticks s.is.idles g d (of-events log s.is.ticks s.is.idles sparse some set g d h))
+  delta-plain set g d h = of-trace log s.is.ticks [] plain none set g d
+      (plain-delta set log.events s.is.ticks s.is.idles g d (of-events log s.is.ticks s.is.idles sparse some set g d h))
 
   pub phi-plain : (set g e : ℕ) → PhiHolds set plain g e → PhiHolds set sparse g e
   phi-plain set g e h = phi-more log s.is.ticks [] s.is.idles plain sparse none some set g e (plain-acts log.events s.is.ticks s.is.idles) h

@@ -41,10 +41,11 @@ some_upto P decide (suc n) = elim (some_upto P decide n) [
   ]
 ]
 
-module _ (n : ℕ) (events : List Event) (ticks : List ℕ) (last limit : ℕ) (within : (i : ℕ) → i < length events → slice_index ticks i ≤ last) where
+module _ (n : ℕ) (events : List Event) (ticks : List ℕ)
+    (last limit : ℕ) (within : (i : ℕ) → i < length events → slice_index ticks i ≤ last) where
   has-event : (p y : ℕ) → Decided (HasEventIn events ticks p y)
-  has-event p y = elim (some_upto (λ k. (k < length events) × ((processor_at events k ≡ p) × (slice_index ticks k ≡ y)))
-      (λ k. both _ _ (below k (length events)) (both _ _ (cases_eq (processor_at events k) p) (cases_eq (slice_index ticks k) y))) (length events)) [
+  has-event p y = elim (some_upto (λ k. (k < length events) × ((processor_at events k ≡ p) × (slice_index ticks k ≡ y))) (λ k. both _ _
+      (below k (length events)) (both _ _ (cases_eq (processor_at events k) p) (cases_eq (slice_index ticks k) y))) (length events)) [
         | inl h ↦ inl (let z = h.1 in let v = z.1 in record { place = h.0; inside = z.0; own = v.0; at = v.1 })
         | inr q ↦ inr (λ e. (let i = e.inside in q e.place (omega arith) (i, (e.own, e.at))))
       ]
@@ -53,14 +54,16 @@ module _ (n : ℕ) (events : List Event) (ticks : List ℕ) (last limit : ℕ) (
   Silent p since end = (z : ℕ) → since < z → z ≤ end → ¬ HasEventIn events ticks p z
 
   is-silent : (p since end : ℕ) → Decided (Silent p since end)
-  is-silent p since end = elim (some_upto (λ z. (since < z) × ((z ≤ end) × HasEventIn events ticks p z)) (λ z. both _ _ (below since z) (both _ _ (most z end) (has-event p z))) end) [
-    | inl h ↦ inr (λ s. (let a = h.1 in let b = a.1 in s h.0 a.0 b.0 b.1))
-    | inr q ↦ inl (λ z l m e. q z m (l, (m, e)))
-  ]
+  is-silent p since end = elim (some_upto (λ z. (since < z) × ((z ≤ end) × HasEventIn events ticks p z))
+      (λ z. both _ _ (below since z) (both _ _ (most z end) (has-event p z))) end) [
+        | inl h ↦ inr (λ s. (let a = h.1 in let b = a.1 in s h.0 a.0 b.0 b.1))
+        | inr q ↦ inl (λ z l m e. q z m (l, (m, e)))
+      ]
 
   -- a short silence from `since` to `end` has tick y
   abbrev Spans : ℕ → ℕ → ℕ → ℕ → Type 0
-  Spans p y end since = (since < y) × ((y ≤ end) × ((end ≤ since + limit) × (((since ≡ 0) ⊎ HasEventIn events ticks p since) × (((end ≡ last) ⊎ HasEventIn events ticks p (end + 1)) × Silent p since end))))
+  Spans p y end since = (since < y) × ((y ≤ end) × ((end ≤ since + limit)
+      × (((since ≡ 0) ⊎ HasEventIn events ticks p since) × (((end ≡ last) ⊎ HasEventIn events ticks p (end + 1)) × Silent p since end))))
 
   spans : (p y end since : ℕ) → Decided (Spans p y end since)
   spans p y end since =
@@ -82,7 +85,8 @@ module _ (n : ℕ) (events : List Event) (ticks : List ℕ) (last limit : ℕ) (
   in-silence : (p y : ℕ) → Decided (IsInShortSilence events ticks last limit p y)
   in-silence p y = elim (some_upto (λ end. (since : ℕ) × Spans p y end since) (spans-some p y) last) [
     | inl h ↦ inl (found h.0 (let b = h.1 in b.0) (let b = h.1 in b.1))
-    | inr q ↦ inr (λ s. q s.end (end-within p s.end s.is.ends) (s.is.silence.since, (s.after, (s.until, (s.is.silence.short, (s.is.silence.from, (s.is.ends, s.is.silence.silent)))))))
+    | inr q ↦ inr (λ s. q s.end (end-within p s.end s.is.ends)
+        (s.is.silence.since, (s.after, (s.until, (s.is.silence.short, (s.is.silence.from, (s.is.ends, s.is.silence.silent)))))))
   ] where
     found : (end since : ℕ) → Spans p y end since → IsInShortSilence events ticks last limit p y
     found end since s =
@@ -136,11 +140,13 @@ module _ (n : ℕ) (events : List Event) (ticks : List ℕ) (last limit : ℕ) (
     all = all;
     apart = apart;
   } where
-    all : (p y : ℕ) → IsSilentTick n events ticks last limit (poll_of p y) → moment_of y p < suc k → Contains (poll_at k ∷ r.polls) (poll_of p y)
+    all : (p y : ℕ) → IsSilentTick n events ticks last limit (poll_of p y)
+        → moment_of y p < suc k → Contains (poll_at k ∷ r.polls) (poll_of p y)
     all p y h l = elim (cases_eq (moment_of y p) k) [
       | inl e ↦ (
           let m = h.most in
-          let parts = moment-parts (k / MAX_PROCESSORS) y (k % MAX_PROCESSORS + 1) p (omega arith, poll-within k) (h.least, omega arith) (poll-moment k ∙ sym e) in
+          let parts = moment-parts (k / MAX_PROCESSORS) y
+          (k % MAX_PROCESSORS + 1) p (omega arith, poll-within k) (h.least, omega arith) (poll-moment k ∙ sym e) in
           subst (Contains (poll_at k ∷ r.polls)) (ap₂ poll_of parts.1 parts.0) (Contains-head (poll_at k) r.polls))
       | inr d ↦ Contains-rest (poll_at k) (poll_of p y) r.polls (r.all p y h (omega (arith, d, l)))
     ]
@@ -157,7 +163,8 @@ module _ (n : ℕ) (events : List Event) (ticks : List ℕ) (last limit : ℕ) (
   none-more few k r q = record {
     polls = r.polls;
     each = r.each;
-    below = All-weaker (λ x. moment_of x.tick x.processor < k) (λ x. moment_of x.tick x.processor < suc k) (λ x l. omega arith) r.polls r.below;
+    below = All-weaker (λ x. moment_of x.tick x.processor < k)
+        (λ x. moment_of x.tick x.processor < suc k) (λ x l. omega arith) r.polls r.below;
     all = all;
     apart = r.apart;
   } where
@@ -165,7 +172,8 @@ module _ (n : ℕ) (events : List Event) (ticks : List ℕ) (last limit : ℕ) (
     all p y h l = elim (cases_eq (moment_of y p) k) [
       | inl e ↦ (
           let m = h.most in
-          let parts = moment-parts y (k / MAX_PROCESSORS) p (k % MAX_PROCESSORS + 1) (h.least, omega arith) (omega arith, poll-within k) (e ∙ sym (poll-moment k)) in
+          let parts = moment-parts y (k / MAX_PROCESSORS) p
+          (k % MAX_PROCESSORS + 1) (h.least, omega arith) (omega arith, poll-within k) (e ∙ sym (poll-moment k)) in
           absurd (q (subst (IsSilentTick n events ticks last limit) (ap₂ poll_of parts.1 parts.0) h)))
       | inr d ↦ r.all p y h (omega (arith, d, l))
     ]
@@ -195,7 +203,8 @@ module _ (n : ℕ) (events : List Event) (ticks : List ℕ) (last limit : ℕ) (
         polls = r.polls;
         silent = record {
           each = r.each;
-          all = λ p y one upto s. r.all p y (record { least = one; most = upto; inside = s }) (let a = s.until in let b = end-within p s.end s.is.ends in omega arith);
+          all = λ p y one upto s. r.all p y (record { least = one; most = upto; inside = s })
+              (let a = s.until in let b = end-within p s.end s.is.ends in omega arith);
         };
         apart = r.apart;
       }

@@ -23,12 +23,13 @@ use Rattle.judged_runs.specs.LateInTime.{AreNoEarlier, AreNoneDue, AreOldLater, 
 use Rattle.judged_runs.specs.LaterRows.{AreRowsAfter}
 
 -- what is kept before a tick is kept before each earlier one
-pub before_less : (set : ℕ) (trace : Recorded) (decisions : List Decision) (due : Triple → ℕ) (x y : ℕ) → y ≤ x → KeepsBefore set trace decisions due x → KeepsBefore set trace decisions due y
+pub before_less : (set : ℕ) (trace : Recorded) (decisions : List Decision) (due : Triple → ℕ) (x y : ℕ)
+    → y ≤ x → KeepsBefore set trace decisions due x → KeepsBefore set trace decisions due y
 before_less set trace decisions due x y l before = record { each = λ t cut m. before.each t cut (omega (arith, l, m)) }
 
 -- deadlines in x are kept if the prefix that ends there keeps the claim
-before_next : (set : ℕ) (trace cut : Recorded) (decisions : List Decision) (due : Triple → ℕ) (x : ℕ) → IsTrace cut → IsCutAt trace x cut → KeepsClaim set cut decisions due
-    → KeepsBefore set trace decisions due x → KeepsBefore set trace decisions due (x + 1)
+before_next : (set : ℕ) (trace cut : Recorded) (decisions : List Decision) (due : Triple → ℕ) (x : ℕ) → IsTrace cut → IsCutAt trace x cut
+    → KeepsClaim set cut decisions due → KeepsBefore set trace decisions due x → KeepsBefore set trace decisions due (x + 1)
 before_next set trace cut decisions due x sound at kept before = record {
   each = λ t other l timed there feasible. elim (cases_eq (due t) x) [
     | inl e ↦ (
@@ -39,17 +40,19 @@ before_next set trace cut decisions due x sound at kept before = record {
 }
 
 -- what is feasible in a prefix is feasible in each earlier one, from a tick of it on
-feasible_before : (set : ℕ) (trace cut other : Recorded) (x y : ℕ) (t : Triple) → IsTrace cut → IsCutAt trace x cut → IsTrace other → IsCutAt trace y other → x ≤ y → t.gst ≤ x
-    → IsFeasible set other t → IsFeasible set cut t
+feasible_before : (set : ℕ) (trace cut other : Recorded) (x y : ℕ) (t : Triple) → IsTrace cut
+    → IsCutAt trace x cut → IsTrace other → IsCutAt trace y other → x ≤ y → t.gst ≤ x → IsFeasible set other t → IsFeasible set cut t
 feasible_before set trace cut other x y t sound at timed there l begun feasible =
     let last = there.last in
     let d = has_cut other x timed (omega (arith, last, l)) in
-    let same = one_cut trace d.cut cut x d.sound.time sound.time (IsCutAt-twice trace other y timed.time there x d.cut d.sound.time l d.at) at in
+    let same = one_cut trace d.cut cut x d.sound.time sound.time
+    (IsCutAt-twice trace other y timed.time there x d.cut d.sound.time l d.at) at in
     subst (λ (c : Recorded). IsFeasible set c t) same (IsFeasible-cut other d.cut x d.sound.time d.at set t begun feasible)
 
 -- no row of a report that begins by a tick has an earlier deadline, so no feasible triple has
-none_earlier : (set : ℕ) (cut : Recorded) (rows : List Row) (due : Triple → ℕ) (until next : ℕ) (t : Triple) → IsMonotone due → IsReport set cut rows
-    → ((k : ℕ) (r : Row) → slice_get rows k ≡ Some r → r.gst ≤ until → next ≤ due (triple_of r)) → IsFeasible set cut t → t.gst ≤ until → due t < next → ⊥
+none_earlier : (set : ℕ) (cut : Recorded) (rows : List Row) (due : Triple → ℕ) (until next : ℕ) (t : Triple)
+    → IsMonotone due → IsReport set cut rows → ((k : ℕ) (r : Row) → slice_get rows k ≡ Some r → r.gst ≤ until → next ≤ due (triple_of r))
+    → IsFeasible set cut t → t.gst ≤ until → due t < next → ⊥
 none_earlier set cut rows due until next t monotone report none feasible begun early =
     front-below set cut (t.gst + t.delta + t.phi) t (omega arith) feasible (λ o on g d f.
     let m = Contains-from_map triple_of rows o (report.complete o on) in
@@ -61,7 +64,8 @@ none_earlier set cut rows due until next t monotone report none feasible begun e
     omega (arith, above, rises, same, early))
 
 -- a prefix none of whose rows is due keeps the claim
-pub none_due : (set : ℕ) (cut : Recorded) (rows : List Row) (decisions : List Decision) (due : Triple → ℕ) (x next : ℕ) → IsMonotone due → IsReport set cut rows → cut.last ≡ x → x < next
+pub none_due : (set : ℕ) (cut : Recorded) (rows : List Row) (decisions : List Decision) (due : Triple → ℕ) (x next : ℕ)
+    → IsMonotone due → IsReport set cut rows → cut.last ≡ x → x < next
     → ((k : ℕ) (r : Row) → slice_get rows k ≡ Some r → r.gst ≤ x → next ≤ due (triple_of r)) → KeepsClaim set cut decisions due
 none_due set cut rows decisions due x next monotone report last beyond later =
     (KeepsClaim-rows set cut rows decisions due monotone report).1
@@ -75,8 +79,9 @@ none_due set cut rows decisions due x next monotone report last beyond later =
     })
 
 -- So the search goes on at a tick before which each deadline is kept.
-pub before_jump : (set : ℕ) (trace cut : Recorded) (rows : List Row) (decisions : List Decision) (due : Triple → ℕ) (x next : ℕ) → IsMonotone due → IsTrace cut → IsCutAt trace x cut
-    → IsReport set cut rows → KeepsClaim set cut decisions due → IsNextTick rows due x next → KeepsBefore set trace decisions due x → KeepsBefore set trace decisions due next
+pub before_jump : (set : ℕ) (trace cut : Recorded) (rows : List Row) (decisions : List Decision) (due : Triple → ℕ) (x next : ℕ)
+    → IsMonotone due → IsTrace cut → IsCutAt trace x cut → IsReport set cut rows → KeepsClaim set cut decisions due
+    → IsNextTick rows due x next → KeepsBefore set trace decisions due x → KeepsBefore set trace decisions due next
 before_jump set trace cut rows decisions due x next monotone sound at report kept look before = record {
   each = λ t other l timed there feasible. elim (cases_lt (due t) (x + 1)) [
     | inl m ↦ (before_next set trace cut decisions due x sound at kept before).each t other m timed there feasible
@@ -96,19 +101,21 @@ before_jump set trace cut rows decisions due x next monotone sound at report kep
 }
 
 -- the rows that begin by a tick set the least deadline of old bounds
-pub old_later : (set : ℕ) (trace cut : Recorded) (rows : List Row) (due : Triple → ℕ) (x next after y : ℕ) → IsMonotone due → IsTrace cut → IsCutAt trace x cut
+pub old_later : (set : ℕ) (trace cut : Recorded) (rows : List Row) (due : Triple → ℕ) (x next after y : ℕ)
+    → IsMonotone due → IsTrace cut → IsCutAt trace x cut
     → IsReport set cut rows → AreNoEarlier rows due after y → after ≤ x → x ≤ next → AreOldLater set trace due next after y
 old_later set trace cut rows due x next after y monotone sound at report none order later = record {
   each = λ t z other l timed there feasible old. elim (cases_lt (due t) y) [
     | inr m ↦ m
-    | inl early ↦ absurd (none_earlier set cut rows due after y t monotone report none.each
-        (feasible_before set trace cut other x z t sound at timed there (omega (arith, later, l)) (omega (arith, old, order)) feasible) old early)
+    | inl early ↦ absurd (none_earlier set cut rows due after y t monotone report none.each (feasible_before set
+        trace cut other x z t sound at timed there (omega (arith, later, l)) (omega (arith, old, order)) feasible) old early)
   ];
 }
 
 -- So after a whole look at a prefix that keeps the claim a search goes on as its rows say.
-pub ahead_of_look : (set : ℕ) (trace cut : Recorded) (rows : List Row) (decisions : List Decision) (due : Triple → ℕ) (x : ℕ) (a : Ahead) → IsMonotone due → IsTrace cut → IsCutAt trace x cut
-    → IsReport set cut rows → KeepsClaim set cut decisions due → IsNextLook rows due x a → KeepsBefore set trace decisions due x → IsAhead set trace decisions due a
+pub ahead_of_look : (set : ℕ) (trace cut : Recorded) (rows : List Row) (decisions : List Decision) (due : Triple → ℕ) (x : ℕ) (a : Ahead)
+    → IsMonotone due → IsTrace cut → IsCutAt trace x cut → IsReport set cut rows
+    → KeepsClaim set cut decisions due → IsNextLook rows due x a → KeepsBefore set trace decisions due x → IsAhead set trace decisions due a
 ahead_of_look set trace cut rows decisions due x a monotone sound at report kept look before =
     let later = look.tick.later in
     let order = look.order in
@@ -127,7 +134,8 @@ old_in_sight set trace cut rows due x next after old since least monotone sound 
   each = λ t z other l timed there feasible aged. elim (cases_lt after t.gst) [
     | inr before ↦ (let m = earlier.each t z other (omega (arith, later, l)) timed there feasible before in omega (arith, m, less))
     | inl young ↦ (
-        let row = last.served t (feasible_before set trace cut other x z t sound at timed there (omega (arith, later, l)) (omega (arith, aged, order)) feasible) young in
+        let row = last.served t (feasible_before set trace cut other x z t sound at timed there
+        (omega (arith, later, l)) (omega (arith, aged, order)) feasible) young in
         let rises = monotone.rises (triple_of row.row) t row.gst row.delta row.phi in
         let gst = row.gst in
         let m = (none (omega (arith, young, aged))).each row.place row.row row.there (omega (arith, gst, aged)) in
@@ -136,9 +144,9 @@ old_in_sight set trace cut rows due x next after old since least monotone sound 
 }
 
 -- The rows of the last ticks, what begins later, and old bounds have no deadline before y.
-pub none_in_sight : (set : ℕ) (trace cut : Recorded) (rows : List Row) (due : Triple → ℕ) (x after old of_rows of_others y : ℕ) → IsMonotone due → IsTrace cut → IsCutAt trace x cut
-    → AreRowsAfter set cut after rows → AreNoEarlier rows due x of_rows → of_others ≤ due (begun_after x) → AreOldLater set trace due x after old
-    → y ≤ of_rows → y ≤ of_others → y ≤ old → AreNoneDue set trace due x y
+pub none_in_sight : (set : ℕ) (trace cut : Recorded) (rows : List Row) (due : Triple → ℕ) (x after old of_rows of_others y : ℕ)
+    → IsMonotone due → IsTrace cut → IsCutAt trace x cut → AreRowsAfter set cut after rows → AreNoEarlier rows due x of_rows → of_others
+    ≤ due (begun_after x) → AreOldLater set trace due x after old → y ≤ of_rows → y ≤ of_others → y ≤ old → AreNoneDue set trace due x y
 none_in_sight set trace cut rows due x after old of_rows of_others y monotone sound at last none others earlier a b c = record {
   each = λ t other low high timed there feasible. elim (cases_lt after t.gst) [
     | inr aged ↦ (let m = earlier.each t (due t) other low timed there feasible aged in omega (arith, m, c, high))
@@ -159,7 +167,8 @@ none_in_sight set trace cut rows due x after old of_rows of_others y monotone so
 }
 
 -- a glance may stay where it is
-pub glance_here : (set : ℕ) (trace : Recorded) (due : Triple → ℕ) (a : Ahead) → a.after ≤ a.tick → AreOldLater set trace due a.tick a.after a.old → IsGlance set trace due a.tick a
+pub glance_here : (set : ℕ) (trace : Recorded) (due : Triple → ℕ) (a : Ahead)
+    → a.after ≤ a.tick → AreOldLater set trace due a.tick a.after a.old → IsGlance set trace due a.tick a
 glance_here set trace due a order old = record {
   none = record { each = λ t cut low high. absurd (omega (arith, low, high)) };
   order = order;
@@ -177,8 +186,8 @@ before_sight set trace decisions due x y none before = record {
 }
 
 -- all are, if from x on all members have decided
-pub before_all : (set : ℕ) (trace : Recorded) (decisions : List Decision) (due : Triple → ℕ) (x : ℕ)
-    → ((y : ℕ) → x ≤ y → y ≤ trace.last → HaveDecidedBy set decisions y) → KeepsBefore set trace decisions due x → KeepsClaimInTime set trace decisions due
+pub before_all : (set : ℕ) (trace : Recorded) (decisions : List Decision) (due : Triple → ℕ) (x : ℕ) → ((y : ℕ) → x ≤ y
+    → y ≤ trace.last → HaveDecidedBy set decisions y) → KeepsBefore set trace decisions due x → KeepsClaimInTime set trace decisions due
 before_all set trace decisions due x decided before = record {
   each = λ t cut sound at feasible. elim (cases_lt (due t) x) [
     | inl l ↦ before.each t cut l sound at feasible
@@ -203,7 +212,8 @@ late_in_time set trace cut rows decisions due x w sound at later report before l
       proc = late.proc;
       feasible = λ other timed there.
           let d = has_cut cut w.deadline sound in_cut in
-          let same = one_cut trace other d.cut w.deadline timed.time d.sound.time there (IsCutAt-twice trace cut x sound.time at w.deadline d.cut d.sound.time low d.at) in
+          let same = one_cut trace other d.cut w.deadline timed.time d.sound.time there
+          (IsCutAt-twice trace cut x sound.time at w.deadline d.cut d.sound.time low d.at) in
           let row = report.sound w.row (Contains-slice_get rows late.place w.row late.row) in
           let begun = later.each (triple_of w.row) in
           subst (λ (c : Recorded). IsFeasible set c (triple_of w.row)) (sym same)
@@ -212,9 +222,10 @@ late_in_time set trace cut rows decisions due x w sound at later report before l
     }
 
 -- what is late in time refutes the claim
-pub late_refutes : (set : ℕ) (trace : Recorded) (decisions : List Decision) (due : Triple → ℕ) (w : Late) → IsTrace trace → IsLateInTime set trace decisions due w
-    → KeepsClaimInTime set trace decisions due → ⊥
+pub late_refutes : (set : ℕ) (trace : Recorded) (decisions : List Decision) (due : Triple → ℕ) (w : Late)
+    → IsTrace trace → IsLateInTime set trace decisions due w → KeepsClaimInTime set trace decisions due → ⊥
 late_refutes set trace decisions due w sound late kept =
     let c = has_cut trace w.deadline sound late.due in
-    let decided = kept.each (triple_of w.row) c.cut c.sound (subst (λ y. IsCutAt trace y c.cut) late.by c.at) (late.feasible c.cut c.sound c.at) in
+    let decided = kept.each (triple_of w.row) c.cut c.sound
+    (subst (λ y. IsCutAt trace y c.cut) late.by c.at) (late.feasible c.cut c.sound c.at) in
     late.proc.undecided ((subst (HaveDecidedBy set decisions) (sym late.by) decided).each w.proc late.proc.member)

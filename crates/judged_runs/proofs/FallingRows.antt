@@ -15,14 +15,15 @@ use Rattle.decision_claims.specs.Formulas.{Terms, deadline}
 use Rattle.decision_claims.proofs.FrontClaims.{deadline-monotone}
 use Rattle.judged_runs.specs.LateInTime.{AreFalling}
 
-pub gst_below : (rows : List Row) (j k : ℕ) (a b : Row) → IsStrictlyIncreasing (map (λ r. r.gst) rows) → j < k → slice_get rows j ≡ Some a → slice_get rows k ≡ Some b → a.gst ≤ b.gst
+pub gst_below : (rows : List Row) (j k : ℕ) (a b : Row)
+    → IsStrictlyIncreasing (map (λ r. r.gst) rows) → j < k → slice_get rows j ≡ Some a → slice_get rows k ≡ Some b → a.gst ≤ b.gst
 gst_below rows j k a b rising l p q =
     let rise = IsNonDecreasingBy-rising rows rising j k a (omega (arith, l)) (slice_get_within rows k b q) in
     rw (get_or_from_slice_get rows j a a p, get_or_from_slice_get rows k b a q) at rise
 
 -- a row with a greater communication bound than an earlier one would be dominated
-delta_falls : (set : ℕ) (trace : Recorded) (a b : Row) → a.gst ≤ b.gst → IsFeasible set trace (triple_of a) → IsFeasible set trace (triple_of b)
-    → ((o : Triple) → IsFeasible set trace o → ¬ Dominates o (triple_of b)) → b.delta ≤ a.delta
+delta_falls : (set : ℕ) (trace : Recorded) (a b : Row) → a.gst ≤ b.gst → IsFeasible set trace (triple_of a)
+    → IsFeasible set trace (triple_of b) → ((o : Triple) → IsFeasible set trace o → ¬ Dominates o (triple_of b)) → b.delta ≤ a.delta
 delta_falls set trace a b later first second undominated = elim (cases_lt a.delta b.delta) [
   | inr l ↦ l
   | inl l ↦ absurd (undominated (record { gst = b.gst; delta = a.delta; phi = b.phi }) (record {
@@ -36,8 +37,8 @@ delta_falls set trace a b later first second undominated = elim (cases_lt a.delt
 ]
 
 -- so would one with a greater processor bound
-phi_falls : (set : ℕ) (trace : Recorded) (a b : Row) → a.gst ≤ b.gst → IsFeasible set trace (triple_of a) → IsFeasible set trace (triple_of b)
-    → ((o : Triple) → IsFeasible set trace o → ¬ Dominates o (triple_of b)) → b.phi ≤ a.phi
+phi_falls : (set : ℕ) (trace : Recorded) (a b : Row) → a.gst ≤ b.gst → IsFeasible set trace (triple_of a)
+    → IsFeasible set trace (triple_of b) → ((o : Triple) → IsFeasible set trace o → ¬ Dominates o (triple_of b)) → b.phi ≤ a.phi
 phi_falls set trace a b later first second undominated = elim (cases_lt a.phi b.phi) [
   | inr l ↦ l
   | inl l ↦ absurd (undominated (record { gst = b.gst; delta = b.delta; phi = a.phi }) (record {
@@ -63,8 +64,9 @@ falling set trace rows report = record {
 }
 
 -- what a row's deadline leaves as time, that of a row with greater bounds leaves too
-pub time_kept : (config : Setup) (start : ℕ) (terms : Terms) (a b : Row) (time : ℕ) → b.delta ≤ a.delta → b.phi ≤ a.phi
-    → max b.gst start + time ≤ deadline config start terms (triple_of b) → max a.gst start + time ≤ deadline config start terms (triple_of a)
+pub time_kept : (config : Setup) (start : ℕ) (terms : Terms) (a b : Row) (time : ℕ) → b.delta ≤ a.delta → b.phi ≤ a.phi → max
+    b.gst start + time ≤ deadline config start terms (triple_of b) → max a.gst start + time ≤ deadline config start terms (triple_of a)
 time_kept config start terms a b time delta phi kept =
-    let rises = (deadline-monotone config start terms).rises (record { gst = a.gst; delta = b.delta; phi = b.phi }) (triple_of a) (omega arith) delta phi in
+    let rises = (deadline-monotone config start terms).rises
+    (record { gst = a.gst; delta = b.delta; phi = b.phi }) (triple_of a) (omega arith) delta phi in
     omega (arith, rises, kept)

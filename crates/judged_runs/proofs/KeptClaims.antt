@@ -14,7 +14,8 @@ IfOk-weaker P Q (Ok x) h s = h x s
 IfOk-weaker P Q (Err e) h s = tt
 
 -- the first late row of the report refutes the claim
-pub late_in_whole : (set : ℕ) (trace : Recorded) (end : ℕ) (rows : List Row) (decisions : List Decision) (due : Triple → ℕ) (found : Option Late) → IsReport set trace rows → trace.last ≡ end
-    → IfSome found (λ w. (run : Recorded) → run.last ≡ end → IsFirstLate set run rows decisions due w) → IfSome found (IsLateInWhole set trace decisions due)
+pub late_in_whole : (set : ℕ) (trace : Recorded) (end : ℕ) (rows : List Row) (decisions : List Decision)
+    (due : Triple → ℕ) (found : Option Late) → IsReport set trace rows → trace.last ≡ end → IfSome found (λ w. (run : Recorded)
+    → run.last ≡ end → IsFirstLate set run rows decisions due w) → IfSome found (IsLateInWhole set trace decisions due)
 late_in_whole set trace end rows decisions due None report ends s = tt
 late_in_whole set trace end rows decisions due (Some w) report ends s = record { rows = rows; report = report; first = s trace ends }

@@ -31,7 +31,8 @@ record IsRowOf (levels : List Level) (k : ℕ) (l : Level) : Type 0 where
 row_of : (levels : List Level) (k : ℕ) (l : Level) → slice_get levels k ≡ Some l → IsRowOf levels k l
 row_of levels zero l at = record {
   row = row_from 1 l;
-  member = (AreRows-rows levels).complete (row_from 1 l) (record { start = record { level = l; here = omega arith; stands = at; other = λ last later. absurd (omega (arith, later)) }; stands = at });
+  member = (AreRows-rows levels).complete (row_from 1 l) (record
+      { start = record { level = l; here = omega arith; stands = at; other = λ last later. absurd (omega (arith, later)) }; stands = at });
   begun = omega arith;
   delta = refl;
   phi = refl;
@@ -41,7 +42,8 @@ row_of levels (suc k) l at =
     let before = slice_get-get_or levels k l (omega (arith, within)) in
     go (get_or levels k l) before (same_bounds l (get_or levels k l)) refl (row_of levels k (get_or levels k l) before)
   where
-    go : (last : Level) → slice_get levels k ≡ Some last → (b : Bool) → same_bounds l last ≡ b → IsRowOf levels k last → IsRowOf levels (suc k) l
+    go : (last : Level) → slice_get levels k ≡ Some last
+        → (b : Bool) → same_bounds l last ≡ b → IsRowOf levels k last → IsRowOf levels (suc k) l
     go last before true e r =
         let same = same_bounds-parts l last e in
         let begun = r.begun in
@@ -98,7 +100,8 @@ module _ (set : ℕ) (cut : Recorded) (after : ℕ) (levels : List Level) (are :
         let second = known k n.from n.there in
         let order = gst_below rows j k m.from n.from (AreRows-rows levels).rising l m.there n.there in
         let falls : (n.from).delta ≤ (m.from).delta =
-        second.delta.least (m.from).delta first.delta.positive (DeltaHolds-later set cut ((m.from).gst + after) ((n.from).gst + after) (m.from).delta (omega (arith, order)) first.delta.holds) in
+        second.delta.least (m.from).delta first.delta.positive (DeltaHolds-later set cut
+        ((m.from).gst + after) ((n.from).gst + after) (m.from).delta (omega (arith, order)) first.delta.holds) in
         let one : (m.from).delta ≡ a.delta = ap (λ (r : Row). r.delta) m.same in
         let other : (n.from).delta ≡ b.delta = ap (λ (r : Row). r.delta) n.same in
         omega (arith, falls, one, other);
@@ -109,7 +112,8 @@ module _ (set : ℕ) (cut : Recorded) (after : ℕ) (levels : List Level) (are :
         let second = known k n.from n.there in
         let order = gst_below rows j k m.from n.from (AreRows-rows levels).rising l m.there n.there in
         let falls : (n.from).phi ≤ (m.from).phi =
-        second.phi.least (m.from).phi first.phi.positive (PhiHolds-later set cut ((m.from).gst + after) ((n.from).gst + after) (m.from).phi (omega (arith, order)) first.phi.holds) in
+        second.phi.least (m.from).phi first.phi.positive
+        (PhiHolds-later set cut ((m.from).gst + after) ((n.from).gst + after) (m.from).phi (omega (arith, order)) first.phi.holds) in
         let one : (m.from).phi ≡ a.phi = ap (λ (r : Row). r.phi) m.same in
         let other : (n.from).phi ≡ b.phi = ap (λ (r : Row). r.phi) n.same in
         omega (arith, falls, one, other);
@@ -153,9 +157,11 @@ row_within levels k r at =
     omega (arith, within)
 
 -- one mapped row more
-pub map_next : (f : Row → Row) (rows : List Row) (k : ℕ) (r : Row) → slice_get rows k ≡ Some r → map f (take k rows) ++ f r ∷ [] ≡ map f (take (k + 1) rows)
+pub map_next : (f : Row → Row) (rows : List Row) (k : ℕ) (r : Row)
+    → slice_get rows k ≡ Some r → map f (take k rows) ++ f r ∷ [] ≡ map f (take (k + 1) rows)
 map_next f (x ∷ rows) zero r e = ap (λ (y : Row). f y ∷ []) (sym (same_Some x r e))
-map_next f (x ∷ rows) (suc k) r e = let next : suc k + 1 ≡ suc (k + 1) = omega arith in rw next (ap (λ (ys : List Row). f x ∷ ys) (map_next f rows k r e))
+map_next f (x ∷ rows) (suc k) r e = let next : suc k + 1 ≡ suc (k + 1) = omega arith in
+    rw next (ap (λ (ys : List Row). f x ∷ ys) (map_next f rows k r e))
 map_next f [] k r e = absurd (none-some r e)
 
 -- if there is no further row, all were taken

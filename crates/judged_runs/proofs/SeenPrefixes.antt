@@ -14,8 +14,8 @@ pub record HasRows (set : ℕ) (trace : Recorded) (x : ℕ) (rows : List Row) : 
   pub at : IsCutAt trace x cut
   pub report : IsReport set cut rows
 
-pub has_rows : (set : ℕ) (trace : Recorded) (x : ℕ) (given rows : List Row) → IsTrace trace → x ≤ trace.last → ((cut : Recorded) → IsTrace cut → IsCutAt trace x cut → IsReport set cut given)
-    → rows ≡ given → HasRows set trace x rows
+pub has_rows : (set : ℕ) (trace : Recorded) (x : ℕ) (given rows : List Row) → IsTrace trace → x ≤ trace.last
+    → ((cut : Recorded) → IsTrace cut → IsCutAt trace x cut → IsReport set cut given) → rows ≡ given → HasRows set trace x rows
 has_rows set trace x given rows sound inside report same =
     let d = has_cut trace x sound inside in
     record { cut = d.cut; sound = d.sound; at = d.at; report = subst (IsReport set d.cut) (sym same) (report d.cut d.sound d.at) }

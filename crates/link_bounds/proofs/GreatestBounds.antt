@@ -33,33 +33,40 @@ phi_above (Phi q d ∷ rows) p b c = elim (Contains-cons_cases (Phi q d) (Phi p 
   | inl e ↦ (let same : d ≡ b = cc in subst (λ (v : LeastBound Gap). v.least ≤ max d.least (greatest_phi rows)) same (omega arith))
   | inr later ↦ (let rest = phi_above rows p b later in omega arith)
 ]
-phi_above (Delta q r d ∷ rows) p b c = elim (Contains-cons_cases (Delta q r d) (Phi p b) rows c) [ inl e ↦ absurd (cc) | inr later ↦ phi_above rows p b later ]
+phi_above (Delta q r d ∷ rows) p b c = elim (Contains-cons_cases (Delta q r d) (Phi p b) rows c)
+    [ inl e ↦ absurd (cc) | inr later ↦ phi_above rows p b later ]
 
 delta_above : (rows : List BoundRow) (p q : ℕ) (b : LeastBound Miss) → Contains rows (Delta p q b) → b.least ≤ greatest_delta rows
 delta_above [] p q b c = absurd (Contains-nil (Delta p q b) c)
-delta_above (Phi r d ∷ rows) p q b c = elim (Contains-cons_cases (Phi r d) (Delta p q b) rows c) [ inl e ↦ absurd (cc) | inr later ↦ delta_above rows p q b later ]
+delta_above (Phi r d ∷ rows) p q b c = elim (Contains-cons_cases (Phi r d) (Delta p q b) rows c)
+    [ inl e ↦ absurd (cc) | inr later ↦ delta_above rows p q b later ]
 delta_above (Delta r s d ∷ rows) p q b c = elim (Contains-cons_cases (Delta r s d) (Delta p q b) rows c) [
   | inl e ↦ (let same : d ≡ b = cc in subst (λ (v : LeastBound Miss). v.least ≤ max d.least (greatest_delta rows)) same (omega arith))
   | inr later ↦ (let rest = delta_above rows p q b later in omega arith)
 ]
 
 -- a bound that holds for all members holds for each, and so no row's bound is above it
-phi_least : (members : ℕ) (t : Recorded) (g e : ℕ) (rows : List BoundRow) → 1 ≤ e → PhiHolds members t g e → ((r : BoundRow) → Contains rows r → IsRow members t g r) → greatest_phi rows ≤ e
+phi_least : (members : ℕ) (t : Recorded) (g e : ℕ) (rows : List BoundRow)
+    → 1 ≤ e → PhiHolds members t g e → ((r : BoundRow) → Contains rows r → IsRow members t g r) → greatest_phi rows ≤ e
 phi_least members t g e [] low holds right = low
 phi_least members t g e (Phi p b ∷ rows) low holds right =
     let row = right (Phi p b) (Contains-head (Phi p b) rows) in
     let start = (member_range members p row.member).0 in
     let own : PhiHolds (only p) t g e = record {
-      each = λ x from until q m. holds.each x from until q (subst (λ (v : ℕ). IsTrue (has_proc members v)) (sym (only_member p q start m)) row.member);
+      each = λ x from until q m. holds.each x from until q
+          (subst (λ (v : ℕ). IsTrue (has_proc members v)) (sym (only_member p q start m)) row.member);
     } in
     let here = row.least.least e low own in
     let rest = phi_least members t g e rows low holds (λ r c. right r (Contains-rest (Phi p b) r rows c)) in
     omega arith
-phi_least members t g e (Delta p q b ∷ rows) low holds right = phi_least members t g e rows low holds (λ r c. right r (Contains-rest (Delta p q b) r rows c))
+phi_least members t g e (Delta p q b ∷ rows) low holds right =
+    phi_least members t g e rows low holds (λ r c. right r (Contains-rest (Delta p q b) r rows c))
 
-delta_least : (members : ℕ) (t : Recorded) (g e : ℕ) (rows : List BoundRow) → 1 ≤ e → DeltaHolds members t g e → ((r : BoundRow) → Contains rows r → IsRow members t g r) → greatest_delta rows ≤ e
+delta_least : (members : ℕ) (t : Recorded) (g e : ℕ) (rows : List BoundRow)
+    → 1 ≤ e → DeltaHolds members t g e → ((r : BoundRow) → Contains rows r → IsRow members t g r) → greatest_delta rows ≤ e
 delta_least members t g e [] low holds right = low
-delta_least members t g e (Phi p b ∷ rows) low holds right = delta_least members t g e rows low holds (λ r c. right r (Contains-rest (Phi p b) r rows c))
+delta_least members t g e (Phi p b ∷ rows) low holds right =
+    delta_least members t g e rows low holds (λ r c. right r (Contains-rest (Phi p b) r rows c))
 delta_least members t g e (Delta p q b ∷ rows) low holds right =
     let row = right (Delta p q b) (Contains-head (Delta p q b) rows) in
     let here = row.least.least e low (record { each = λ s from m. holds.each s from }) in
@@ -67,7 +74,8 @@ delta_least members t g e (Delta p q b ∷ rows) low holds right =
     omega arith
 
 -- the greatest bound of the processors is the processor bound of the set
-pub IsPhi-greatest : (members : ℕ) (t : Recorded) (g : ℕ) (rows : List BoundRow) → AreRows members t g rows → IsPhi members t g (greatest_phi rows)
+pub IsPhi-greatest : (members : ℕ) (t : Recorded) (g : ℕ) (rows : List BoundRow)
+    → AreRows members t g rows → IsPhi members t g (greatest_phi rows)
 IsPhi-greatest members t g rows all = record {
   positive = phi_positive rows;
   holds = record {
@@ -84,7 +92,8 @@ IsPhi-greatest members t g rows all = record {
 }
 
 -- the greatest bound of the links is the communication bound of the set
-pub IsDelta-greatest : (members : ℕ) (t : Recorded) (g : ℕ) (rows : List BoundRow) → AreRows members t g rows → IsDelta members t g (greatest_delta rows)
+pub IsDelta-greatest : (members : ℕ) (t : Recorded) (g : ℕ) (rows : List BoundRow)
+    → AreRows members t g rows → IsDelta members t g (greatest_delta rows)
 IsDelta-greatest members t g rows all = record {
   positive = delta_positive rows;
   holds = record {

@@ -35,8 +35,8 @@ KnowsLink-pass members t p q x (Some bound) low other k =
     let some = k.0 in
     let after = some.1 in (
       (some.0, omega arith, some.2),
-      AllowsAll-same Miss (λ m. m.sent) (λ m. tick_of t m.sent) (λ m. tick_of t m.missed) (IsLaterMiss members t p q x) (IsLaterMiss members t p q (x - 1)) bound
-          (λ m o. record { miss = o.miss; after = let a = o.after in omega arith })
+      AllowsAll-same Miss (λ m. m.sent) (λ m. tick_of t m.sent) (λ m. tick_of t m.missed) (IsLaterMiss members t p q x)
+          (IsLaterMiss members t p q (x - 1)) bound (λ m o. record { miss = o.miss; after = let a = o.after in omega arith })
           (λ m o. record { miss = o.miss; after = later m o }) k.1,
     ) where
       later : (m : Miss) → IsLaterMiss members t p q (x - 1) m → x < m.sent
@@ -70,24 +70,30 @@ pub KnowsLink-note : (members : ℕ) (t : Recorded) (p q x r : ℕ) (slot : Opti
     → IsMessageOn members t.steps p q x → IsLastMissOf members t x r → KnowsLink members t p q x slot
     → KnowsLink members t p q (x - 1)
     (Some (noted (unwrap_or slot without_evidence) (record { sent = x; missed = r }) (tick_of t r - tick_of t x)))
-KnowsLink-note members t p q x r slot low message last k = ((x, omega arith, message), grown (unwrap_or slot without_evidence) (before slot k)) where
-  before : (s : Option (LeastBound Miss)) → KnowsLink members t p q x s → KnowsMissesOf members t p q x (unwrap_or s without_evidence)
-  before None none = AllowsAll-nothing Miss (λ m. m.sent) (λ m. tick_of t m.sent) (λ m. tick_of t m.missed) (IsLaterMiss members t p q x) (λ m o. none m.sent o.after o.miss.link)
-  before (Some bound) known = known.1
+KnowsLink-note members t p q x r slot low message last k =
+    ((x, omega arith, message), grown (unwrap_or slot without_evidence) (before slot k)) where
+      before : (s : Option (LeastBound Miss)) → KnowsLink members t p q x s → KnowsMissesOf members t p q x (unwrap_or s without_evidence)
+      before None none = AllowsAll-nothing Miss (λ m. m.sent)
+          (λ m. tick_of t m.sent) (λ m. tick_of t m.missed) (IsLaterMiss members t p q x) (λ m o. none m.sent o.after o.miss.link)
+      before (Some bound) known = known.1
 
-  grown : (bound : LeastBound Miss) → KnowsMissesOf members t p q x bound → KnowsMissesOf members t p q (x - 1) (noted bound (record { sent = x; missed = r }) (tick_of t r - tick_of t x))
-  grown bound known = AllowsAll-noted Miss (λ m. m.sent) (λ m. tick_of t m.sent) (λ m. tick_of t m.missed) (IsLaterMiss members t p q x) (IsLaterMiss members t p q (x - 1)) _ (tick_of t r - tick_of t x) bound
-      (LaterMisses-grow members t p q x r low message last) known
+      grown : (bound : LeastBound Miss) → KnowsMissesOf members t p q x bound
+          → KnowsMissesOf members t p q (x - 1) (noted bound (record { sent = x; missed = r }) (tick_of t r - tick_of t x))
+      grown bound known = AllowsAll-noted Miss (λ m. m.sent) (λ m. tick_of t m.sent) (λ m. tick_of t m.missed) (IsLaterMiss members t p q x)
+          (IsLaterMiss members t p q (x - 1)) _ (tick_of t r - tick_of t x) bound
+          (LaterMisses-grow members t p q x r low message last) known
 
 -- back over a step that is no message of the set, nothing changes on any link
-pub KnowsLinks-pass : (members : ℕ) (t : Recorded) (x : ℕ) (links : Links) → 1 ≤ x → ((b : ℕ) → ¬ IsMessage members t.steps x b) → KnowsLinks members t x links → KnowsLinks members t (x - 1) links
+pub KnowsLinks-pass : (members : ℕ) (t : Recorded) (x : ℕ) (links : Links)
+    → 1 ≤ x → ((b : ℕ) → ¬ IsMessage members t.steps x b) → KnowsLinks members t x links → KnowsLinks members t (x - 1) links
 KnowsLinks-pass members t x links low none k = record {
   long = k.long;
   each = λ p q a b. KnowsLink-pass members t p q x _ low (λ m. none q (IsMessage-from_link members t.steps p q x m)) (k.each p q a b);
 }
 
 -- a message has one sender and one receiver
-one_link : (members : ℕ) (steps : List Step) (p q a b s : ℕ) → IsMessageOn members steps p q s → IsMessageOn members steps a b s → (p ≡ a) × (q ≡ b)
+one_link : (members : ℕ) (steps : List Step) (p q a b s : ℕ)
+    → IsMessageOn members steps p q s → IsMessageOn members steps a b s → (p ≡ a) × (q ≡ b)
 one_link members steps p q a b s m n =
     let same = same_Some _ _ (sym m.sent ∙ n.sent) in
     (ap (λ (x : Step). x.proc) same, same_Some q b (ap (λ (x : Step). act_dest x.act) same))
@@ -108,8 +114,10 @@ links_noted members t x from to r bounds low inside few long message last k p q 
       let same_q : q ≡ to = omega arith in
       let place : place_of from to < length bounds = omega arith in
       subst (λ (i : ℕ). KnowsLink members t i q (x - 1) (get_or (set bounds (place_of from to) new) (place_of i q) None)) (sym same_p)
-      (subst (λ (i : ℕ). KnowsLink members t from i (x - 1) (get_or (set bounds (place_of from to) new) (place_of from i) None)) (sym same_q)
-      (rw (get_or-set_same bounds (place_of from to) new None place) (KnowsLink-note members t from to x r _ low message last (k from to inside few)))))
+      (subst (λ (i : ℕ). KnowsLink members t from i (x - 1) (get_or (set bounds (place_of from to) new) (place_of from i) None))
+      (sym same_q)
+      (rw (get_or-set_same bounds (place_of from to) new None place)
+      (KnowsLink-note members t from to x r _ low message last (k from to inside few)))))
   | inr ne ↦ (let other : place_of p q ≢ place_of from to = ne in
       rw (get_or-set_other bounds (place_of from to) (place_of p q) new None other)
       (KnowsLink-pass members t p q x _ low
@@ -117,4 +125,5 @@ links_noted members t x from to r bounds low inside few long message last k p q 
       let f = same.1 in omega arith)) (k p q a b)))
 ] where
   new : Option (LeastBound Miss)
-  new = Some (noted (unwrap_or (get_or bounds (place_of from to) None) without_evidence) (record { sent = x; missed = r }) (tick_of t r - tick_of t x))
+  new = Some (noted (unwrap_or (get_or bounds (place_of from to) None) without_evidence)
+      (record { sent = x; missed = r }) (tick_of t r - tick_of t x))

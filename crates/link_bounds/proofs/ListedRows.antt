@@ -24,7 +24,8 @@ use Rattle.link_bounds.proofs.KnownRows.{IsPhiRow-from_known, IsDeltaRow-from_kn
 use Rattle.link_bounds.proofs.RowLists.{ListsBefore-push, ListsBefore-skip}
 
 -- from a tick on, the next step of p is the one after the steps before
-IsNextFrom-before : (t : Recorded) (p g done next : ℕ) → 1 ≤ g → g ≤ t.last + 1 → AreBefore t g done → IsNextTick t p done next → IsNextFrom t p g done next
+IsNextFrom-before : (t : Recorded) (p g done next : ℕ)
+    → 1 ≤ g → g ≤ t.last + 1 → AreBefore t g done → IsNextTick t p done next → IsNextFrom t p g done next
 IsNextFrom-before t p g done next start end before n = record {
   start = start;
   passed = λ k low own. before.below k _ own.1 low;
@@ -36,19 +37,20 @@ IsNextFrom-before t p g done next start end before n = record {
 }
 
 -- the row of a member, with the gap at the tick
-pub IsPhiRow-listed : (members : ℕ) (t : Recorded) (g p : ℕ) (paces : Paces) → 1 ≤ g → g ≤ t.last + 1 → IsWithin members t.config.n → KnowsPacesFrom t g paces → IsTrue (has_proc members p)
-    → IsPhiRow members t g p (bound_from paces p g)
+pub IsPhiRow-listed : (members : ℕ) (t : Recorded) (g p : ℕ) (paces : Paces) → 1 ≤ g → g ≤ t.last + 1
+    → IsWithin members t.config.n → KnowsPacesFrom t g paces → IsTrue (has_proc members p) → IsPhiRow members t g p (bound_from paces p g)
 IsPhiRow-listed members t g p paces start end within k member =
     let range = member_range members p member in
     let known = k.known in
     let inside = within p member in
     IsPhiRow-from_known members t g p (bound_from paces p g) start member
     (KnowsGapsOf-from t p g k.done (get_or paces.next_steps.items p 0) (get_or paces.bounds.items p without_evidence) range.0 range.1
-    (IsNextFrom-before t p g k.done (get_or paces.next_steps.items p 0) start end k.before (known.next.each p range.0 inside range.0)) (known.each p range.0 inside))
+    (IsNextFrom-before t p g k.done (get_or paces.next_steps.items p 0) start end k.before (known.next.each p range.0 inside range.0))
+    (known.each p range.0 inside))
 
 -- the link of a place
-module _ (members : ℕ) (t : Recorded) (time : IsTimed t) (g place : ℕ) (links : Links) (rows : List BoundRow) (k : KnowsLinksFrom members t g links) (inside : place < length links.bounds.items)
-    (lists : ListsBefore members t g (RECEIVERS + place) rows) where
+module _ (members : ℕ) (t : Recorded) (time : IsTimed t) (g place : ℕ) (links : Links) (rows : List BoundRow) (k : KnowsLinksFrom
+    members t g links) (inside : place < length links.bounds.items) (lists : ListsBefore members t g (RECEIVERS + place) rows) where
   abbrev from : ℕ
   from = place / RECEIVERS
 
@@ -69,7 +71,8 @@ module _ (members : ℕ) (t : Recorded) (time : IsTimed t) (g place : ℕ) (link
   next = omega arith
 
   -- its row is pushed, if it has a bound
-  pub ListsBefore-link : (bound : LeastBound Miss) → get_or links.bounds.items place None ≡ Some bound → ListsBefore members t g (RECEIVERS + (place + 1)) (rows ++ Delta from to bound ∷ [])
+  pub ListsBefore-link : (bound : LeastBound Miss) → get_or links.bounds.items place None ≡ Some bound
+      → ListsBefore members t g (RECEIVERS + (place + 1)) (rows ++ Delta from to bound ∷ [])
   ListsBefore-link bound is =
       let some = rw is at known in
       rw next (ListsBefore-push members t g (RECEIVERS + place) rows (Delta from to bound)

@@ -24,7 +24,8 @@ module _ (E : Type 0) (place start end : E → ℕ) where
   AllowsAll-same Old New bound still back k = record { shorter = λ e c. k.shorter e (back e c); named = go bound.witness k.named } where
     go : (w : Option E) → NamesLatest E Old place start end bound.least w → NamesLatest E New place start end bound.least w
     go None n = n
-    go (Some v) n = let named = n.1 in (n.0, record { counts = still v named.counts; long = named.long; latest = λ o c l. named.latest o (back o c) l })
+    go (Some v) n =
+        let named = n.1 in (n.0, record { counts = still v named.counts; long = named.long; latest = λ o c l. named.latest o (back o c) l })
 
   -- What counts grows by pieces that are no longer than this one. Those of its length are at its place or before, and
   -- this is before all that counted, if it has a length at all.
@@ -41,7 +42,8 @@ module _ (E : Type 0) (place start end : E → ℕ) where
     positive : 1 ≤ bound.least
     positive = AllowsAll-positive Old bound k
 
-    keeps : long < bound.least → (w : Option E) → NamesLatest E Old place start end bound.least w → NamesLatest E New place start end bound.least w
+    keeps : long < bound.least → (w : Option E) → NamesLatest E Old place start end bound.least w
+        → NamesLatest E New place start end bound.least w
     keeps h None n = n
     keeps h (Some v) n = let named = n.1 in let above = n.0 in (
       n.0,
@@ -59,19 +61,22 @@ module _ (E : Type 0) (place start end : E → ℕ) where
       },
     )
 
-    go : (b : Bool) → nat_le bound.least long ≡ b → AllowsAll E New place start end (cond b (record { least = long + 1; witness = Some e }) bound)
+    go : (b : Bool)
+        → nat_le bound.least long ≡ b → AllowsAll E New place start end (cond b (record { least = long + 1; witness = Some e }) bound)
     go true t =
         let h : bound.least ≤ long = leb-true bound.least long t in
         let f = grows.found (omega (arith, positive)) in
         let at = f.1 in
         record {
-          shorter = λ o c. elim (grows.rest o c) [ inl old ↦ (let short = k.shorter o old in omega arith) | inr r ↦ (let short = r.0 in omega arith) ];
+          shorter = λ o c.
+              elim (grows.rest o c) [ inl old ↦ (let short = k.shorter o old in omega arith) | inr r ↦ (let short = r.0 in omega arith) ];
           named = (
             omega (arith, positive),
             record {
               counts = f.0;
               long = omega arith;
-              latest = λ o c l. elim (grows.rest o c) [ inl old ↦ absurd (let short = k.shorter o old in omega arith) | inr r ↦ r.1 (omega arith) ];
+              latest = λ o c l. elim (grows.rest o c)
+                  [ inl old ↦ absurd (let short = k.shorter o old in omega arith) | inr r ↦ r.1 (omega arith) ];
             },
           );
         }

@@ -56,18 +56,20 @@ silent_until t p g done next x n low high s = elim (cases_lt done s.place) [
 ]
 
 -- a gap of p that begins before its next step ends before it
-ends_before : (t : Recorded) (p g done next : ℕ) (w : Gap) → 1 ≤ p → IsNextFrom t p g done next → IsGap (only p) t w → w.from < next → w.to < next
+ends_before : (t : Recorded) (p g done next : ℕ) (w : Gap)
+    → 1 ≤ p → IsNextFrom t p g done next → IsGap (only p) t w → w.from < next → w.to < next
 ends_before t p g done next w low n gap begins = elim (cases_lt w.to next) [
   | inl l ↦ l
   | inr high ↦ (let inside = gap.inside in
       let s = n.tick.step (omega arith) in
       let own = only_member p w.proc low gap.member in
-      absurd (gap.silent next (omega arith) high (subst (λ (q : ℕ). StepsIn t next q) (sym own) (record { place = s.0; step = s.2; tick = s.3 }))))
+      absurd (gap.silent next
+      (omega arith) high (subst (λ (q : ℕ). StepsIn t next q) (sym own) (record { place = s.0; step = s.2; tick = s.3 }))))
 ]
 
 -- the gaps from tick g on are those from the next step on, and those that begin in the silence before it
-OwnGaps-grow : (t : Recorded) (p g done next : ℕ) → 1 ≤ p → p ≤ MAX_MEMBER → IsNextFrom t p g done next
-    → GrowsBy Gap (λ w. w.from) (λ w. w.from) (λ w. w.to + 1) (IsOwnGap t p next) (IsOwnGap t p g) (record { proc = p; from = g; to = next - 1 }) (next - g)
+OwnGaps-grow : (t : Recorded) (p g done next : ℕ) → 1 ≤ p → p ≤ MAX_MEMBER → IsNextFrom t p g done next → GrowsBy Gap (λ w. w.from)
+    (λ w. w.from) (λ w. w.to + 1) (IsOwnGap t p next) (IsOwnGap t p g) (record { proc = p; from = g; to = next - 1 }) (next - g)
 OwnGaps-grow t p g done next low high n =
     let start = n.start in
     let above = n.above in
@@ -89,22 +91,24 @@ OwnGaps-grow t p g done next low high n =
         omega arith,
       );
       rest = λ w o. elim (cases_lt w.from next) [
-        | inl begins ↦ inr (let ends = ends_before t p g done next w low n o.gap begins in let from = o.from in (omega arith, λ long. (omega arith)))
+        | inl begins ↦ inr (let ends = ends_before t p g done next w low n o.gap begins in
+            let from = o.from in (omega arith, λ long. (omega arith)))
         | inr later ↦ inl (record { gap = o.gap; from = later })
       ];
     }
 
 -- so the bound takes the longest of these
-pub KnowsGapsOf-from : (t : Recorded) (p g done next : ℕ) (bound : LeastBound Gap) → 1 ≤ p → p ≤ MAX_MEMBER → IsNextFrom t p g done next → KnowsGapsOf t p next bound
-    → KnowsGapsOf t p g (noted bound (record { proc = p; from = g; to = next - 1 }) (next - g))
-KnowsGapsOf-from t p g done next bound low high n k =
-    AllowsAll-noted Gap (λ w. w.from) (λ w. w.from) (λ w. w.to + 1) (IsOwnGap t p next) (IsOwnGap t p g) _ (next - g) bound (OwnGaps-grow t p g done next low high n) k
+pub KnowsGapsOf-from : (t : Recorded) (p g done next : ℕ) (bound : LeastBound Gap) → 1 ≤ p → p ≤ MAX_MEMBER → IsNextFrom t p g done next
+    → KnowsGapsOf t p next bound → KnowsGapsOf t p g (noted bound (record { proc = p; from = g; to = next - 1 }) (next - g))
+KnowsGapsOf-from t p g done next bound low high n k = AllowsAll-noted Gap (λ w. w.from)
+    (λ w. w.from) (λ w. w.to + 1) (IsOwnGap t p next) (IsOwnGap t p g) _ (next - g) bound (OwnGaps-grow t p g done next low high n) k
 
 -- no gap begins where p steps
-KnowsGapsOf-step : (t : Recorded) (p g : ℕ) (bound : LeastBound Gap) → 1 ≤ p → StepsIn t g p → KnowsGapsOf t p (g + 1) bound → KnowsGapsOf t p g bound
-KnowsGapsOf-step t p g bound low steps k = AllowsAll-same Gap (λ w. w.from) (λ w. w.from) (λ w. w.to + 1) (IsOwnGap t p (g + 1)) (IsOwnGap t p g) bound
-    (λ w o. record { gap = o.gap; from = let from = o.from in omega arith })
-    (λ w o. record { gap = o.gap; from = later w o }) k where
+KnowsGapsOf-step : (t : Recorded) (p g : ℕ) (bound : LeastBound Gap)
+    → 1 ≤ p → StepsIn t g p → KnowsGapsOf t p (g + 1) bound → KnowsGapsOf t p g bound
+KnowsGapsOf-step t p g bound low steps k = AllowsAll-same Gap
+    (λ w. w.from) (λ w. w.from) (λ w. w.to + 1) (IsOwnGap t p (g + 1)) (IsOwnGap t p g) bound
+    (λ w o. record { gap = o.gap; from = let from = o.from in omega arith }) (λ w o. record { gap = o.gap; from = later w o }) k where
       later : (w : Gap) → IsOwnGap t p g w → g + 1 ≤ w.from
       later w o = elim (cases_eq w.from g) [
         | inl e ↦ absurd (let gap = o.gap in let order = gap.order in
@@ -114,7 +118,8 @@ KnowsGapsOf-step t p g bound low steps k = AllowsAll-same Gap (λ w. w.from) (λ
       ]
 
 -- after a step of p, its next step is in a later tick
-IsNextFrom-step : (t : Recorded) → IsTimed t → (x next : ℕ) (s : Step) → step_at t.steps x ≡ Some s → IsNextTick t s.proc x next → IsNextFrom t s.proc (tick_of t x + 1) x next
+IsNextFrom-step : (t : Recorded) → IsTimed t → (x next : ℕ) (s : Step)
+    → step_at t.steps x ≡ Some s → IsNextTick t s.proc x next → IsNextFrom t s.proc (tick_of t x + 1) x next
 IsNextFrom-step t time x next s at n = record {
   start = omega arith;
   passed = λ k low own. (let rise = ticks_rise t time k x _ s own.1 at low in omega arith);
@@ -126,7 +131,8 @@ IsNextFrom-step t time x next s at n = record {
 }
 
 -- going back over a step
-module _ (t : Recorded) (time : IsTimed t) (x : ℕ) (s : Step) (at : step_at t.steps x ≡ Some s) (low : 1 ≤ s.proc) (high : s.proc ≤ t.config.n) (old : Paces) (k : KnowsPaces t x old) where
+module _ (t : Recorded) (time : IsTimed t) (x : ℕ) (s : Step)
+    (at : step_at t.steps x ≡ Some s) (low : 1 ≤ s.proc) (high : s.proc ≤ t.config.n) (old : Paces) (k : KnowsPaces t x old) where
   abbrev next : List ℕ
   next = old.next_steps.items
 
@@ -134,20 +140,29 @@ module _ (t : Recorded) (time : IsTimed t) (x : ℕ) (s : Step) (at : step_at t.
   own_bound : KnowsGapsOf t s.proc (tick_of t x) (bound_from old s.proc (tick_of t x + 1))
   own_bound =
       let few = k.few in
-      KnowsGapsOf-step t s.proc (tick_of t x) (bound_from old s.proc (tick_of t x + 1)) low (record { place = x; step = (s.act, at); tick = refl })
-      (KnowsGapsOf-from t s.proc (tick_of t x + 1) x (get_or next s.proc 0) (get_or old.bounds.items s.proc without_evidence) low (omega arith)
+      KnowsGapsOf-step t s.proc (tick_of t x) (bound_from old s.proc (tick_of t x + 1)) low
+      (record { place = x; step = (s.act, at); tick = refl })
+      (KnowsGapsOf-from t s.proc (tick_of t x + 1) x
+      (get_or next s.proc 0) (get_or old.bounds.items s.proc without_evidence) low (omega arith)
       (IsNextFrom-step t time x (get_or next s.proc 0) s at (k.next.each s.proc low high low)) (k.each s.proc low high))
 
   -- the bounds of all
-  pub bounds_back : (p : ℕ) → 1 ≤ p → p ≤ t.config.n
-      → KnowsGapsOf t p (get_or (set next s.proc (tick_of t x)) p 0) (get_or (set old.bounds.items s.proc (bound_from old s.proc (tick_of t x + 1))) p without_evidence)
+  pub bounds_back : (p : ℕ) → 1 ≤ p → p ≤ t.config.n → KnowsGapsOf t p (get_or (set next s.proc (tick_of t x)) p 0)
+      (get_or (set old.bounds.items s.proc (bound_from old s.proc (tick_of t x + 1))) p without_evidence)
   bounds_back p a b = elim (cases_eq p s.proc) [
     | inl e ↦ (let place : s.proc < length old.bounds.items = omega (arith, k.long) in
         let place' : s.proc < length next = omega (arith, k.next.long) in
-        subst (λ (q : ℕ). KnowsGapsOf t q (get_or (set next s.proc (tick_of t x)) q 0) (get_or (set old.bounds.items s.proc (bound_from old s.proc (tick_of t x + 1))) q without_evidence)) (sym e)
-        (rw (get_or-set_same next s.proc (tick_of t x) 0 place', get_or-set_same old.bounds.items s.proc (bound_from old s.proc (tick_of t x + 1)) without_evidence place) own_bound))
+        subst (λ (q : ℕ). KnowsGapsOf t q (get_or (set next s.proc (tick_of t x)) q 0)
+        (get_or (set old.bounds.items s.proc (bound_from old s.proc (tick_of t x + 1))) q without_evidence)) (sym e)
+        (rw (
+          get_or-set_same next s.proc (tick_of t x) 0 place',
+          get_or-set_same old.bounds.items s.proc (bound_from old s.proc (tick_of t x + 1)) without_evidence place,
+        ) own_bound))
     | inr ne ↦ (let other : p ≢ s.proc = ne in
-        rw (get_or-set_other next s.proc p (tick_of t x) 0 other, get_or-set_other old.bounds.items s.proc p (bound_from old s.proc (tick_of t x + 1)) without_evidence other) (k.each p a b))
+        rw (
+          get_or-set_other next s.proc p (tick_of t x) 0 other,
+          get_or-set_other old.bounds.items s.proc p (bound_from old s.proc (tick_of t x + 1)) without_evidence other,
+        ) (k.each p a b))
   ]
 
 -- after the last step there is no gap

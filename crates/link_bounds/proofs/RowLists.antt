@@ -25,7 +25,8 @@ module _ (members : ℕ) (t : Recorded) (g : ℕ) where
   phi_at (Delta q s b) row p few e = absurd (omega arith)
 
   -- the row at the place of a link is its row
-  delta_at : (r : BoundRow) → IsRow members t g r → (p q : ℕ) → q ≤ MAX_MEMBER → rank_of r ≡ RECEIVERS + place_of p q → (bound : LeastBound Miss) × (r ≡ Delta p q bound)
+  delta_at : (r : BoundRow) → IsRow members t g r → (p q : ℕ)
+      → q ≤ MAX_MEMBER → rank_of r ≡ RECEIVERS + place_of p q → (bound : LeastBound Miss) × (r ≡ Delta p q bound)
   delta_at (Phi v b) row p q few e = absurd (let range = (member_range members v row.member).1 in omega arith)
   delta_at (Delta v w b) row p q few e =
       let range = (member_range members w row.sent.1.message.receiver).1 in
@@ -44,21 +45,25 @@ module _ (members : ℕ) (t : Recorded) (g : ℕ) where
       elim (cases_lt p r) [ inl below ↦ inl below | inr above ↦ inr (omega arith, omega arith) ]
 
   -- one row more
-  pub ListsBefore-push : (k : ℕ) (rows : List BoundRow) (r : BoundRow) → IsRow members t g r → rank_of r ≡ k → ListsBefore members t g k rows → ListsBefore members t g (k + 1) (rows ++ r ∷ [])
+  pub ListsBefore-push : (k : ℕ) (rows : List BoundRow) (r : BoundRow)
+      → IsRow members t g r → rank_of r ≡ k → ListsBefore members t g k rows → ListsBefore members t g (k + 1) (rows ++ r ∷ [])
   ListsBefore-push k rows r row place lists = record {
     right = λ o c. elim (Contains-push_cases rows r o c) [
       | inl old ↦ (let h = lists.right o old in let below = h.1 in (h.0, omega arith))
       | inr same ↦ subst (λ (v : BoundRow). IsRow members t g v × (rank_of v < k + 1)) same (row, omega arith)
     ];
     processors = λ p m l. elim (cases_eq k p) [
-      | inl e ↦ (let at = phi_at r row p (member_range members p m).1 (place ∙ e) in (at.0, subst (λ (v : BoundRow). Contains (rows ++ r ∷ []) v) at.1 (Contains-push rows r)))
+      | inl e ↦ (let at = phi_at r row p (member_range members p m).1 (place ∙ e) in
+          (at.0, subst (λ (v : BoundRow). Contains (rows ++ r ∷ []) v) at.1 (Contains-push rows r)))
       | inr ne ↦ (let old = lists.processors p m (omega (arith, ne)) in (old.0, Contains-append_left rows (r ∷ []) _ old.1))
     ];
     links = λ p q s sent l. elim (cases_eq k (RECEIVERS + place_of p q)) [
-      | inl e ↦ (let at = delta_at r row p q (member_range members q sent.message.receiver).1 (place ∙ e) in (at.0, subst (λ (v : BoundRow). Contains (rows ++ r ∷ []) v) at.1 (Contains-push rows r)))
+      | inl e ↦ (let at = delta_at r row p q (member_range members q sent.message.receiver).1 (place ∙ e) in
+          (at.0, subst (λ (v : BoundRow). Contains (rows ++ r ∷ []) v) at.1 (Contains-push rows r)))
       | inr ne ↦ (let old = lists.links p q s sent (omega (arith, ne)) in (old.0, Contains-append_left rows (r ∷ []) _ old.1))
     ];
-    ordered = all_pairs_push Precedes rows r lists.ordered (λ i d u. (let h = lists.right (get_or rows i d) (Contains-get_or rows i d u) in let below = h.1 in precedes_later (get_or rows i d) r h.0 row (omega arith)));
+    ordered = all_pairs_push Precedes rows r lists.ordered (λ i d u. (let h = lists.right (get_or rows i d) (Contains-get_or rows i d u) in
+        let below = h.1 in precedes_later (get_or rows i d) r h.0 row (omega arith)));
   }
 
   -- no row at this place
@@ -79,7 +84,8 @@ module _ (members : ℕ) (t : Recorded) (g : ℕ) where
   }
 
   -- the rows before the last place are all
-  pub AreRows-from_lists : (k : ℕ) (rows : List BoundRow) → IsWithin members t.config.n → RECEIVERS + (t.config.n + 1) * RECEIVERS ≤ k → ListsBefore members t g k rows → AreRows members t g rows
+  pub AreRows-from_lists : (k : ℕ) (rows : List BoundRow) → IsWithin members t.config.n
+      → RECEIVERS + (t.config.n + 1) * RECEIVERS ≤ k → ListsBefore members t g k rows → AreRows members t g rows
   AreRows-from_lists k rows within all lists = record {
     right = λ r c. (lists.right r c).0;
     processors = λ p m. lists.processors p m (let range = (member_range members p m).1 in omega arith);

@@ -10,7 +10,8 @@ use Rattle.lock_phases.proofs.HeardProcessors.{heard-few, heard-many}
 use Rattle.lock_phases.proofs.RoundLaws.{part_at-acknowledging, next-in, with_proper_heard}
 
 -- an acknowledging round changes no lock, and clears the proposal and what is owed
-pub acknowledging-keeps : (c : Setup) (s : State) (me round : ℕ) (heard : List Message) → part_of round ≡ 3 → AcknowledgingKeeps s (next c s me round heard)
+pub acknowledging-keeps : (c : Setup) (s : State) (me round : ℕ) (heard : List Message)
+    → part_of round ≡ 3 → AcknowledgingKeeps s (next c s me round heard)
 acknowledging-keeps c s me round heard e =
     let n = next-in Acknowledging c s me round heard (part_at-acknowledging round e) in
     record {
@@ -20,8 +21,8 @@ acknowledging-keeps c s me round heard e =
     }
 
 -- An owner with a proposal and more than t acknowledgements has decided.
-pub acknowledging-decided : (c : Setup) (s : State) (round : ℕ) (heard : List Message) (v : ℕ) → part_of round ≡ 3 → s.proposal ≡ Some v → c.t + 1 ≤ acks heard
-    → (next c s (owner c.n (phase_of round)) round heard).decision ≡ Some (unwrap_or s.decision v)
+pub acknowledging-decided : (c : Setup) (s : State) (round : ℕ) (heard : List Message) (v : ℕ) → part_of round ≡ 3 → s.proposal ≡ Some v
+    → c.t + 1 ≤ acks heard → (next c s (owner c.n (phase_of round)) round heard).decision ≡ Some (unwrap_or s.decision v)
 acknowledging-decided c s round heard v e p enough =
     ap (λ (x : State). x.decision) (next-in Acknowledging c s o round heard (part_at-acknowledging round e))
     ∙ decided (eqb o o) _ s.proposal s.decision (eq-eqb o o refl) (le-leb (c.t + 1) (acks heard) enough) p

@@ -56,8 +56,8 @@ count_by-filter_map {Y = Y} p q h (x ∷ xs) f =
 pub count_by-le_filter_map : {X Y : Type 0} (p : Y → Bool) (q : X → Bool) (h : X → Option Y) (xs : List X)
     → ((x : X) → Contains xs x → q x ≡ true → (y : Y) × (h x ≡ Some y) × (p y ≡ true)) → count_by q xs ≤ count_by p (filter_map h xs)
 count_by-le_filter_map p q h [] f = omega arith
-count_by-le_filter_map {Y = Y} p q h (x ∷ xs) f =
-    rw (count_by-cons q x xs) (go (q x) (h x) (f x (Contains-head x xs)) (count_by-le_filter_map p q h xs (λ z d t. f z (Contains-rest x z xs d) t)))
+count_by-le_filter_map {Y = Y} p q h (x ∷ xs) f = rw (count_by-cons q x xs)
+    (go (q x) (h x) (f x (Contains-head x xs)) (count_by-le_filter_map p q h xs (λ z d t. f z (Contains-rest x z xs d) t)))
   where
     passes : (y z : Y) → Some y ≡ Some z → p z ≡ true → p y ≡ true
     passes y z e t = let same : y ≡ z = cc in ap p same ∙ t

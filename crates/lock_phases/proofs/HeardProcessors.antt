@@ -16,8 +16,8 @@ heard-few n heard_of says is f =
 -- as many pass as processors are heard to
 pub heard-many : (c : Setup) (heard_of : ℕ → Option Message) (says : Message → Bool) (is : ℕ → Bool)
     → ((j : ℕ) → IsProc c j → is j ≡ true → IsHeardToSay heard_of says j) → number_of c.n is ≤ count_by says (heard_from c.n heard_of)
-heard-many c heard_of says is f =
-    count_by-le_filter_map says is heard_of (range_with_len 1 c.n) (λ j d t. let h = f j (processor j d) t in (h.message, h.is_heard, h.said))
+heard-many c heard_of says is f = count_by-le_filter_map says is heard_of
+    (range_with_len 1 c.n) (λ j d t. let h = f j (processor j d) t in (h.message, h.is_heard, h.said))
   where
     processor : (j : ℕ) → Contains (range_with_len 1 c.n) j → IsProc c j
     processor j d =

@@ -13,7 +13,8 @@ use Rattle.lock_phases.proofs.QuorumLaws.{IsLeastListed-from_some, least_listed-
 use Rattle.lock_phases.proofs.HeardProcessors.{heard-few, heard-many}
 
 -- a listing round changes no lock, no decision and nothing that is owed
-pub listing-keeps : (c : Setup) (s : State) (me round : ℕ) (heard : List Message) → part_of round ≡ 1 → ListingKeeps s (next c s me round heard)
+pub listing-keeps : (c : Setup) (s : State) (me round : ℕ) (heard : List Message)
+    → part_of round ≡ 1 → ListingKeeps s (next c s me round heard)
 listing-keeps c s me round heard e =
     let n = next-in Listing c s me round heard (part_at-listing round e) in
     record {
@@ -55,14 +56,14 @@ quorum-positive c setup = let least = setup.least in let faults = setup.faults i
 -- The proposal is the least value in at least N - t of the lists heard, and there is none only if no value is.
 pub listing-proposal : (c : Setup) (s : State) (round : ℕ) (heard : List Message) → IsSetup c → part_of round ≡ 1
     → IsProposal (c.n - c.t) heard (next c s (owner c.n (phase_of round)) round heard).proposal
-listing-proposal c s round heard setup e =
-    subst (IsProposal (c.n - c.t) heard) (sym (listing-least c s round heard e)) (IsProposal-least_listed (c.n - c.t) heard (quorum-positive c setup))
+listing-proposal c s round heard setup e = subst (IsProposal (c.n - c.t) heard)
+    (sym (listing-least c s round heard e)) (IsProposal-least_listed (c.n - c.t) heard (quorum-positive c setup))
 
 -- A value that N - t processors are heard to list makes a proposal.
 pub listing-quorum : (c : Setup) (s : State) (round : ℕ) (heard_of : ℕ → Option Message) → IsSetup c → part_of round ≡ 1
     → IsMadeByQuorum c heard_of (next c s (owner c.n (phase_of round)) round (heard_from c.n heard_of)).proposal
-listing-quorum c s round heard_of setup e v lists_it enough heard =
-    go (next c s (owner c.n (phase_of round)) round (heard_from c.n heard_of)).proposal (listing-proposal c s round (heard_from c.n heard_of) setup e)
+listing-quorum c s round heard_of setup e v lists_it enough heard = go (next c s
+    (owner c.n (phase_of round)) round (heard_from c.n heard_of)).proposal (listing-proposal c s round (heard_from c.n heard_of) setup e)
   where
     go : (o : Option ℕ) → IsProposal (c.n - c.t) (heard_from c.n heard_of) o → is_some o ≡ true
     go None none = absurd (omega (arith, none v, heard-many c heard_of (listing v) lists_it heard))
@@ -72,9 +73,11 @@ listing-quorum c s round heard_of setup e v lists_it enough heard =
 pub listing-refused : (c : Setup) (s : State) (round : ℕ) (heard_of : ℕ → Option Message) → IsSetup c → part_of round ≡ 1
     → IsRefusedByFew c heard_of (next c s (owner c.n (phase_of round)) round (heard_from c.n heard_of)).proposal
 listing-refused c s round heard_of setup e w refuses proposes silent =
-    let quorum = (subst (IsProposal (c.n - c.t) (heard_from c.n heard_of)) proposes (listing-proposal c s round (heard_from c.n heard_of) setup e)).quorum_lists in
+    let quorum = (subst (IsProposal (c.n - c.t) (heard_from c.n heard_of)) proposes
+    (listing-proposal c s round (heard_from c.n heard_of) setup e)).quorum_lists in
     let listed = heard-few c.n heard_of (listing w) (λ j. not (refuses j))
     (λ j h. ap not (false_from_ne_true (refuses j) (λ r. silent j r h))) in
-    let apart = count_by-disjoint (λ j. not (refuses j)) refuses (range_with_len 1 c.n) (λ j a b. let clash = sym (not-true (refuses j) a) ∙ b in cc) in
+    let apart = count_by-disjoint (λ j. not (refuses j)) refuses
+    (range_with_len 1 c.n) (λ j a b. let clash = sym (not-true (refuses j) a) ∙ b in cc) in
     let faults = setup.faults in
     omega (arith, length-range_with_len 1 c.n)

@@ -46,29 +46,29 @@ Contains-put_lock_new v p (x ∷ xs) = go (ltb v (value_of x)) (eqb v (value_of 
 pub Contains-put_lock_old : (v p : ℕ) (locks : List LockPair) (z : LockPair) → Contains locks z → (value_of z ≡ v → ⊥)
     → Contains (put_lock v p locks) z
 Contains-put_lock_old v p [] z c n = absurd (Contains-nil z c)
-Contains-put_lock_old v p (x ∷ xs) z c n = go (ltb v (value_of x)) (eqb v (value_of x)) refl (Contains-cons_cases x z xs c) (λ h. Contains-put_lock_old v p xs z h n)
-  where
-    go : (b d : Bool) → eqb v (value_of x) ≡ d → (z ≡ x) ⊎ Contains xs z
-        → (Contains xs z → Contains (put_lock v p xs) z)
-        → Contains (cond b ((v, p) ∷ x ∷ xs) (cond d ((v, p) ∷ xs) (x ∷ put_lock v p xs))) z
-    go true d e (inl h) f = Contains-rest (v, p) z (x ∷ xs) (zero, omega arith, sym h)
-    go true d e (inr h) f = Contains-rest (v, p) z (x ∷ xs) (Contains-rest x z xs h)
-    go false true e (inl h) f = absurd (n (ap value_of h ∙ sym (eqb-true v (value_of x) e)))
-    go false true e (inr h) f = Contains-rest (v, p) z xs h
-    go false false e (inl h) f = (zero, omega arith, sym h)
-    go false false e (inr h) f = Contains-rest x z (put_lock v p xs) (f h)
+Contains-put_lock_old v p (x ∷ xs) z c n = go (ltb v (value_of x))
+    (eqb v (value_of x)) refl (Contains-cons_cases x z xs c) (λ h. Contains-put_lock_old v p xs z h n) where
+      go : (b d : Bool) → eqb v (value_of x) ≡ d → (z ≡ x) ⊎ Contains xs z
+          → (Contains xs z → Contains (put_lock v p xs) z)
+          → Contains (cond b ((v, p) ∷ x ∷ xs) (cond d ((v, p) ∷ xs) (x ∷ put_lock v p xs))) z
+      go true d e (inl h) f = Contains-rest (v, p) z (x ∷ xs) (zero, omega arith, sym h)
+      go true d e (inr h) f = Contains-rest (v, p) z (x ∷ xs) (Contains-rest x z xs h)
+      go false true e (inl h) f = absurd (n (ap value_of h ∙ sym (eqb-true v (value_of x) e)))
+      go false true e (inr h) f = Contains-rest (v, p) z xs h
+      go false false e (inl h) f = (zero, omega arith, sym h)
+      go false false e (inr h) f = Contains-rest x z (put_lock v p xs) (f h)
 
 -- no value but an acceptable one is locked
 pub is_acceptable-locked : (locks : List LockPair) (v : ℕ) (z : LockPair) → is_acceptable locks v ≡ true
     → Contains locks z → value_of z ≡ v
 is_acceptable-locked [] v z a c = absurd (Contains-nil z c)
-is_acceptable-locked (x ∷ xs) v z a c = go (eqb (value_of x) v) refl a (Contains-cons_cases x z xs c) (λ t h. is_acceptable-locked xs v z t h)
-  where
-    go : (b : Bool) → eqb (value_of x) v ≡ b → (b && is_acceptable xs v) ≡ true → (z ≡ x) ⊎ Contains xs z
-        → (is_acceptable xs v ≡ true → Contains xs z → value_of z ≡ v) → value_of z ≡ v
-    go true e t (inl h) f = ap value_of h ∙ eqb-true (value_of x) v e
-    go true e t (inr h) f = f t h
-    go false e t h f = cc
+is_acceptable-locked (x ∷ xs) v z a c = go (eqb (value_of x) v) refl a
+    (Contains-cons_cases x z xs c) (λ t h. is_acceptable-locked xs v z t h) where
+      go : (b : Bool) → eqb (value_of x) v ≡ b → (b && is_acceptable xs v) ≡ true → (z ≡ x) ⊎ Contains xs z
+          → (is_acceptable xs v ≡ true → Contains xs z → value_of z ≡ v) → value_of z ≡ v
+      go true e t (inl h) f = ap value_of h ∙ eqb-true (value_of x) v e
+      go true e t (inr h) f = f t h
+      go false e t h f = cc
 
 -- a value is acceptable if no other is locked
 pub is_acceptable-from_locks : (locks : List LockPair) (v : ℕ) → ((z : LockPair) → Contains locks z → value_of z ≡ v)
@@ -92,7 +92,8 @@ heard_lock-from_owner owner (m ∷ rest) v e = go (eqb (sender_of m) owner) refl
     go : (b : Bool) → eqb (sender_of m) owner ≡ b
         → cond b (locked_value (body_of m).kind) (heard_lock owner rest) ≡ Some v
         → (heard_lock owner rest ≡ Some v → IsToldToLock owner rest v) → IsToldToLock owner (m ∷ rest) v
-    go true t h f = record { message = m; is_heard = Contains-head m rest; sender = eqb-true (sender_of m) owner t; kind = lock_is (body_of m).kind h }
+    go true t h f =
+        record { message = m; is_heard = Contains-head m rest; sender = eqb-true (sender_of m) owner t; kind = lock_is (body_of m).kind h }
     go false t h f =
         let told = f h in
         record {

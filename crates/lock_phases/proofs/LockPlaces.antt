@@ -25,14 +25,14 @@ pub put_lock-held : (v p : ℕ) (xs : List LockPair) (i : ℕ) (d : LockPair) �
     → put_lock v p xs ≡ set xs i (v, p)
 put_lock-held v p [] i d l b e = absurd (omega arith)
 put_lock-held v p (x ∷ xs) zero d l b e = put_lock-same v p x xs e
-put_lock-held v p (x ∷ xs) (suc i) d l b e =
-    rw (put_lock-above v p x xs (b zero d (omega arith))) (ap (λ ys. x ∷ ys) (put_lock-held v p xs i d (omega arith) (λ k c h. b (suc k) c (omega arith)) e))
+put_lock-held v p (x ∷ xs) (suc i) d l b e = rw (put_lock-above v p x xs (b zero d (omega arith)))
+    (ap (λ ys. x ∷ ys) (put_lock-held v p xs i d (omega arith) (λ k c h. b (suc k) c (omega arith)) e))
 
 -- a lock on v belongs at place i
-pub put_lock-fresh : (v p : ℕ) (xs : List LockPair) (i : ℕ) (d : LockPair) → i ≤ length xs → AreBelow v xs i → (i < length xs → v < value_of (get_or xs i d))
-    → put_lock v p xs ≡ insert xs i (v, p)
+pub put_lock-fresh : (v p : ℕ) (xs : List LockPair) (i : ℕ) (d : LockPair)
+    → i ≤ length xs → AreBelow v xs i → (i < length xs → v < value_of (get_or xs i d)) → put_lock v p xs ≡ insert xs i (v, p)
 put_lock-fresh v p [] zero d l b a = refl
 put_lock-fresh v p [] (suc i) d l b a = absurd (omega arith)
 put_lock-fresh v p (x ∷ xs) zero d l b a = put_lock-below v p x xs (a (omega arith))
-put_lock-fresh v p (x ∷ xs) (suc i) d l b a =
-    rw (put_lock-above v p x xs (b zero d (omega arith))) (ap (λ ys. x ∷ ys) (put_lock-fresh v p xs i d (omega arith) (λ k c h. b (suc k) c (omega arith)) (λ h. a (omega arith))))
+put_lock-fresh v p (x ∷ xs) (suc i) d l b a = rw (put_lock-above v p x xs (b zero d (omega arith)))
+    (ap (λ ys. x ∷ ys) (put_lock-fresh v p xs i d (omega arith) (λ k c h. b (suc k) c (omega arith)) (λ h. a (omega arith))))

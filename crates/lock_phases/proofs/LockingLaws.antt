@@ -23,7 +23,8 @@ after_locking-keeps s phase None = record { proper = refl; proposal = refl; deci
 after_locking-keeps s phase (Some v) = record { proper = refl; proposal = refl; decision = refl }
 
 -- a locking round changes no proposal or decision
-pub locking-keeps : (c : Setup) (s : State) (me round : ℕ) (heard : List Message) → part_of round ≡ 2 → LockingKeeps s (next c s me round heard)
+pub locking-keeps : (c : Setup) (s : State) (me round : ℕ) (heard : List Message)
+    → part_of round ≡ 2 → LockingKeeps s (next c s me round heard)
 locking-keeps c s me round heard e =
     let n = next-in Locking c s me round heard (part_at-locking round e) in
     let k = after_locking-keeps (with_proper_heard s heard) (phase_of round) (heard_lock (owner c.n (phase_of round)) heard) in
@@ -49,12 +50,14 @@ locking-locks c s me round heard e = subst (λ x. LockingLocks s x o k heard) (s
 
     fresh : (v : ℕ) → heard_lock o heard ≡ Some v → (lock : LockPair) → (lock ≡ (v, k)) ⊎ Contains s.locks lock
         → Contains s.locks lock ⊎ ((phase_of_lock lock ≡ k) × IsToldToLock o heard (value_of lock))
-    fresh v h lock (inl p) = inr (ap phase_of_lock p, subst (IsToldToLock o heard) (sym (ap value_of p)) (heard_lock-from_owner o heard v h))
+    fresh v h lock (inl p) =
+        inr (ap phase_of_lock p, subst (IsToldToLock o heard) (sym (ap value_of p)) (heard_lock-from_owner o heard v h))
     fresh v h lock (inr c) = inl c
 
     held : (v : ℕ) (lock : LockPair) → Contains s.locks lock → (b : Bool) → eqb (value_of lock) v ≡ b
         → Contains (put_lock v k s.locks) lock ⊎ Contains (put_lock v k s.locks) (value_of lock, k)
-    held v lock c true t = inr (subst (λ x. Contains (put_lock v k s.locks) (x, k)) (sym (eqb-true (value_of lock) v t)) (Contains-put_lock_new v k s.locks))
+    held v lock c true t =
+        inr (subst (λ x. Contains (put_lock v k s.locks) (x, k)) (sym (eqb-true (value_of lock) v t)) (Contains-put_lock_new v k s.locks))
     held v lock c false t = inl (Contains-put_lock_old v k s.locks lock c (λ h. let clash = sym (eq-eqb (value_of lock) v h) ∙ t in cc))
 
     go : (a : Option ℕ) → heard_lock o heard ≡ a → LockingLocks s (after_locking (with_proper_heard s heard) k a) o k heard
@@ -81,15 +84,16 @@ locking-untold c s me round heard e silent = subst (IsUntold s) (sym n) (go (hea
     go (Some v) h = absurd (silent v (heard_lock-from_owner o heard v h))
 
 -- who hears the owner's Lock locks its value in this phase
-locking-puts : (c : Setup) (s : State) (me round : ℕ) (heard : List Message) (v : ℕ) → part_of round ≡ 2 → IsStrictlyIncreasing (map sender_of heard)
-    → IsToldToLock (owner c.n (phase_of round)) heard v → next c s me round heard ≡ after_locking (with_proper_heard s heard) (phase_of round) (Some v)
+locking-puts : (c : Setup) (s : State) (me round : ℕ) (heard : List Message) (v : ℕ)
+    → part_of round ≡ 2 → IsStrictlyIncreasing (map sender_of heard) → IsToldToLock (owner c.n (phase_of round)) heard v
+    → next c s me round heard ≡ after_locking (with_proper_heard s heard) (phase_of round) (Some v)
 locking-puts c s me round heard v e rise told =
     next-in Locking c s me round heard (part_at-locking round e)
     ∙ ap (after_locking (with_proper_heard s heard) (phase_of round)) (heard_lock-told (owner c.n (phase_of round)) heard v rise told)
 
 -- It holds the lock then, and owes an acknowledgement.
-pub locking-told : (c : Setup) (s : State) (me round : ℕ) (heard : List Message) (v : ℕ) → part_of round ≡ 2 → IsStrictlyIncreasing (map sender_of heard)
-    → IsToldToLock (owner c.n (phase_of round)) heard v → Obeys (next c s me round heard) v (phase_of round)
+pub locking-told : (c : Setup) (s : State) (me round : ℕ) (heard : List Message) (v : ℕ) → part_of round ≡ 2 → IsStrictlyIncreasing
+    (map sender_of heard) → IsToldToLock (owner c.n (phase_of round)) heard v → Obeys (next c s me round heard) v (phase_of round)
 locking-told c s me round heard v e rise told =
     subst (λ x. Obeys x v (phase_of round)) (sym (locking-puts c s me round heard v e rise told))
     (record { lock = Contains-put_lock_new v (phase_of round) s.locks; owes_ack = refl })
@@ -100,5 +104,5 @@ pub locking-replaced : (c : Setup) (s : State) (me round : ℕ) (heard : List Me
     → IsLockedOnce (next c s me round heard).locks v (phase_of round)
 locking-replaced c s me round heard v e rising rise told =
     subst (λ (x : State). IsLockedOnce x.locks v (phase_of round)) (sym (locking-puts c s me round heard v e rise told))
-    (λ lock d on_v. ap phase_of_lock (same_lock (put_lock v (phase_of round) s.locks)
-    (IsStrictlyIncreasing-put_lock v (phase_of round) s.locks rising.locks) lock (v, phase_of round) d (Contains-put_lock_new v (phase_of round) s.locks) on_v))
+    (λ lock d on_v. ap phase_of_lock (same_lock (put_lock v (phase_of round) s.locks) (IsStrictlyIncreasing-put_lock v
+    (phase_of round) s.locks rising.locks) lock (v, phase_of round) d (Contains-put_lock_new v (phase_of round) s.locks) on_v))

@@ -23,7 +23,8 @@ count_by-found {X} p xs l = go (filter p xs) refl (rw (length-filter p xs) l)
     go (y ∷ ys) e h = let r = Contains-from_filter p xs y (subst (λ zs. Contains zs y) (sym e) (Contains-head y ys)) in (y, r.0, r.1)
 
 -- what is in the list of an element is in the joined lists
-pub Contains-flat_map : {X A : Type 0} (f : X → List A) (xs : List X) (x : X) (a : A) → Contains xs x → Contains (f x) a → Contains (flat_map f xs) a
+pub Contains-flat_map : {X A : Type 0} (f : X → List A) (xs : List X) (x : X) (a : A)
+    → Contains xs x → Contains (f x) a → Contains (flat_map f xs) a
 Contains-flat_map f [] x a c d = absurd (Contains-nil x c)
 Contains-flat_map f (y ∷ ys) x a c d = elim (Contains-cons_cases y x ys c) [
   | inl e ↦ Contains-append_left (f y) (flat_map f ys) a (subst (λ z. Contains (f z) a) e d)
@@ -31,7 +32,8 @@ Contains-flat_map f (y ∷ ys) x a c d = elim (Contains-cons_cases y x ys c) [
 ]
 
 -- what is given comes from an element
-pub Contains-from_filter_map : {X Y : Type 0} (h : X → Option Y) (xs : List X) (y : Y) → Contains (filter_map h xs) y → (x : X) × Contains xs x × (h x ≡ Some y)
+pub Contains-from_filter_map : {X Y : Type 0} (h : X → Option Y) (xs : List X) (y : Y)
+    → Contains (filter_map h xs) y → (x : X) × Contains xs x × (h x ≡ Some y)
 Contains-from_filter_map h [] y c = absurd (Contains-nil y c)
 Contains-from_filter_map {X} {Y} h (x ∷ xs) y c = go (h x) refl c (λ d. Contains-from_filter_map h xs y d)
   where
@@ -47,18 +49,21 @@ Contains-from_filter_map {X} {Y} h (x ∷ xs) y c = go (h x) refl c (λ d. Conta
     ]
 
 -- an element gives what is given
-pub Contains-filter_map : {X Y : Type 0} (h : X → Option Y) (xs : List X) (x : X) (y : Y) → Contains xs x → h x ≡ Some y → Contains (filter_map h xs) y
+pub Contains-filter_map : {X Y : Type 0} (h : X → Option Y) (xs : List X) (x : X) (y : Y)
+    → Contains xs x → h x ≡ Some y → Contains (filter_map h xs) y
 Contains-filter_map h [] x y c e = absurd (Contains-nil x c)
 Contains-filter_map {X} {Y} h (z ∷ xs) x y c e = go (h z) refl (Contains-cons_cases z x xs c) (λ d. Contains-filter_map h xs x y d e)
   where
-    go : (o : Option Y) → h z ≡ o → (x ≡ z) ⊎ Contains xs x → (Contains xs x → Contains (filter_map h xs) y) → Contains (cons_option o (filter_map h xs)) y
+    go : (o : Option Y) → h z ≡ o → (x ≡ z) ⊎ Contains xs x
+        → (Contains xs x → Contains (filter_map h xs) y) → Contains (cons_option o (filter_map h xs)) y
     go None s (inl d) f = let clash = sym s ∙ ap h (sym d) ∙ e in cc
     go None s (inr d) f = f d
     go (Some w) s (inl d) f = let g : Some w ≡ Some y = sym s ∙ ap h (sym d) ∙ e in let same : w ≡ y = cc in (zero, omega arith, same)
     go (Some w) s (inr d) f = Contains-rest w y (filter_map h xs) (f d)
 
 -- what is in the joined lists is in the list of an element
-pub Contains-from_flat_map : {X A : Type 0} (f : X → List A) (xs : List X) (a : A) → Contains (flat_map f xs) a → (x : X) × Contains xs x × Contains (f x) a
+pub Contains-from_flat_map : {X A : Type 0} (f : X → List A) (xs : List X) (a : A)
+    → Contains (flat_map f xs) a → (x : X) × Contains xs x × Contains (f x) a
 Contains-from_flat_map f [] a c = absurd (Contains-nil a c)
 Contains-from_flat_map f (x ∷ xs) a c = elim (Contains-append_cases (f x) (flat_map f xs) a c) [
   | inl d ↦ (x, Contains-head x xs, d)

@@ -24,7 +24,8 @@ proper-next c s me round heard = go (part_at (part_of round))
     go Releasing = refl
 
 -- PROPER takes in each PROPER that was heard, and nothing else
-pub proper-taken_in : (c : Setup) (s : State) (me round : ℕ) (heard : List Message) → TakesIn heard s.proper (next c s me round heard).proper
+pub proper-taken_in : (c : Setup) (s : State) (me round : ℕ) (heard : List Message)
+    → TakesIn heard s.proper (next c s me round heard).proper
 proper-taken_in c s me round heard = subst (TakesIn heard s.proper) (sym (proper-next c s me round heard)) (record {
   stays = Contains-take_in_old s.proper heard;
   taken = Contains-take_in_heard s.proper heard;
@@ -50,7 +51,8 @@ proposal-origin c s me round heard v d = go (part_at (part_of round)) d
     go : (part : Part) → (next_in part c (with_proper_heard s heard) me (phase_of round) heard).proposal ≡ Some v
         → (s.proposal ≡ Some v) ⊎ IsHeardListed heard v
     go Listing e = listed _ (eqb me (owner c.n (phase_of round))) e
-    go Locking e = inl (sym (after_locking-keeps (with_proper_heard s heard) (phase_of round) (heard_lock (owner c.n (phase_of round)) heard)).proposal ∙ e)
+    go Locking e = inl (sym (after_locking-keeps (with_proper_heard s heard)
+        (phase_of round) (heard_lock (owner c.n (phase_of round)) heard)).proposal ∙ e)
     go Acknowledging e = cc
     go Releasing e = inl e
 
@@ -64,14 +66,17 @@ decision-origin c s me round heard v d = go (part_at (part_of round)) d
     taken true e = inr e
     taken false e = inl e
 
-    go : (part : Part) → (next_in part c (with_proper_heard s heard) me (phase_of round) heard).decision ≡ Some v → (s.decision ≡ Some v) ⊎ (s.proposal ≡ Some v)
+    go : (part : Part) → (next_in part c (with_proper_heard s heard) me (phase_of round) heard).decision ≡ Some v
+        → (s.decision ≡ Some v) ⊎ (s.proposal ≡ Some v)
     go Listing e = inl e
-    go Locking e = inl (sym (after_locking-keeps (with_proper_heard s heard) (phase_of round) (heard_lock (owner c.n (phase_of round)) heard)).decision ∙ e)
+    go Locking e = inl (sym (after_locking-keeps (with_proper_heard s heard)
+        (phase_of round) (heard_lock (owner c.n (phase_of round)) heard)).decision ∙ e)
     go Acknowledging e = taken _ e
     go Releasing e = inl e
 
 -- the first decision stays
-pub decision-stays : (c : Setup) (s : State) (me round : ℕ) (heard : List Message) (v : ℕ) → s.decision ≡ Some v → (next c s me round heard).decision ≡ Some v
+pub decision-stays : (c : Setup) (s : State) (me round : ℕ) (heard : List Message) (v : ℕ)
+    → s.decision ≡ Some v → (next c s me round heard).decision ≡ Some v
 unfolding next
 decision-stays c s me round heard v d = go (part_at (part_of round))
   where
@@ -83,7 +88,8 @@ decision-stays c s me round heard v d = go (part_at (part_of round))
 
     go : (part : Part) → (next_in part c (with_proper_heard s heard) me (phase_of round) heard).decision ≡ Some v
     go Listing = d
-    go Locking = (after_locking-keeps (with_proper_heard s heard) (phase_of round) (heard_lock (owner c.n (phase_of round)) heard)).decision ∙ d
+    go Locking =
+        (after_locking-keeps (with_proper_heard s heard) (phase_of round) (heard_lock (owner c.n (phase_of round)) heard)).decision ∙ d
     go Acknowledging = first (eqb me (owner c.n (phase_of round))) (is_some s.proposal) _ s.decision d
     go Releasing = d
 

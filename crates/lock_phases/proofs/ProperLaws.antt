@@ -82,7 +82,8 @@ Contains-take_in_cases known (m ∷ rest) z c =
 pub Contains-take_in_old : (known : List ℕ) (heard : List Message) (z : ℕ) → Contains known z
     → Contains (take_in known heard) z
 Contains-take_in_old known [] z c = c
-Contains-take_in_old known (m ∷ rest) z c = Contains-take_in_old (insert_values known (body_of m).proper) rest z (Contains-insert_values_old known (body_of m).proper z c)
+Contains-take_in_old known (m ∷ rest) z c = Contains-take_in_old
+    (insert_values known (body_of m).proper) rest z (Contains-insert_values_old known (body_of m).proper z c)
 
 -- a value of a PROPER that was heard is taken in
 pub Contains-take_in_heard : (known : List ℕ) (heard : List Message) (m : Message) (z : ℕ) → Contains heard m

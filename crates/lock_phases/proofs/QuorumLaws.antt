@@ -30,7 +30,11 @@ fold-lesser : (a : ℕ) (xs : List ℕ) (v : ℕ) → fold lesser (Some a) xs �
 fold-lesser a [] v e = let same : v ≡ a = cc in record { member = inl same; below = omega arith; each = λ u c. absurd (Contains-nil u c) }
 fold-lesser a (x ∷ xs) v e =
     let r = fold-lesser (min a x) xs v e in
-    record { member = place r.member; below = (let l = r.below in omega arith); each = λ u c. bound u r.below r.each (Contains-cons_cases x u xs c) }
+    record {
+      member = place r.member;
+      below = (let l = r.below in omega arith);
+      each = λ u c. bound u r.below r.each (Contains-cons_cases x u xs c);
+    }
   where
     place : (v ≡ min a x) ⊎ Contains xs v → (v ≡ a) ⊎ Contains (x ∷ xs) v
     place (inr h) = inr (Contains-rest x v xs h)
@@ -72,23 +76,27 @@ candidate quorum heard u l q =
     (le-leb quorum (count_by (λ m. lists m u) heard) q)
 
 -- what an owner finds is the least that is in enough lists
-pub IsLeastListed-from_some : (quorum : ℕ) (heard : List Message) (v : ℕ) → 1 ≤ quorum → least_listed quorum heard ≡ Some v → IsLeastListed quorum heard v
+pub IsLeastListed-from_some : (quorum : ℕ) (heard : List Message) (v : ℕ)
+    → 1 ≤ quorum → least_listed quorum heard ≡ Some v → IsLeastListed quorum heard v
 IsLeastListed-from_some quorum heard v l e =
     let values = filter (has_quorum quorum heard) (flat_map (λ m. listed_values (body_of m).kind) heard) in
-    let passes = Contains-from_filter (has_quorum quorum heard) (flat_map (λ m. listed_values (body_of m).kind) heard) v (least-member values v e) in
+    let passes = Contains-from_filter (has_quorum quorum heard)
+    (flat_map (λ m. listed_values (body_of m).kind) heard) v (least-member values v e) in
     record {
       quorum_lists = leb-true quorum (count_by (λ m. lists m v) heard) passes.1;
       no_lesser = λ u q. least-each values v u e (candidate quorum heard u l q);
     }
 
 -- if some value is in enough lists, there is a least one
-pub least_listed-not_None : (quorum : ℕ) (heard : List Message) (u : ℕ) → 1 ≤ quorum → quorum ≤ count_by (λ m. lists m u) heard → least_listed quorum heard ≡ None → ⊥
+pub least_listed-not_None : (quorum : ℕ) (heard : List Message) (u : ℕ)
+    → 1 ≤ quorum → quorum ≤ count_by (λ m. lists m u) heard → least_listed quorum heard ≡ None → ⊥
 least_listed-not_None quorum heard u l q e =
     let values = filter (has_quorum quorum heard) (flat_map (λ m. listed_values (body_of m).kind) heard) in
     Contains-nil u (subst (λ xs. Contains xs u) (least-none values e) (candidate quorum heard u l q))
 
 -- a proposed value is in a list that was heard
-pub least_listed-listed : (quorum : ℕ) (heard : List Message) (v : ℕ) → least_listed quorum heard ≡ Some v → (m : Message) × Contains heard m × Contains (listed_values (body_of m).kind) v
+pub least_listed-listed : (quorum : ℕ) (heard : List Message) (v : ℕ)
+    → least_listed quorum heard ≡ Some v → (m : Message) × Contains heard m × Contains (listed_values (body_of m).kind) v
 least_listed-listed quorum heard v e =
     let values = flat_map (λ m. listed_values (body_of m).kind) heard in
     Contains-from_flat_map (λ m. listed_values (body_of m).kind) heard v

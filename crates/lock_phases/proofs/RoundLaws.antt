@@ -50,7 +50,8 @@ unfolding next
 next-in part c s me round heard e = ap (λ p. next_in p c (with_proper_heard s heard) me (phase_of round) heard) e
 
 -- what is sent in a round of this part
-pub out-in : (part : Part) (c : Setup) (s : State) (me round to : ℕ) → part_at (part_of round) ≡ part
-    → out c s me round to ≡ option_map (λ kind. record { kind = kind; proper = s.proper }) (kind_sent part s (owner c.n (phase_of round)) me to)
+pub out-in : (part : Part) (c : Setup) (s : State) (me round to : ℕ) → part_at (part_of round) ≡ part → out c s me round to
+    ≡ option_map (λ kind. record { kind = kind; proper = s.proper }) (kind_sent part s (owner c.n (phase_of round)) me to)
 unfolding out
-out-in part c s me round to e = ap (λ p. option_map (λ kind. record { kind = kind; proper = s.proper }) (kind_sent p s (owner c.n (phase_of round)) me to)) e
+out-in part c s me round to e =
+    ap (λ p. option_map (λ kind. record { kind = kind; proper = s.proper }) (kind_sent p s (owner c.n (phase_of round)) me to)) e

@@ -65,4 +65,5 @@ unfolding out
 out_by_part c s me round to h =
     let part = part_at (part_of round) in
     let owns = owner c.n (phase_of round) in
-    ap (option_map (λ kind. record { kind = kind; proper = s.proper })) (kind_sent-kind_in part s owns me to (sym (sends_by_part c s me round to) ∙ h))
+    ap (option_map (λ kind. record { kind = kind; proper = s.proper }))
+    (kind_sent-kind_in part s owns me to (sym (sends_by_part c s me round to) ∙ h))

@@ -50,7 +50,8 @@ out-said_by c s me round to body sent = go (kind_sent (part_at (part_of round)) 
         subst (IsSaidBy s) same (record { says = says kind e; proper = refl })
 
 -- a value that is listed is proper and acceptable
-pub listed-said_by : (s : State) (body : Body) (v : ℕ) → IsSaidBy s body → Contains (listed_values body.kind) v → Contains s.proper v × (is_acceptable s.locks v ≡ true)
+pub listed-said_by : (s : State) (body : Body) (v : ℕ)
+    → IsSaidBy s body → Contains (listed_values body.kind) v → Contains s.proper v × (is_acceptable s.locks v ≡ true)
 listed-said_by s body v said d = go body.kind said.says d
   where
     go : (k : Kind) → Says s k → Contains (listed_values k) v → Contains s.proper v × (is_acceptable s.locks v ≡ true)
@@ -74,7 +75,8 @@ ack-said_by s body said e = go body.kind said.says e
     go (Locks pairs) e h = cc
 
 -- a lock that is sent is held
-pub told-said_by : (s : State) (body : Body) (lock : LockPair) → IsSaidBy s body → Contains (told_locks body.kind) lock → Contains s.locks lock
+pub told-said_by : (s : State) (body : Body) (lock : LockPair)
+    → IsSaidBy s body → Contains (told_locks body.kind) lock → Contains s.locks lock
 told-said_by s body lock said d = go body.kind said.says d
   where
     go : (k : Kind) → Says s k → Contains (told_locks k) lock → Contains s.locks lock

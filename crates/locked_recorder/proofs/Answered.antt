@@ -22,7 +22,8 @@ pub record IsShown (r : Identity) (w : Progress) : Type 0 where
   pub bounded : w.limit ≤ MAX_STEPS
 
 -- a World that is the one that was found to be so
-pub IsShown-found : (r fields : Identity) (shown w : Progress) → fields ≡ r → w ≡ shown → (shown.trace.config ≡ fields.config) × (shown.limit ≡ fields.limit)
+pub IsShown-found : (r fields : Identity) (shown w : Progress)
+    → fields ≡ r → w ≡ shown → (shown.trace.config ≡ fields.config) × (shown.limit ≡ fields.limit)
     → IsRun shown.trace.config shown.trace.steps → length shown.trace.steps ≤ shown.limit → shown.limit ≤ MAX_STEPS → IsShown r w
 IsShown-found r fields shown w is same own run within bounded =
     let found : IsShown fields shown = record { config = own.0; limit = own.1; run = run; within = within; bounded = bounded } in
@@ -37,10 +38,10 @@ IsWorldOf-shown r w shown = record {
 
 -- a step that a World made, with the steps before it
 pub IsAnswer-made : (r : Identity) (old new : Progress) (p : ℕ) (move : Move) (done : Done) → IsShown r old
-    → step_refusal old.trace.config old.limit old.trace.steps p move ≡ None
-    → Some done.step ≡ step_of old.trace.config old.trace.steps p move → new.trace.steps ≡ old.trace.steps ++ done.step ∷ [] → done.no ≡ length new.trace.steps
-    → done.round ≡ passed new.trace.steps p + 1 → done.decision ≡ (node_at new.trace.config new.trace.steps p).decision → new.trace.config ≡ old.trace.config
-    → (answer : IsAnswer r p move done) × (answer.before ≡ old.trace.steps)
+    → step_refusal old.trace.config old.limit old.trace.steps p move ≡ None → Some done.step ≡
+    step_of old.trace.config old.trace.steps p move → new.trace.steps ≡ old.trace.steps ++ done.step ∷ [] → done.no ≡ length new.trace.steps
+    → done.round ≡ passed new.trace.steps p + 1 → done.decision ≡ (node_at new.trace.config new.trace.steps p).decision
+    → new.trace.config ≡ old.trace.config → (answer : IsAnswer r p move done) × (answer.before ≡ old.trace.steps)
 IsAnswer-made r old new p move done shown allowed step made number round decision kept =
     let answer : IsAnswer r p move done = record {
       before = old.trace.steps;
@@ -56,8 +57,8 @@ IsAnswer-made r old new p move done shown allowed step made number round decisio
     (answer, refl)
 
 -- a refusal of a World, with the steps before it
-pub IsAgainst-shown : (r : Identity) (w : Progress) (p : ℕ) (move : Move) (why : StepError) → IsShown r w
-    → step_refusal w.trace.config w.limit w.trace.steps p move ≡ Some why → (against : IsAgainst r p move why) × (against.before ≡ w.trace.steps)
+pub IsAgainst-shown : (r : Identity) (w : Progress) (p : ℕ) (move : Move) (why : StepError) → IsShown r w → step_refusal
+    w.trace.config w.limit w.trace.steps p move ≡ Some why → (against : IsAgainst r p move why) × (against.before ≡ w.trace.steps)
 IsAgainst-shown r w p move why shown reason =
     let against : IsAgainst r p move why = record {
       before = w.trace.steps;

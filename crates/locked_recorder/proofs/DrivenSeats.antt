@@ -36,15 +36,16 @@ received-push : (more : List Done) (d : Done) → received (more ++ d ∷ []) �
 received-push more d = fold-append (λ n x. received_with n x.step.act) 0 more (d ∷ [])
 
 -- what holds of each thing done and of those before it holds still if it holds of one more
-each-push : (P : List Done → Done → Type 0) (more : List Done) (x : Done) → ((k : ℕ) (d : Done) → slice_get more k ≡ Some d → P (take k more) d) → P more x
-    → (k : ℕ) (d : Done) → slice_get (more ++ x ∷ []) k ≡ Some d → P (take k (more ++ x ∷ [])) d
+each-push : (P : List Done → Done → Type 0) (more : List Done) (x : Done) → ((k : ℕ) (d : Done) → slice_get more k ≡ Some d
+    → P (take k more) d) → P more x → (k : ℕ) (d : Done) → slice_get (more ++ x ∷ []) k ≡ Some d → P (take k (more ++ x ∷ [])) d
 each-push P more x each last k d at = go (nat_lt k (length more)) refl
   where
     go : (t : Bool) → nat_lt k (length more) ≡ t → P (take k (more ++ x ∷ [])) d
     go true test =
         let inside : k < length more = grind (arith, nat_tests) in
         let there : slice_get more k ≡ Some d =
-        slice_get-get_or more k d inside ∙ ap Some (sym (get_or_append_left more (x ∷ []) d k inside) ∙ get_or_from_slice_get (more ++ x ∷ []) k d d at) in
+        slice_get-get_or more k d inside
+        ∙ ap Some (sym (get_or_append_left more (x ∷ []) d k inside) ∙ get_or_from_slice_get (more ++ x ∷ []) k d d at) in
         subst (λ front. P front d) (sym (take-append-le k more (x ∷ []) (omega arith))) (each k d there)
     go false test =
         let past : length more ≤ k = grind (arith, nat_tests) in
@@ -55,8 +56,8 @@ each-push P more x each last k d at = go (nat_lt k (length more)) refl
         subst (λ before. P before d) (sym front) (subst (λ y. P more y) (sym same) last)
 
 -- one step more is made
-pub IsUnderWay-more : (r : Identity) (patience steps before after : ℕ) (old mid new : Turns) → IsUnderWay r patience steps before old mid → mid.tag ≡ r.tag
-    → IsMoved r patience before after mid new → IsUnderWay r patience (steps + 1) after old new
+pub IsUnderWay-more : (r : Identity) (patience steps before after : ℕ) (old mid new : Turns) → IsUnderWay r patience steps before old mid
+    → mid.tag ≡ r.tag → IsMoved r patience before after mid new → IsUnderWay r patience (steps + 1) after old new
 IsUnderWay-more r patience steps before after old mid new so tagged moved =
     let driven = so.driven in
     let more = driven.more in
@@ -83,7 +84,8 @@ pub IsStopped-held : (r : Identity) (patience steps : ℕ) (s : Turns) → IsSto
 IsStopped-held r patience steps s = record { driven = (IsUnderWay-none r patience s).driven; stop = refl }
 
 -- the next step is refused
-pub IsStopped-refused : (r : Identity) (patience steps made before : ℕ) (old new : Turns) (why : RecordError) → made < steps → IsUnderWay r patience made before old new
+pub IsStopped-refused : (r : Identity) (patience steps made before : ℕ) (old new : Turns) (why : RecordError)
+    → made < steps → IsUnderWay r patience made before old new
     → IsChoiceRefusal r new (drive_move patience before) why → IsStopped r patience steps old new (record { made = made; why = Record why })
 IsStopped-refused r patience steps made before old new why short so refused = record {
   driven = so.driven;

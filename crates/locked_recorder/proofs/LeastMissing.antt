@@ -33,14 +33,14 @@ Misses-standing steps done d None all stands = All-push (λ x. Stands steps x) d
 Misses-standing steps done d (Some n) least stands = least_stays steps done d n least (λ _. stands)
 
 -- one more that isn't below the least
-pub Misses-above : (steps : List Step) (done : List Done) (d : Done) (least : Option ℕ) → Misses steps done least → (IfSome least (λ n. d.no < n) → ⊥)
-    → Misses steps (done ++ d ∷ []) least
+pub Misses-above : (steps : List Step) (done : List Done) (d : Done) (least : Option ℕ)
+    → Misses steps done least → (IfSome least (λ n. d.no < n) → ⊥) → Misses steps (done ++ d ∷ []) least
 Misses-above steps done d None all above = absurd (above tt)
 Misses-above steps done d (Some n) least above = least_stays steps done d n least (λ below. absurd (above below))
 
 -- one more that is missing and below the least
-pub Misses-less : (steps : List Step) (done : List Done) (d : Done) (least : Option ℕ) → Misses steps done least → IfSome least (λ n. d.no < n)
-    → (Stands steps d → ⊥) → Misses steps (done ++ d ∷ []) (Some d.no)
+pub Misses-less : (steps : List Step) (done : List Done) (d : Done) (least : Option ℕ)
+    → Misses steps done least → IfSome least (λ n. d.no < n) → (Stands steps d → ⊥) → Misses steps (done ++ d ∷ []) (Some d.no)
 Misses-less steps done d least old below missing = record {
   missing = (d, Contains-append_right done (d ∷ []) d (0, omega arith, refl), refl, missing);
   least = λ x has l. elim (Contains-push done d x has) [
@@ -49,6 +49,7 @@ Misses-less steps done d least old below missing = record {
   ];
 }
   where
-    earlier : (least : Option ℕ) → Misses steps done least → IfSome least (λ n. d.no < n) → (x : Done) → Contains done x → x.no < d.no → Stands steps x
+    earlier : (least : Option ℕ) → Misses steps done least
+        → IfSome least (λ n. d.no < n) → (x : Done) → Contains done x → x.no < d.no → Stands steps x
     earlier None all below x was l = All-contains (λ y. Stands steps y) done x all was
     earlier (Some n) old below x was l = old.least x was (omega arith)

@@ -21,14 +21,17 @@ use Rattle.locked_recorder.specs.PacedDrives.{IsPacedAnswer, IsPacedAgainst, IsP
 use Rattle.locked_recorder.proofs.Answered.{IsShown, IsAgainst-shown}
 
 -- a move of a processor that isn't there is refused as any other move of it
-any_move : (c : Setup) (limit : ℕ) (steps : List Step) (p : ℕ) (one other : Move) → is_proc c p ≡ false → step_refusal c limit steps p one ≡ step_refusal c limit steps p other
+any_move : (c : Setup) (limit : ℕ) (steps : List Step) (p : ℕ) (one other : Move)
+    → is_proc c p ≡ false → step_refusal c limit steps p one ≡ step_refusal c limit steps p other
 any_move c limit steps p one other nobody = rw nobody refl
 
 -- and there is a reason against it
-refused_anyhow : (c : Setup) (limit : ℕ) (steps : List Step) (p : ℕ) (move : Move) → is_proc c p ≡ false → step_refusal c limit steps p move ≡ None → ⊥
+refused_anyhow : (c : Setup) (limit : ℕ) (steps : List Step) (p : ℕ) (move : Move)
+    → is_proc c p ≡ false → step_refusal c limit steps p move ≡ None → ⊥
 refused_anyhow c limit steps p move nobody = go (nat_lt (length steps) limit) (is_proc c p) nobody
   where
-    go : (room there : Bool) → there ≡ false → (if room then (if there then move_refusal c steps p move else Some BadProc) else Some Full) ≡ None → ⊥
+    go : (room there : Bool)
+        → there ≡ false → (if room then (if there then move_refusal c steps p move else Some BadProc) else Some Full) ≡ None → ⊥
     go true true is h = cc
     go true false is h = cc
     go false there is h = cc
@@ -39,9 +42,9 @@ pub record IsPacedMove (w : Progress) (p : ℕ) (pace after : Paced) (move : Mov
   pub noted : IsProc w.trace.config p → after ≡ after_move w.trace.config w.trace.steps p pace
 
 -- what a World answered to it
-pub IsPacedAnswer-made : (r : Identity) (w : Progress) (p : ℕ) (pace after : Paced) (move : Move) (done : Done) → IsShown r w → IsPacedMove w p pace after move
-    → step_refusal w.trace.config w.limit w.trace.steps p move ≡ None → (answer : IsAnswer r p move done) × (answer.before ≡ w.trace.steps)
-    → IsPacedAnswer r p pace after done
+pub IsPacedAnswer-made : (r : Identity) (w : Progress) (p : ℕ) (pace after : Paced) (move : Move) (done : Done)
+    → IsShown r w → IsPacedMove w p pace after move → step_refusal w.trace.config w.limit w.trace.steps p move ≡ None
+    → (answer : IsAnswer r p move done) × (answer.before ≡ w.trace.steps) → IsPacedAnswer r p pace after done
 IsPacedAnswer-made r w p pace after move done shown is allowed made = go (is_proc w.trace.config p) refl
   where
     go : (b : Bool) → is_proc w.trace.config p ≡ b → IsPacedAnswer r p pace after done
@@ -51,17 +54,21 @@ IsPacedAnswer-made r w p pace after move done shown is allowed made = go (is_pro
         record {
           move = move;
           answer = made.0;
-          moved = subst (λ c. move ≡ paced_move c made.0.before p pace) shown.config (subst (λ xs. move ≡ paced_move w.trace.config xs p pace) (sym made.1) (is.moved proc));
-          noted = subst (λ c. after ≡ after_move c made.0.before p pace) shown.config (subst (λ xs. after ≡ after_move w.trace.config xs p pace) (sym made.1) (is.noted proc));
+          moved = subst (λ c. move ≡ paced_move c made.0.before p pace) shown.config
+              (subst (λ xs. move ≡ paced_move w.trace.config xs p pace) (sym made.1) (is.moved proc));
+          noted = subst (λ c. after ≡ after_move c made.0.before p pace) shown.config
+              (subst (λ xs. after ≡ after_move w.trace.config xs p pace) (sym made.1) (is.noted proc));
         }
 
 -- and why it refused it
-pub IsPacedStepReason-shown : (r : Identity) (w : Progress) (p : ℕ) (pace after : Paced) (move : Move) (why : StepError) → IsShown r w → IsPacedMove w p pace after move
+pub IsPacedStepReason-shown : (r : Identity) (w : Progress) (p : ℕ) (pace after : Paced) (move : Move) (why : StepError)
+    → IsShown r w → IsPacedMove w p pace after move
     → IsStepRefusal why (step_refusal w.trace.config w.limit w.trace.steps p move) → IsPacedStepReason r p pace why
 IsPacedStepReason-shown r w p pace after move Memory shown is h = tt
 IsPacedStepReason-shown r w p pace after move why shown is h = against (is_proc w.trace.config p) refl h
   where
-    of_mine : step_refusal w.trace.config w.limit w.trace.steps p (paced_move w.trace.config w.trace.steps p pace) ≡ Some why → IsPacedAgainst r p pace why
+    of_mine : step_refusal w.trace.config w.limit w.trace.steps p (paced_move w.trace.config w.trace.steps p pace) ≡ Some why
+        → IsPacedAgainst r p pace why
     of_mine reason =
         let found = IsAgainst-shown r w p (paced_move w.trace.config w.trace.steps p pace) why shown reason in
         record {
@@ -70,10 +77,12 @@ IsPacedStepReason-shown r w p pace after move why shown is h = against (is_proc 
           moved = ap (λ c. paced_move c w.trace.steps p pace) shown.config ∙ ap (λ xs. paced_move r.config xs p pace) (sym found.1);
         }
 
-    against : (b : Bool) → is_proc w.trace.config p ≡ b → step_refusal w.trace.config w.limit w.trace.steps p move ≡ Some why → IsPacedAgainst r p pace why
-    against false nobody reason = of_mine (any_move w.trace.config w.limit w.trace.steps p (paced_move w.trace.config w.trace.steps p pace) move nobody ∙ reason)
-    against true there reason =
-        of_mine (subst (λ m. step_refusal w.trace.config w.limit w.trace.steps p m ≡ Some why) (is.moved (proc_from w.trace.config p there)) reason)
+    against : (b : Bool) → is_proc w.trace.config p ≡ b
+        → step_refusal w.trace.config w.limit w.trace.steps p move ≡ Some why → IsPacedAgainst r p pace why
+    against false nobody reason =
+        of_mine (any_move w.trace.config w.limit w.trace.steps p (paced_move w.trace.config w.trace.steps p pace) move nobody ∙ reason)
+    against true there reason = of_mine
+        (subst (λ m. step_refusal w.trace.config w.limit w.trace.steps p m ≡ Some why) (is.moved (proc_from w.trace.config p there)) reason)
 
 -- what a seat keeps of an answer
 pub IsPacedStep-kept : (r : Identity) (p : ℕ) (pace after : Paced) (old new : Turns) (done : Done) → old.proc ≡ p → new ≡ with_done old done
@@ -82,17 +91,18 @@ IsPacedStep-kept r p pace after old new done own kept answer =
     record { done = done; appended = kept; answer = subst (λ (q : ℕ). IsPacedAnswer r q pace after done) (sym own) answer }
 
 -- a refusal, asked for by a seat
-pub IsPaceRefusal-refused : (r : Identity) (s : Turns) (p : ℕ) (pace : Paced) (why : RecordError) → s.proc ≡ p → s.tag ≡ r.tag → IsPaceRefused r p pace why
-    → IsPaceRefusal r s pace why
+pub IsPaceRefusal-refused : (r : Identity) (s : Turns) (p : ℕ) (pace : Paced) (why : RecordError)
+    → s.proc ≡ p → s.tag ≡ r.tag → IsPaceRefused r p pace why → IsPaceRefusal r s pace why
 IsPaceRefusal-refused r s p pace record_error.ForeignSeat own tag refused = tt
 IsPaceRefusal-refused r s p pace (record_error.Step why) own tag refused =
     (tag, subst (λ (q : ℕ). IsPacedStepReason r q pace why) (sym own) refused)
 
 -- one thing more was done
-WerePaced-push : (r : Identity) (p : ℕ) (pace : Paced) (more : List Done) (mid after : Paced) (done : Done) → WerePaced r p pace more mid → IsPacedAnswer r p mid after done
-    → WerePaced r p pace (more ++ done ∷ []) after
+WerePaced-push : (r : Identity) (p : ℕ) (pace : Paced) (more : List Done) (mid after : Paced) (done : Done)
+    → WerePaced r p pace more mid → IsPacedAnswer r p mid after done → WerePaced r p pace (more ++ done ∷ []) after
 WerePaced-push r p pace [] mid after done were answer = (after, subst (λ x. IsPacedAnswer r p x after done) were answer, refl)
-WerePaced-push r p pace (d ∷ more) mid after done were answer = (were.0, were.1, WerePaced-push r p were.0 more mid after done were.2 answer)
+WerePaced-push r p pace (d ∷ more) mid after done were answer =
+    (were.0, were.1, WerePaced-push r p were.0 more mid after done were.2 answer)
 
 -- a seat after so many steps, with its pace at that time
 pub record IsPacedUnderWay (r : Identity) (patience steps : ℕ) (pace : Paced) (old new : Turns) : Type 0 where
@@ -100,7 +110,8 @@ pub record IsPacedUnderWay (r : Identity) (patience steps : ℕ) (pace : Paced) 
   pub now : pace ≡ driven.after
 
 -- no step is made
-pub IsPacedUnderWay-none : (r : Identity) (patience : ℕ) (s : Turns) (pace : Paced) → pace ≡ opening_pace r.config patience → IsPacedUnderWay r patience 0 pace s s
+pub IsPacedUnderWay-none : (r : Identity) (patience : ℕ) (s : Turns) (pace : Paced)
+    → pace ≡ opening_pace r.config patience → IsPacedUnderWay r patience 0 pace s s
 IsPacedUnderWay-none r patience s pace first = record {
   driven = record {
     more = [];
@@ -114,8 +125,8 @@ IsPacedUnderWay-none r patience s pace first = record {
 }
 
 -- one step more is made
-pub IsPacedUnderWay-more : (r : Identity) (patience steps : ℕ) (pace after : Paced) (old mid new : Turns) → IsPacedUnderWay r patience steps pace old mid → mid.tag ≡ r.tag
-    → IsPacedStep r pace after mid new → IsPacedUnderWay r patience (steps + 1) after old new
+pub IsPacedUnderWay-more : (r : Identity) (patience steps : ℕ) (pace after : Paced) (old mid new : Turns) → IsPacedUnderWay r
+    patience steps pace old mid → mid.tag ≡ r.tag → IsPacedStep r pace after mid new → IsPacedUnderWay r patience (steps + 1) after old new
 IsPacedUnderWay-more r patience steps pace after old mid new so tagged moved =
     let driven = so.driven in
     let more = driven.more in
@@ -139,7 +150,8 @@ IsPacedUnderWay-more r patience steps pace after old mid new so tagged moved =
 
 -- the next step is refused
 pub IsPacedStopped-refused : (r : Identity) (patience steps made : ℕ) (pace : Paced) (old new : Turns) (why : RecordError) → made < steps
-    → IsPacedUnderWay r patience made pace old new → IsPaceRefusal r new pace why → IsPacedStopped r patience steps old new (record { made = made; why = Record why })
+    → IsPacedUnderWay r patience made pace old new
+    → IsPaceRefusal r new pace why → IsPacedStopped r patience steps old new (record { made = made; why = Record why })
 IsPacedStopped-refused r patience steps made pace old new why short so refused = record {
   driven = so.driven;
   stop = (short, subst (λ x. IsPaceRefusal r new x why) so.now refused);

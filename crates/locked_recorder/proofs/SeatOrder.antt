@@ -11,7 +11,8 @@ use Rattle.locked_recorder.specs.Audits.{AreInOrder}
 abbrev pub AreFirst : ℕ → List Turns → Type 0
 AreFirst k seats = (i : ℕ) (d : Turns) → i < k → (get_or seats i d).proc ≡ i + 1
 
-places : (seats : List Turns) (a : ℕ) → ((i : ℕ) (d : Turns) → i < length seats → (get_or seats i d).proc ≡ a + i) → map (λ s. s.proc) seats ≡ range_with_len a (length seats)
+places : (seats : List Turns) (a : ℕ) → ((i : ℕ) (d : Turns) → i < length seats → (get_or seats i d).proc ≡ a + i)
+    → map (λ s. s.proc) seats ≡ range_with_len a (length seats)
 places [] a each = refl
 places (x ∷ seats) a each =
     let first : x.proc ≡ a + 0 = each 0 x (omega arith) in
@@ -28,7 +29,8 @@ pub length-in_order : (c : Setup) (seats : List Turns) → AreInOrder c seats �
 length-in_order c seats e = sym (length-map seats (λ (s : Turns). s.proc)) ∙ ap length e ∙ length-range_with_len 1 c.n
 
 -- and each is in its place
-pub place-in_order : (c : Setup) (seats : List Turns) (i : ℕ) (d : Turns) → AreInOrder c seats → i < length seats → (get_or seats i d).proc ≡ i + 1
+pub place-in_order : (c : Setup) (seats : List Turns) (i : ℕ) (d : Turns)
+    → AreInOrder c seats → i < length seats → (get_or seats i d).proc ≡ i + 1
 place-in_order c seats i d e inside =
     let count = length-in_order c seats e in
     let at : get_or (range_with_len 1 c.n) i d.proc ≡ 1 + i = get_or-range_with_len 1 c.n i d.proc (omega arith) in

@@ -32,7 +32,8 @@ no_send c limit steps p = go (nat_lt (length steps) limit) (is_proc c p) (next_s
     go false b to is h = cc
 
 -- a Send is refused with NothingToSend only if p has nothing to send
-nothing_to_send : (c : Setup) (limit : ℕ) (steps : List Step) (p : ℕ) → step_refusal c limit steps p Send ≡ Some NothingToSend → next_send c steps p ≡ None
+nothing_to_send : (c : Setup) (limit : ℕ) (steps : List Step) (p : ℕ)
+    → step_refusal c limit steps p Send ≡ Some NothingToSend → next_send c steps p ≡ None
 nothing_to_send c limit steps p = go (nat_lt (length steps) limit) (is_proc c p) (next_send c steps p)
   where
     go : (a b : Bool) (to : Option ℕ) → reason a b (if is_none to then Some NothingToSend else None) ≡ Some NothingToSend → to ≡ None
@@ -56,7 +57,8 @@ any_move : (c : Setup) (limit : ℕ) (steps : List Step) (p : ℕ) (move : Move)
     → step_refusal c limit steps p Send ≡ Some why → step_refusal c limit steps p move ≡ Some why
 any_move c limit steps p move why other = go (nat_lt (length steps) limit) (is_proc c p) (next_send c steps p) (move_refusal c steps p move)
   where
-    go : (a b : Bool) (to : Option ℕ) (own : Option StepError) → reason a b (if is_none to then Some NothingToSend else None) ≡ Some why → reason a b own ≡ Some why
+    go : (a b : Bool) (to : Option ℕ) (own : Option StepError)
+        → reason a b (if is_none to then Some NothingToSend else None) ≡ Some why → reason a b own ≡ Some why
     go true true None own h = absurd (other (cc))
     go true true (Some to) own h = cc
     go true false to own h = h
@@ -64,27 +66,29 @@ any_move c limit steps p move why other = go (nat_lt (length steps) limit) (is_p
 
 -- the reason against the first move that is tried, unless that is a Send with nothing to send
 pub IsChosenStepReason-first : (r : Identity) (w : Progress) (p : ℕ) (sends : Bool) (step : Move) (why : StepError) → IsShown r w
-    → (sends ≡ true → why ≡ NothingToSend → ⊥) → IsStepRefusal why (step_refusal w.trace.config w.limit w.trace.steps p (if sends then Send else step))
-    → IsChosenStepReason r p (chosen sends step) why
+    → (sends ≡ true → why ≡ NothingToSend → ⊥) → IsStepRefusal why
+    (step_refusal w.trace.config w.limit w.trace.steps p (if sends then Send else step)) → IsChosenStepReason r p (chosen sends step) why
 IsChosenStepReason-first r w p sends step Memory shown other h = tt
-IsChosenStepReason-first r w p sends step why shown other h = by_choice sends other (IsAgainst-shown r w p (if sends then Send else step) why shown h).0
-  where
-    by_choice : (sends : Bool) → (sends ≡ true → why ≡ NothingToSend → ⊥) → IsAgainst r p (if sends then Send else step) why → IsChosenAgainst r p (chosen sends step) why
-    by_choice false other against = record { to = next_send r.config against.before p; against = against; next = refl }
-    by_choice true other against =
-        let to = next_send r.config against.before p in
-        record {
-          to = to;
-          against = record {
-            before = against.before;
-            world = against.world;
-            reason = any_move r.config r.limit against.before p (chosen true step to) why (other refl) against.reason;
-          };
-          next = refl;
-        }
+IsChosenStepReason-first r w p sends step why shown other h =
+    by_choice sends other (IsAgainst-shown r w p (if sends then Send else step) why shown h).0 where
+      by_choice : (sends : Bool) → (sends ≡ true → why ≡ NothingToSend → ⊥)
+          → IsAgainst r p (if sends then Send else step) why → IsChosenAgainst r p (chosen sends step) why
+      by_choice false other against = record { to = next_send r.config against.before p; against = against; next = refl }
+      by_choice true other against =
+          let to = next_send r.config against.before p in
+          record {
+            to = to;
+            against = record {
+              before = against.before;
+              world = against.world;
+              reason = any_move r.config r.limit against.before p (chosen true step to) why (other refl) against.reason;
+            };
+            next = refl;
+          }
 
 -- this move, refused if there is nothing to send
-pub IsChosenStepReason-otherwise : (r : Identity) (w : Progress) (p : ℕ) (step : Move) (why : StepError) → IsShown r w → next_send r.config w.trace.steps p ≡ None
+pub IsChosenStepReason-otherwise : (r : Identity) (w : Progress) (p : ℕ) (step : Move) (why : StepError)
+    → IsShown r w → next_send r.config w.trace.steps p ≡ None
     → IsStepRefusal why (step_refusal w.trace.config w.limit w.trace.steps p step) → IsChosenStepReason r p (chosen true step) why
 IsChosenStepReason-otherwise r w p step Memory shown nothing h = tt
 IsChosenStepReason-otherwise r w p step why shown nothing h =
@@ -96,8 +100,8 @@ IsChosenStepReason-otherwise r w p step why shown nothing h =
     }
 
 -- the first move that is tried was made
-pub IsChosenAnswer-first : (r : Identity) (p : ℕ) (sends : Bool) (step : Move) (done : Done) → IsAnswer r p (if sends then Send else step) done
-    → IsChosenAnswer r p (chosen sends step) done
+pub IsChosenAnswer-first : (r : Identity) (p : ℕ) (sends : Bool) (step : Move) (done : Done)
+    → IsAnswer r p (if sends then Send else step) done → IsChosenAnswer r p (chosen sends step) done
 IsChosenAnswer-first r p false step done answer = record { to = next_send r.config answer.before p; answer = answer; next = refl }
 IsChosenAnswer-first r p true step done answer = go (next_send r.config answer.before p) refl
   where
@@ -112,8 +116,8 @@ IsChosenAnswer-otherwise r p step done steps nothing made =
     record { to = None; answer = made.0; next = ap (λ (before : List Step). next_send r.config before p) made.1 ∙ nothing }
 
 -- what a seat keeps of either
-pub IsChosen-kept : (r : Identity) (p : ℕ) (choice : Option ℕ → Move) (old new : Turns) (done : Done) → old.proc ≡ p → new ≡ with_done old done
-    → IsChosenAnswer r p choice done → IsChosen r choice old new
+pub IsChosen-kept : (r : Identity) (p : ℕ) (choice : Option ℕ → Move) (old new : Turns) (done : Done)
+    → old.proc ≡ p → new ≡ with_done old done → IsChosenAnswer r p choice done → IsChosen r choice old new
 IsChosen-kept r p choice old new done own kept answer =
     record { done = done; appended = kept; answer = subst (λ (q : ℕ). IsChosenAnswer r q choice done) (sym own) answer }
 

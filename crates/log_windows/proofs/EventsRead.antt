@@ -18,7 +18,9 @@ use Rattle.log_windows.specs.KeptRows.{rows_after}
 use Rattle.log_windows.specs.Windows.{event_after}
 
 -- the refusal of the record is that of the event
-pub event-refused : (columns : Columns) (r : Reading) (fields : List (List ℕ)) (moment : Moment) (times : Times) (why : LogError) → r.count < MAX_LOGGED
-    → moment_as (settled r.unit (kind_of r.times)) (field_of fields columns.time) ≡ Some moment → times_by r.times r.from r.until moment.kind ≡ Ok times
-    → MatchBool (is_memory why) ⊤ (rows_after columns times r.count moment.time fields r.rows ≡ Err why) → MatchBool (is_memory why) ⊤ (event_after columns r fields ≡ Err why)
-event-refused columns r fields moment times why few told fits h = unless (is_memory why) _ _ (λ k. rw (lt-leb MAX_LOGGED r.count few) (rw told (rw fits (rw k refl)))) h
+pub event-refused : (columns : Columns) (r : Reading) (fields : List (List ℕ)) (moment : Moment) (times : Times) (why : LogError) → r.count
+    < MAX_LOGGED → moment_as (settled r.unit (kind_of r.times)) (field_of fields columns.time) ≡ Some moment → times_by r.times r.from
+    r.until moment.kind ≡ Ok times → MatchBool (is_memory why) ⊤ (rows_after columns times r.count moment.time fields r.rows ≡ Err why)
+    → MatchBool (is_memory why) ⊤ (event_after columns r fields ≡ Err why)
+event-refused columns r fields moment times why few told fits h =
+    unless (is_memory why) _ _ (λ k. rw (lt-leb MAX_LOGGED r.count few) (rw told (rw fits (rw k refl)))) h

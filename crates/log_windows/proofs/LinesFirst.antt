@@ -17,8 +17,8 @@ no-row = refl
 
 -- the records of the text are those behind the line feed
 pub rows-behind-line : (xs : List ℕ) → records_of_text (10 ∷ xs) ≡ records default_config xs
-rows-behind-line xs =
-    ap (λ ys. records default_config ys) (strip-one xs) ∙ records-split (10 ∷ []) xs closed-line ∙ ap (λ (rs : List (List (List ℕ))). rs ++ records default_config xs) no-row
+rows-behind-line xs = ap (λ ys. records default_config ys) (strip-one xs)
+    ∙ records-split (10 ∷ []) xs closed-line ∙ ap (λ (rs : List (List (List ℕ))). rs ++ records default_config xs) no-row
 
 -- so is what may be cut off
 pub closed-behind-line : (xs : List ℕ) → IsClosed (10 ∷ xs) → IsClosed xs

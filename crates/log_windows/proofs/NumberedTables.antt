@@ -11,7 +11,8 @@ use Rattle.log_windows.specs.NumberedRows.{NumberedRows, next_numbered, numbered
 
 pub never-refused : (rows : NumberedRows) (rs : List (List (List ℕ))) (why : LogError) → after_records next_numbered rows rs ≡ Err why → ⊥
 never-refused rows [] why h = absurd (cc h)
-never-refused rows (fields ∷ rs) why h = never-refused (record rows { text = rows.text ++ row_text our_writer (numbered_row rows.places fields) }) rs why h
+never-refused rows (fields ∷ rs) why h = never-refused
+    (record rows { text = rows.text ++ row_text our_writer (numbered_row rows.places fields) }) rs why h
 
 -- a refusal that can't be another is out of memory
 pub only-memory : (why : LogError) (P : Type 0) → (P → ⊥) → MatchBool (is_memory why) ⊤ P → why ≡ Memory

@@ -37,7 +37,8 @@ field-same field = ap (λ t. cond (needs_quotes default_writer field) (34 ∷ (t
 fields-same : (fields : List (List ℕ)) → fields_text our_writer fields ≡ fields_text default_writer fields
 unfolding fields_text
 fields-same [] = refl
-fields-same (field ∷ fields) = ap (λ t. 44 ∷ (t ++ fields_text our_writer fields)) (field-same field) ∙ ap (λ t. 44 ∷ (field_text default_writer field ++ t)) (fields-same fields)
+fields-same (field ∷ fields) = ap (λ t. 44 ∷ (t ++ fields_text our_writer fields)) (field-same field)
+    ∙ ap (λ t. 44 ∷ (field_text default_writer field ++ t)) (fields-same fields)
 
 row-same : (fields : List (List ℕ)) → row_text our_writer fields ≡ row_text default_writer fields
 unfolding is_blank fields_text
@@ -51,12 +52,14 @@ same-back : (fields : List (List ℕ)) → HasField fields → read_back fields 
 same-back [] h = absurd (omega (arith, h))
 same-back (field ∷ fields) h = refl
 
-row-read : (fields : List (List ℕ)) (tail : List ℕ) → HasField fields → next_record default_config st.StartRecord [] [] (row_text our_writer fields ++ tail) ≡ Some (fields, st.StartRecord, tail)
+row-read : (fields : List (List ℕ)) (tail : List ℕ) → HasField fields
+    → next_record default_config st.StartRecord [] [] (row_text our_writer fields ++ tail) ≡ Some (fields, st.StartRecord, tail)
 row-read fields tail h =
     ap (λ t. next_record default_config st.StartRecord [] [] (t ++ tail)) (row-same fields) ∙ read-write fields tail
     ∙ ap (λ r. Some (r, st.StartRecord, tail)) (same-back fields h)
 
-rows-reached : (rows : List (List (List ℕ))) → All HasField rows → Reached default_config st.StartRecord (flat_map (row_text our_writer) rows) rows st.StartRecord []
+rows-reached : (rows : List (List (List ℕ))) → All HasField rows
+    → Reached default_config st.StartRecord (flat_map (row_text our_writer) rows) rows st.StartRecord []
 unfolding Reached
 rows-reached [] h = (refl, refl)
 rows-reached (row ∷ rows) h = (
@@ -94,14 +97,16 @@ end-field act.Copy fields field e = cc e
 next-field : (s : State) (fields : List (List ℕ)) (field xs : List ℕ) → ReadsField (next_record default_config s fields field xs)
 unfolding next_record
 next-field s fields field [] = by-test (ends_at_end s) _ _ (λ e. last-field fields field) tt
-next-field s fields field (c ∷ rest) = by-test (is_end (step default_config s c).1) _ _ (λ e. end-field (step default_config s c).1 fields field e)
-    (next-field (step default_config s c).0 (fields_after (step default_config s c).1 fields field) (field_after (step default_config s c).1 c field) rest)
+next-field s fields field (c ∷ rest) = by-test (is_end (step default_config s c).1) _ _
+    (λ e. end-field (step default_config s c).1 fields field e) (next-field (step default_config s c).0
+    (fields_after (step default_config s c).1 fields field) (field_after (step default_config s c).1 c field) rest)
 
 some-fields : (n : ℕ) (s : State) (xs : List ℕ) → All HasField (records_from default_config n s xs)
 unfolding records_from
 some-fields zero s xs = All-nil HasField
 some-fields (suc n) s xs = go (some-fields n) (next_record default_config s [] [] xs) (next-field s [] [] xs) where
-  go : ((s : State) (xs : List ℕ) → All HasField (records_from default_config n s xs)) → (o : Option Read) → ReadsField o → All HasField (records_next (records_from default_config n) o)
+  go : ((s : State) (xs : List ℕ) → All HasField (records_from default_config n s xs))
+      → (o : Option Read) → ReadsField o → All HasField (records_next (records_from default_config n) o)
   go more None h = All-nil HasField
   go more (Some p) h = All-cons HasField p.0 (records_from default_config n p.1 p.2) h (more p.1 p.2)
 

@@ -9,12 +9,14 @@ use Rattle.merged_receives.specs.declared.actors.Actor.{Actor}
 use Rattle.merged_receives.specs.Actors.{actor_of}
 use Rattle.merged_receives.specs.Merges.{receives_at}
 
-own-receives : (events : List Event) (i : ℕ) (a : Actor) → i < length events → a ≡ slice_index_or (map actor_of events) i a → a.receives ≡ receives_at events i
+own-receives : (events : List Event) (i : ℕ) (a : Actor)
+    → i < length events → a ≡ slice_index_or (map actor_of events) i a → a.receives ≡ receives_at events i
 own-receives [] i a l e = absurd (omega (arith, l))
 own-receives (x ∷ xs) zero a l e = ap (λ (b : Actor). b.receives) e
 own-receives (x ∷ xs) (suc i) a l e = own-receives xs i a (omega (arith, l)) e
 
-own-processor : (events : List Event) (i : ℕ) (a : Actor) → i < length events → a ≡ slice_index_or (map actor_of events) i a → a.processor ≡ min (processor_at events i) 255
+own-processor : (events : List Event) (i : ℕ) (a : Actor)
+    → i < length events → a ≡ slice_index_or (map actor_of events) i a → a.processor ≡ min (processor_at events i) 255
 own-processor [] i a l e = absurd (omega (arith, l))
 own-processor (x ∷ xs) zero a l e = ap (λ (b : Actor). b.processor) e
 own-processor (x ∷ xs) (suc i) a l e = own-processor xs i a (omega (arith, l)) e
@@ -26,8 +28,8 @@ pub record IsActorAt (events : List Event) (i : ℕ) (a : Actor) : Type 0 where
   pub own : a.processor - 1 ≡ index_at events i
   pub receives : a.receives ≡ receives_at events i
 
-pub actor-at : (events : List Event) (actors : List Actor) (i : ℕ) (a : Actor) → actors ≡ map actor_of events → AreOfProcessors events → i < length events
-    → a ≡ slice_index_or actors i a → IsActorAt events i a
+pub actor-at : (events : List Event) (actors : List Actor) (i : ℕ) (a : Actor)
+    → actors ≡ map actor_of events → AreOfProcessors events → i < length events → a ≡ slice_index_or actors i a → IsActorAt events i a
 actor-at events actors i a are r l e =
     let read = e ∙ ap (λ (xs : List Actor). slice_index_or xs i a) are in
     let p = own-processor events i a l read in

@@ -57,7 +57,8 @@ joined-is events ticks j i h = record {
   own = eqb-true (processor_at events j) (processor_at events i) p.2;
   tick = eqb-true (slice_index ticks j) (slice_index ticks i) p.3;
   earlier = p.4;
-  quiet = λ s l. each-none (is_send_between events j i) (length events) s (none (any_below (is_send_between events j i) (length events)) p.5) l;
+  quiet = λ s l. each-none (is_send_between events j i)
+      (length events) s (none (any_below (is_send_between events j i) (length events)) p.5) l;
 } where
   none : (t : Bool) → not t ≡ true → t ≡ false
   none true e = absurd (cc e)
@@ -71,9 +72,9 @@ joined-is events ticks j i h = record {
 
 pub is-joined : (events : List Event) (ticks : List ℕ) (j i : ℕ) → IsJoined events ticks j i → is_joined events ticks j i ≡ true
 unfolding is_joined
-is-joined events ticks j i h =
-    six-from _ _ _ _ _ _ h.first h.second (eq-eqb (processor_at events j) (processor_at events i) h.own) (eq-eqb (slice_index ticks j) (slice_index ticks i) h.tick) h.earlier
-    (not_from_false (any_below (is_send_between events j i) (length events)) (none-below (is_send_between events j i) (length events) h.quiet))
+is-joined events ticks j i h = six-from _ _ _ _ _ _ h.first h.second (eq-eqb (processor_at events j) (processor_at events i) h.own)
+    (eq-eqb (slice_index ticks j) (slice_index ticks i) h.tick) h.earlier (not_from_false
+    (any_below (is_send_between events j i) (length events)) (none-below (is_send_between events j i) (length events) h.quiet))
 
 -- what it means that a send is between two events
 pub between-is : (events : List Event) (j i s : ℕ) → is_send_between events j i s ≡ true → (sends_at events s ≡ true)
@@ -95,11 +96,13 @@ is-between events j i s a b c d = and_from (sends_at events s) _ a
     (and_from (is_earlier events j s) (is_earlier events s i) c d))
 
 -- an event that isn't merged is merged into none
-pub unmerged-none : (events : List Event) (ticks : List ℕ) (i j : ℕ) → is_merged events ticks i ≡ false → j < length events → is_joined events ticks j i ≡ false
+pub unmerged-none : (events : List Event) (ticks : List ℕ) (i j : ℕ)
+    → is_merged events ticks i ≡ false → j < length events → is_joined events ticks j i ≡ false
 unfolding is_merged
 unmerged-none events ticks i j h l = each-none (λ j. is_joined events ticks j i) (length events) j h l
 
-pub none-unmerged : (events : List Event) (ticks : List ℕ) (i : ℕ) → ((j : ℕ) → j < length events → is_joined events ticks j i ≡ false) → is_merged events ticks i ≡ false
+pub none-unmerged : (events : List Event) (ticks : List ℕ) (i : ℕ)
+    → ((j : ℕ) → j < length events → is_joined events ticks j i ≡ false) → is_merged events ticks i ≡ false
 unfolding is_merged
 none-unmerged events ticks i h = none-below (λ j. is_joined events ticks j i) (length events) h
 
@@ -112,7 +115,8 @@ pub part-joined : (events : List Event) (ticks : List ℕ) (h i : ℕ) → is_jo
 unfolding is_part
 part-joined events ticks h i e = or_right (h == i) (is_joined events ticks h i) e
 
-pub part-is : (events : List Event) (ticks : List ℕ) (h i : ℕ) → is_part events ticks h i ≡ true → (h ≡ i) ⊎ (is_joined events ticks h i ≡ true)
+pub part-is : (events : List Event) (ticks : List ℕ) (h i : ℕ)
+    → is_part events ticks h i ≡ true → (h ≡ i) ⊎ (is_joined events ticks h i ≡ true)
 unfolding is_part
 part-is events ticks h i e = go (or_cases (h == i) (is_joined events ticks h i) e) where
   go : ((h == i) ≡ true) ⊎ (is_joined events ticks h i ≡ true) → (h ≡ i) ⊎ (is_joined events ticks h i ≡ true)
@@ -120,15 +124,17 @@ part-is events ticks h i e = go (or_cases (h == i) (is_joined events ticks h i) 
   go (inr q) = inr q
 
 -- what comes before an event that comes before another comes before this one
-earlier-times : (events : List Event) (a b c : ℕ) → is_earlier events a b ≡ true → is_earlier events b c ≡ true → is_earlier events a c ≡ true
+earlier-times : (events : List Event) (a b c : ℕ) → is_earlier events a b ≡ true
+    → is_earlier events b c ≡ true → is_earlier events a c ≡ true
 earlier-times events a b c h k =
     go (int_lt (time_at events a) (time_at events b)) refl (int_lt (time_at events b) (time_at events a)) refl (nat_lt a b) refl
     (int_lt (time_at events b) (time_at events c)) refl (int_lt (time_at events c) (time_at events b)) refl (nat_lt b c) refl
     (int_lt (time_at events a) (time_at events c)) refl (int_lt (time_at events c) (time_at events a)) refl (nat_lt a c) refl h k where
-      go : (ab : Bool) → int_lt (time_at events a) (time_at events b) ≡ ab → (ba : Bool) → int_lt (time_at events b) (time_at events a) ≡ ba → (p : Bool) → nat_lt a b ≡ p
-          → (bc : Bool) → int_lt (time_at events b) (time_at events c) ≡ bc → (cb : Bool) → int_lt (time_at events c) (time_at events b) ≡ cb → (q : Bool) → nat_lt b c ≡ q
-          → (ac : Bool) → int_lt (time_at events a) (time_at events c) ≡ ac → (ca : Bool) → int_lt (time_at events c) (time_at events a) ≡ ca → (r : Bool) → nat_lt a c ≡ r
-          → (ab || (not ba && p)) ≡ true → (bc || (not cb && q)) ≡ true → (ac || (not ca && r)) ≡ true
+      go : (ab : Bool) → int_lt (time_at events a) (time_at events b) ≡ ab → (ba : Bool) → int_lt (time_at events b) (time_at events a) ≡ ba
+          → (p : Bool) → nat_lt a b ≡ p → (bc : Bool) → int_lt (time_at events b) (time_at events c) ≡ bc
+          → (cb : Bool) → int_lt (time_at events c) (time_at events b) ≡ cb → (q : Bool) → nat_lt b c ≡ q
+          → (ac : Bool) → int_lt (time_at events a) (time_at events c) ≡ ac → (ca : Bool) → int_lt (time_at events c) (time_at events a)
+          ≡ ca → (r : Bool) → nat_lt a c ≡ r → (ab || (not ba && p)) ≡ true → (bc || (not cb && q)) ≡ true → (ac || (not ca && r)) ≡ true
       go ab e1 ba e2 p e3 bc e4 cb e5 q e6 true e7 ca e8 r e9 u v = refl
       go true e1 ba e2 p e3 true e4 cb e5 q e6 false e7 ca e8 r e9 u v = absurd (grind (arith, ints))
       go true e1 ba e2 p e3 false e4 true e5 q e6 false e7 ca e8 r e9 u v = absurd (cc v)
@@ -143,7 +149,8 @@ earlier-times events a b c h k =
       go false e1 false e2 true e3 false e4 false e5 false e6 false e7 false e8 r e9 u v = absurd (cc v)
 
 -- of two events into which an event is merged the later one is merged into the earlier one
-later-joined : (events : List Event) (ticks : List ℕ) (g h i : ℕ) → IsJoined events ticks g i → IsJoined events ticks h i → is_earlier events g h ≡ true → IsJoined events ticks g h
+later-joined : (events : List Event) (ticks : List ℕ) (g h i : ℕ)
+    → IsJoined events ticks g i → IsJoined events ticks h i → is_earlier events g h ≡ true → IsJoined events ticks g h
 later-joined events ticks g h i a b e = record {
   first = a.first;
   second = b.first;

@@ -19,7 +19,8 @@ use Rattle.merged_receives.proofs.JoinedReceives.{IsJoined, between-is, is-betwe
 
 -- no Send of the processor of the event at m comes behind it before k
 abbrev AreQuiet : List Event → List ℕ → ℕ → ℕ → Type 0
-AreQuiet events order k m = (a : ℕ) → m < a → a < k → index_at events (slice_index order a) ≡ index_at events (slice_index order m) → sends_at events (slice_index order a) ≡ false
+AreQuiet events order k m = (a : ℕ) → m < a → a < k
+    → index_at events (slice_index order a) ≡ index_at events (slice_index order m) → sends_at events (slice_index order a) ≡ false
 
 -- event h is a receive of the processor that isn't merged, and none of its Sends comes behind it before k
 record IsOpen (events : List Event) (ticks order : List ℕ) (k p h : ℕ) : Type 0 where
@@ -89,7 +90,8 @@ module _ (events : List Event) (ticks order : List ℕ) (o : IsTimeOrder events 
   index-inside = let a = (r i here).0 in let b = (r i here).1 in omega (arith, a, b)
 
   -- events of one index are of one processor
-  same-own : (a b : ℕ) → a < length events → b < length events → index_at events a ≡ index_at events b → processor_at events a ≡ processor_at events b
+  same-own : (a b : ℕ) → a < length events → b < length events
+      → index_at events a ≡ index_at events b → processor_at events a ≡ processor_at events b
   same-own a b la lb e = let x = (r a la).0 in let y = (r b lb).0 in omega (arith, x, y, e)
 
   abbrev h : ℕ
@@ -111,7 +113,8 @@ module _ (events : List Event) (ticks order : List ℕ) (o : IsTimeOrder events 
         let after = before-in_order events order x.m f.m o (let a = x.before in omega (arith, a, l))
         (subst (λ a. is_earlier events a (slice_index order f.m) ≡ true) (sym x.at)
         (subst (λ a. is_earlier events h a ≡ true) (sym f.is) q.2)) in
-        let own : index_at events (slice_index order f.m) ≡ index_at events (slice_index order x.m) = ap (index_at events) f.is ∙ ap (λ n. n - 1) q.1 ∙ sym x.own ∙ sym (ap (index_at events) x.at) in
+        let own : index_at events (slice_index order f.m) ≡ index_at events (slice_index order x.m) = ap (index_at events) f.is
+        ∙ ap (λ n. n - 1) q.1 ∙ sym x.own ∙ sym (ap (index_at events) x.at) in
         true≢false (sym q.0 ∙ sym (ap (sends_at events) f.is) ∙ x.quiet f.m after f.before own)
 
     joined : IsJoined events ticks h i
@@ -126,7 +129,12 @@ module _ (events : List Event) (ticks order : List ℕ) (o : IsTimeOrder events 
 
   -- else it isn't merged
   stays-self : ((receives_at events i ≡ true) → h < length events → slice_index ticks h ≡ slice_index ticks i → ⊥) → IsHead events ticks i i
-  stays-self fails = record { inside = here; stays = none-unmerged events ticks i (λ j lj. false_from_ne_true (is_joined events ticks j i) (joined-not j lj)); part = part-self events ticks i } where
+  stays-self fails = record {
+    inside = here;
+    stays = none-unmerged events ticks i
+        (λ j lj. false_from_ne_true (is_joined events ticks j i) (joined-not j lj));
+    part = part-self events ticks i;
+  } where
     joined-not : (j : ℕ) → j < length events → is_joined events ticks j i ≡ true → ⊥
     joined-not j lj e = fails q.second b.0 tick where
       q : IsJoined events ticks j i
@@ -150,7 +158,8 @@ module _ (events : List Event) (ticks order : List ℕ) (o : IsTimeOrder events 
       b =
           let z = w.last f.0 f.1 (subst (λ x. receives_at events x ≡ true) (sym f.2) q.first) quiet in
           subst (λ x. (slice_index opens x < length events) × (slice_index ticks j ≤ slice_index ticks (slice_index opens x))) index-j
-          (subst (λ x. (slice_index opens (index_at events (slice_index order f.0)) < length events) × (slice_index ticks x ≤ slice_index ticks (slice_index opens (index_at events (slice_index order f.0))))) f.2 z)
+          (subst (λ x. (slice_index opens (index_at events (slice_index order f.0)) < length events)
+          × (slice_index ticks x ≤ slice_index ticks (slice_index opens (index_at events (slice_index order f.0))))) f.2 z)
 
       tick : slice_index ticks h ≡ slice_index ticks i
       tick =
@@ -171,7 +180,8 @@ module _ (events : List Event) (ticks order : List ℕ) (o : IsTimeOrder events 
     go true e true f false g = stays-self (λ rec inside t. true≢false (sym (eq-eqb (slice_index ticks h) (slice_index ticks i) t) ∙ g))
     go true e true f true g = joins-open (ltb-true h (length events) f) e (eqb-true (slice_index ticks h) (slice_index ticks i) g)
 
-  module _ (head : ℕ) (is : head ≡ head_by events ticks h i) (opened : ℕ) (open_is : opened ≡ cond (receives_at events i) head (length events)) where
+  module _ (head : ℕ) (is : head ≡ head_by events ticks h i)
+      (opened : ℕ) (open_is : opened ≡ cond (receives_at events i) head (length events)) where
     right : IsHead events ticks head i
     right = subst (λ x. IsHead events ticks x i) (sym is) head-here
 
@@ -189,13 +199,34 @@ module _ (events : List Event) (ticks order : List ℕ) (o : IsTimeOrder events 
     still-open rec = subst (λ x. IsOpen events ticks order (k + 1) p x × (slice_index ticks i ≤ slice_index ticks x)) (sym is)
         (go (receives_at events i) refl (nat_lt h (length events)) refl (slice_index ticks h == slice_index ticks i) refl) where
           itself : IsHead events ticks i i → IsOpen events ticks order (k + 1) p i × (slice_index ticks i ≤ slice_index ticks i)
-          itself s = (record { m = k; before = omega arith; at = refl; own = refl; receives = rec; stays = s.stays; quiet = λ a la lb e. absurd (omega (arith, la, lb)) }, omega arith)
+          itself s = (
+            record {
+              m = k;
+              before = omega arith;
+              at = refl;
+              own = refl;
+              receives = rec;
+              stays = s.stays;
+              quiet = λ a la lb e. absurd (omega (arith, la, lb));
+            },
+            omega arith,
+          )
 
           longer : IsOpen events ticks order k p h → IsOpen events ticks order (k + 1) p h
-          longer x = record { m = x.m; before = (let b = x.before in omega (arith, b)); at = x.at; own = x.own; receives = x.receives; stays = x.stays; quiet = λ a la lb e. step a la e (cases_lt a k) lb } where
-            step : (a : ℕ) → x.m < a → index_at events (slice_index order a) ≡ index_at events (slice_index order x.m) → (a < k) ⊎ (k ≤ a) → a < k + 1 → sends_at events (slice_index order a) ≡ false
+          longer x = record {
+            m = x.m;
+            before = (let b = x.before in omega (arith, b));
+            at = x.at;
+            own = x.own;
+            receives = x.receives;
+            stays = x.stays;
+            quiet = λ a la lb e. step a la e (cases_lt a k) lb;
+          } where
+            step : (a : ℕ) → x.m < a → index_at events (slice_index order a) ≡ index_at events (slice_index order x.m)
+                → (a < k) ⊎ (k ≤ a) → a < k + 1 → sends_at events (slice_index order a) ≡ false
             step a la e (inl b) lb = x.quiet a la b e
-            step a la e (inr b) lb = let same : k ≡ a = omega (arith, b, lb) in subst (λ n. sends_at events (slice_index order n) ≡ false) same (one-act events i rec)
+            step a la e (inr b) lb = let same : k ≡ a = omega (arith, b, lb) in
+                subst (λ n. sends_at events (slice_index order n) ≡ false) same (one-act events i rec)
 
           go : (a : Bool) → receives_at events i ≡ a → (b : Bool) → nat_lt h (length events) ≡ b → (c : Bool)
               → (slice_index ticks h == slice_index ticks i) ≡ c
@@ -203,35 +234,54 @@ module _ (events : List Event) (ticks order : List ℕ) (o : IsTimeOrder events 
               × (slice_index ticks i ≤ slice_index ticks (cond a (cond b (cond c h i) i) i))
           go false e b f c g = absurd (true≢false (sym rec ∙ e))
           go true e false f c g = itself (stays-self (λ rec inside t. true≢false (sym (lt-ltb h (length events) inside) ∙ f)))
-          go true e true f false g = itself (stays-self (λ rec inside t. true≢false (sym (eq-eqb (slice_index ticks h) (slice_index ticks i) t) ∙ g)))
-          go true e true f true g = (longer (w.held p index-inside (ltb-true h (length events) f)), (let same = eqb-true (slice_index ticks h) (slice_index ticks i) g in omega (arith, same)))
+          go true e true f false g =
+              itself (stays-self (λ rec inside t. true≢false (sym (eq-eqb (slice_index ticks h) (slice_index ticks i) t) ∙ g)))
+          go true e true f true g = (
+            longer (w.held p index-inside (ltb-true h (length events) f)),
+            (let same = eqb-true (slice_index ticks h) (slice_index ticks i) g in omega (arith, same)),
+          )
 
     opened-is : (t : Bool) → receives_at events i ≡ t → opened ≡ cond t head (length events)
     opened-is t e = open_is ∙ ap (λ b. cond b head (length events)) e
 
     -- an open receive of another processor stays open
-    other-open : (q : ℕ) → ¬ (q ≡ p) → IsOpen events ticks order k q (slice_index opens q) → IsOpen events ticks order (k + 1) q (slice_index opens q)
-    other-open q n x = record { m = x.m; before = (let b = x.before in omega (arith, b)); at = x.at; own = x.own; receives = x.receives; stays = x.stays; quiet = λ a la lb e. step a la e (cases_lt a k) lb } where
-      step : (a : ℕ) → x.m < a → index_at events (slice_index order a) ≡ index_at events (slice_index order x.m) → (a < k) ⊎ (k ≤ a) → a < k + 1 → sends_at events (slice_index order a) ≡ false
+    other-open : (q : ℕ) → ¬ (q ≡ p) → IsOpen events ticks order k q (slice_index opens q)
+        → IsOpen events ticks order (k + 1) q (slice_index opens q)
+    other-open q n x = record {
+      m = x.m;
+      before = (let b = x.before in omega (arith, b));
+      at = x.at;
+      own = x.own;
+      receives = x.receives;
+      stays = x.stays;
+      quiet = λ a la lb e. step a la e (cases_lt a k) lb;
+    } where
+      step : (a : ℕ) → x.m < a → index_at events (slice_index order a) ≡ index_at events (slice_index order x.m)
+          → (a < k) ⊎ (k ≤ a) → a < k + 1 → sends_at events (slice_index order a) ≡ false
       step a la e (inl b) lb = x.quiet a la b e
       step a la e (inr b) lb =
           let same : k ≡ a = omega (arith, b, lb) in
           absurd (n (sym x.own ∙ sym (ap (index_at events) x.at) ∙ sym e ∙ ap (λ c. index_at events (slice_index order c)) (sym same)))
 
-    next-open : (q : ℕ) → q < MAX_PROCESSORS → (q ≡ p) ⊎ ¬ (q ≡ p) → slice_index (set opens p opened) q < length events → IsOpen events ticks order (k + 1) q (slice_index (set opens p opened) q)
+    next-open : (q : ℕ) → q < MAX_PROCESSORS → (q ≡ p) ⊎ ¬ (q ≡ p)
+        → slice_index (set opens p opened) q < length events → IsOpen events ticks order (k + 1) q (slice_index (set opens p opened) q)
     next-open q lq (inl e) b = subst (λ x. IsOpen events ticks order (k + 1) x (slice_index (set opens p opened) x))
         (sym e) (subst (λ x. IsOpen events ticks order (k + 1) p x) (sym new-open)
         (own (receives_at events i) refl)) where
           own : (t : Bool) → receives_at events i ≡ t → IsOpen events ticks order (k + 1) p opened
           own true rec = subst (λ x. IsOpen events ticks order (k + 1) p x) (sym (opened-is true rec)) (still-open rec).0
           own false rec = absurd (let at = ap (slice_index (set opens p opened)) e ∙ new-open ∙ opened-is false rec in omega (arith, at, b))
-    next-open q lq (inr n) b = let s = same-open q n in subst (λ x. IsOpen events ticks order (k + 1) q x) (sym s) (other-open q n (w.held q lq (omega (arith, s, b))))
+    next-open q lq (inr n) b = let s = same-open q n in
+        subst (λ x. IsOpen events ticks order (k + 1) q x) (sym s) (other-open q n (w.held q lq (omega (arith, s, b))))
 
-    next-head : (m : ℕ) → (m < k) ⊎ (k ≤ m) → m < k + 1 → IsHead events ticks (slice_index (set heads i head) (slice_index order m)) (slice_index order m)
-    next-head m (inl b) lm = subst (λ x. IsHead events ticks x (slice_index order m)) (sym (get_or-set_other heads i (slice_index order m) head 0 (differ-in_order events order m k o b l))) (w.head m b)
+    next-head : (m : ℕ) → (m < k) ⊎ (k ≤ m) → m < k + 1
+        → IsHead events ticks (slice_index (set heads i head) (slice_index order m)) (slice_index order m)
+    next-head m (inl b) lm = subst (λ x. IsHead events ticks x (slice_index order m))
+        (sym (get_or-set_other heads i (slice_index order m) head 0 (differ-in_order events order m k o b l))) (w.head m b)
     next-head m (inr b) lm =
         let same : k ≡ m = omega (arith, b, lm) in
-        subst (λ n. IsHead events ticks (slice_index (set heads i head) (slice_index order n)) (slice_index order n)) same (subst (λ x. IsHead events ticks x i) (sym new-head) right)
+        subst (λ n. IsHead events ticks (slice_index (set heads i head) (slice_index order n)) (slice_index order n)) same
+        (subst (λ x. IsHead events ticks x i) (sym new-head) right)
 
     -- the receive that is open after this event has the greatest tick
     next-last : (m : ℕ) → (m < k) ⊎ (k ≤ m) → m < k + 1 → (index_at events (slice_index order m) ≡ p)
@@ -240,21 +290,23 @@ module _ (events : List Event) (ticks order : List ℕ) (o : IsTimeOrder events 
         → (slice_index (set opens p opened) (index_at events (slice_index order m)) < length events)
         × (slice_index ticks (slice_index order m) ≤ slice_index ticks
         (slice_index (set opens p opened) (index_at events (slice_index order m))))
-    next-last m (inl b) lm (inr n) rec quiet =
-        subst (λ x. (x < length events) × (slice_index ticks (slice_index order m) ≤ slice_index ticks x)) (sym (same-open (index_at events (slice_index order m)) n))
+    next-last m (inl b) lm (inr n) rec quiet = subst (λ x. (x < length events)
+        × (slice_index ticks (slice_index order m) ≤ slice_index ticks x)) (sym (same-open (index_at events (slice_index order m)) n))
         (w.last m b rec (λ a la lb e. quiet a la (omega (arith, lb)) e))
-    next-last m (inl b) lm (inl e) rec quiet =
-        subst (λ q. (slice_index (set opens p opened) q < length events) × (slice_index ticks (slice_index order m) ≤ slice_index ticks (slice_index (set opens p opened) q))) (sym e)
-        (subst (λ x. (x < length events) × (slice_index ticks (slice_index order m) ≤ slice_index ticks x)) (sym new-open) (own (receives_at events i) refl)) where
+    next-last m (inl b) lm (inl e) rec quiet = subst (λ q. (slice_index (set opens p opened) q < length events) × (slice_index ticks
+        (slice_index order m) ≤ slice_index ticks (slice_index (set opens p opened) q))) (sym e) (subst (λ x. (x < length events)
+        × (slice_index ticks (slice_index order m) ≤ slice_index ticks x)) (sym new-open) (own (receives_at events i) refl)) where
           sends : receives_at events i ≡ false → sends_at events i ≡ true
           sends not = an-act events i here not
 
-          own : (t : Bool) → receives_at events i ≡ t → (opened < length events) × (slice_index ticks (slice_index order m) ≤ slice_index ticks opened)
+          own : (t : Bool) → receives_at events i ≡ t
+              → (opened < length events) × (slice_index ticks (slice_index order m) ≤ slice_index ticks opened)
           own true rec =
               let rise = up m k b l in
               let high = (still-open rec).1 in
               let inside = right.inside in
-              subst (λ x. (x < length events) × (slice_index ticks (slice_index order m) ≤ slice_index ticks x)) (sym (opened-is true rec)) (inside, omega (arith, rise, high))
+              subst (λ x. (x < length events) × (slice_index ticks (slice_index order m) ≤ slice_index ticks x))
+              (sym (opened-is true rec)) (inside, omega (arith, rise, high))
           own false rec = absurd (true≢false (sym (sends rec) ∙ quiet k b (omega arith) (sym e)))
     next-last m (inr b) lm own rec quiet =
         let same : k ≡ m = omega (arith, b, lm) in

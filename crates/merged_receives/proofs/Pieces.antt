@@ -24,8 +24,8 @@ no-piece from ends xs k l = let n = pieces-long from ends xs in sym (get_or_past
 
 pub map-pieces : (f : ℕ → ℕ) (from : ℕ) (ends xs : List ℕ) → pieces from ends (map f xs) ≡ map (map f) (pieces from ends xs)
 map-pieces f from [] xs = refl
-map-pieces f from (end ∷ ends) xs =
-    ap₂ (λ (ys : List ℕ) (yss : List (List ℕ)). ys ∷ yss) (ap (take (end - from)) (drop-map f from xs) ∙ take-map f (end - from) (drop from xs)) (map-pieces f end ends xs)
+map-pieces f from (end ∷ ends) xs = ap₂ (λ (ys : List ℕ) (yss : List (List ℕ)). ys ∷ yss)
+    (ap (take (end - from)) (drop-map f from xs) ∙ take-map f (end - from) (drop from xs)) (map-pieces f end ends xs)
 
 -- Lists that stand one behind the other from a place on are the pieces that end where they end, but for empty ones.
 pub pieces-laid : (from : ℕ) (xss : List (List ℕ)) (places : List ℕ) → ((h : ℕ) → h < length xss → take
@@ -34,14 +34,17 @@ pub pieces-laid : (from : ℕ) (xss : List (List ℕ)) (places : List ℕ) → (
 pieces-laid from [] places w = refl
 pieces-laid from ([] ∷ xss) places w =
     pieces-laid from xss places (λ h l.
-    let next : from + sum (take (suc h) (0 ∷ map length xss)) ≡ from + sum (take h (map length xss)) = (let e = sum_by-cons (λ x. x) 0 (take h (map length xss)) in omega (arith, e)) in
+    let next : from + sum (take (suc h) (0 ∷ map length xss))
+    ≡ from + sum (take h (map length xss)) = (let e = sum_by-cons (λ x. x) 0 (take h (map length xss)) in omega (arith, e)) in
     subst (λ b. take (length (slice_index_or xss h [])) (drop b places) ≡ slice_index_or xss h []) next (w (suc h) (omega (arith, l))))
 pieces-laid from ((x ∷ xs) ∷ xss) places w =
     ap (λ t. pieces from (cond t (ends_from from (map length xss)) ((from + n) ∷ ends_from (from + n) (map length xss))) places) some
     ∙ ap₂ (λ (ys : List ℕ) (yss : List (List ℕ)). ys ∷ yss) first
     (pieces-laid (from + n) xss places (λ h l.
-    let next : from + sum (take (suc h) (n ∷ map length xss)) ≡ from + n + sum (take h (map length xss)) = (let e = sum_by-cons (λ y. y) n (take h (map length xss)) in omega (arith, e)) in
-    subst (λ b. take (length (slice_index_or xss h [])) (drop b places) ≡ slice_index_or xss h []) next (w (suc h) (omega (arith, l))))) where
+    let next : from + sum (take (suc h) (n ∷ map length xss))
+    ≡ from + n + sum (take h (map length xss)) = (let e = sum_by-cons (λ y. y) n (take h (map length xss)) in omega (arith, e)) in
+    subst (λ b. take (length (slice_index_or xss h [])) (drop b places) ≡ slice_index_or xss h []) next
+    (w (suc h) (omega (arith, l))))) where
       n : ℕ
       n = length (x ∷ xs)
 

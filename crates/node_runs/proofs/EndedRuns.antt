@@ -21,20 +21,20 @@ use Rattle.command_faults.specs.Faults.{fault_of_write}
 use Rattle.node_runs.specs.Runs.{AllDecided, HaveEnded, IsEndedRun, IsUnwrittenRun}
 
 -- what holds of how much was done from each seat holds of how many steps its processor has
-own_counts : (P : ℕ → Type 0) (c : Setup) (steps : List Step) (seats : List Turns) → AgreeWith c steps seats → All (λ s. P (length s.done)) seats
-    → All (λ p. P (length (own_steps steps p))) (map (λ s. s.proc) seats)
-own_counts P c steps seats agree made =
-    All-map (λ p. P (length (own_steps steps p))) (λ s. s.proc) seats
-    (λ i d within. subst P (ap length (agree i d within) ∙ length-map (own_steps steps (get_or seats i d).proc) (λ x. done_at c steps x)) (made i d within))
+own_counts : (P : ℕ → Type 0) (c : Setup) (steps : List Step) (seats : List Turns)
+    → AgreeWith c steps seats → All (λ s. P (length s.done)) seats → All (λ p. P (length (own_steps steps p))) (map (λ s. s.proc) seats)
+own_counts P c steps seats agree made = All-map (λ p. P (length (own_steps steps p))) (λ s. s.proc) seats (λ i d within. subst P
+    (ap length (agree i d within) ∙ length-map (own_steps steps (get_or seats i d).proc) (λ x. done_at c steps x)) (made i d within))
 
 -- so of each processor, if there is a seat for each
-counts : (P : ℕ → Type 0) (c : Setup) (t : Recorded) (seats : List Turns) → AreInOrder c seats → AgreeWith t.config t.steps seats → All (λ s. P (length s.done)) seats
-    → All (λ p. P (length (own_steps t.steps p))) (processors c)
-counts P c t seats order agree made = subst (λ ps. All (λ p. P (length (own_steps t.steps p))) ps) order (own_counts P t.config t.steps seats agree made)
+counts : (P : ℕ → Type 0) (c : Setup) (t : Recorded) (seats : List Turns) → AreInOrder c seats
+    → AgreeWith t.config t.steps seats → All (λ s. P (length s.done)) seats → All (λ p. P (length (own_steps t.steps p))) (processors c)
+counts P c t seats order agree made = subst (λ ps. All (λ p. P (length (own_steps t.steps p))) ps) order
+    (own_counts P t.config t.steps seats agree made)
 
 -- what was done from the seats makes up a run that has ended
-pub ended_run : (e : RunEnd) (c : Setup) (n : ℕ) (t : Recorded) (seats : List Turns) → IsRunOf c t → AreInOrder c seats → AgreeWith t.config t.steps seats
-    → HaveEnded e t.config n t.steps seats → IsEndedRun e c n t
+pub ended_run : (e : RunEnd) (c : Setup) (n : ℕ) (t : Recorded) (seats : List Turns)
+    → IsRunOf c t → AreInOrder c seats → AgreeWith t.config t.steps seats → HaveEnded e t.config n t.steps seats → IsEndedRun e c n t
 ended_run end.Steps c n t seats run order agree made = record { run = run; ended = counts (λ k. k ≡ n) c t seats order agree made }
 ended_run end.Decided c n t seats run order agree made = record {
   run = run;
@@ -48,8 +48,8 @@ ended_run end.Decided c n t seats run order agree made = record {
 }
 
 -- such a run that wasn't written whole
-pub unwritten_run : (e : RunEnd) (c : Setup) (n : ℕ) (t shown : Recorded) (before after : Option (List ℕ)) (why : WriteError) → IsEndedRun e c n t → shown ≡ t
-    → WroteBefore why (trace_text shown) before after → IsUnwrittenRun e c n before after (fault_of_write why)
+pub unwritten_run : (e : RunEnd) (c : Setup) (n : ℕ) (t shown : Recorded) (before after : Option (List ℕ)) (why : WriteError) → IsEndedRun
+    e c n t → shown ≡ t → WroteBefore why (trace_text shown) before after → IsUnwrittenRun e c n before after (fault_of_write why)
 unwritten_run e c n t shown before after (unwritten.Write k) over same part =
     (shown, subst (IsEndedRun e c n) (sym same) over, part.0, part.1)
 unwritten_run e c n t shown before after unwritten.Memory over same part = tt

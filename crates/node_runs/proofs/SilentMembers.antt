@@ -23,7 +23,8 @@ none_silent set trace g f phi one = λ p silent.
     omega (arith, long, one, order)
 
 -- the named gap is as long as the silence, and so is one from tick g to the last
-pub whole_window : (set : ℕ) (trace : Recorded) (g f p : ℕ) (w : Gap) → IsPhi set trace g f → NamesGap set trace g f (Some w) → IsSilentSince set trace g p → (w.from ≡ g) × (w.to ≡ trace.last)
+pub whole_window : (set : ℕ) (trace : Recorded) (g f p : ℕ) (w : Gap)
+    → IsPhi set trace g f → NamesGap set trace g f (Some w) → IsSilentSince set trace g p → (w.from ≡ g) × (w.to ≡ trace.last)
 whole_window set trace g f p w phi named silent =
     let long = too_long set trace g f p phi silent in
     let own = named.1.long in
@@ -32,13 +33,16 @@ whole_window set trace g f p w phi named silent =
     (omega (arith, long, own, from, inside), omega (arith, long, own, from, inside))
 
 -- a gap that is neither leaves no silent member
-pub other_gap : (set : ℕ) (trace : Recorded) (g f : ℕ) (w : Gap) → IsPhi set trace g f → NamesGap set trace g f (Some w) → ((w.from ≡ g) × (w.to ≡ trace.last) → ⊥) → NamesSilent set trace g None
+pub other_gap : (set : ℕ) (trace : Recorded) (g f : ℕ) (w : Gap)
+    → IsPhi set trace g f → NamesGap set trace g f (Some w) → ((w.from ≡ g) × (w.to ≡ trace.last) → ⊥) → NamesSilent set trace g None
 other_gap set trace g f w phi named other = λ p silent. other (whole_window set trace g f p w phi named silent)
 
 -- one that goes from tick g to the last is that of the least silent member
-pub named_silent : (set : ℕ) (trace : Recorded) (g f : ℕ) (w : Gap) → NamesGap set trace g f (Some w) → w.from ≡ g → w.to ≡ trace.last → NamesSilent set trace g (Some w.proc)
+pub named_silent : (set : ℕ) (trace : Recorded) (g f : ℕ) (w : Gap)
+    → NamesGap set trace g f (Some w) → w.from ≡ g → w.to ≡ trace.last → NamesSilent set trace g (Some w.proc)
 named_silent set trace g f w named from to =
     let long = named.1.long in (
-      subst (λ x. IsGap set trace (record { proc = w.proc; from = g; to = x })) to (subst (λ x. IsGap set trace (record { proc = w.proc; from = x; to = w.to })) from named.1.gap),
+      subst (λ x. IsGap set trace (record { proc = w.proc; from = g; to = x })) to
+          (subst (λ x. IsGap set trace (record { proc = w.proc; from = x; to = w.to })) from named.1.gap),
       λ o silent. named.1.least (record { proc = o; from = g; to = trace.last }) silent (sym from) (omega (arith, long, from, to)),
     )

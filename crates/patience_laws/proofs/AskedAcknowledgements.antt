@@ -17,20 +17,22 @@ eqb-other : (p o : ℕ) (b : Bool) → (p == o) ≡ b → p ≢ o → (p == o) �
 eqb-other p o true e other = absurd (other (eqb-true p o e))
 eqb-other p o false e other = e
 
-module _ (patience set : ℕ) (trace : Recorded) (g d f : ℕ) (keeps : KeepsBounds patience set trace g d f) (order : TakeInOrder set trace) (itself : HearThemselves set trace) where
+module _ (patience set : ℕ) (trace : Recorded) (g d f : ℕ)
+    (keeps : KeepsBounds patience set trace g d f) (order : TakeInOrder set trace) (itself : HearThemselves set trace) where
   abbrev c : Setup
   c = trace.config
 
-  module _ (round x : ℕ) (touch : AreInTouch patience set trace g (round + 1) x) (there : AreInRoundFrom set trace (round + 1) x) (low : 1 ≤ round) (part : part_of round ≡ 2) where
+  module _ (round x : ℕ) (touch : AreInTouch patience set trace g (round + 1) x)
+      (there : AreInRoundFrom set trace (round + 1) x) (low : 1 ≤ round) (part : part_of round ≡ 2) where
     third : part_of (round + 1) ≡ 3
     third = part-next round 2 low (omega arith) part
 
     -- who owes no acknowledgement is soon in the lock-release round
-    other-goes : (q : ℕ) → has_proc set q ≡ true → q ≢ owner c.n (phase_of (round + 1)) → IsInRoundFrom trace q (round + 1 + 1) (x + 1 * f + f)
-    other-goes q m other =
-        hears-ends trace patience set g f q keeps.run keeps.trace_is.time (keeps.paced q m) m keeps.phi (round + 1) x touch.since (there q m) 1 (x + 1 * f)
-        (few-one c trace.steps q (round + 1) (inr third)) (omega arith) keeps.within keeps.size
-        (record {
+    other-goes : (q : ℕ) → has_proc set q ≡ true → q ≢ owner c.n (phase_of (round + 1))
+        → IsInRoundFrom trace q (round + 1 + 1) (x + 1 * f + f)
+    other-goes q m other = hears-ends trace patience set g f q keeps.run keeps.trace_is.time
+        (keeps.paced q m) m keeps.phi (round + 1) x touch.since (there q m) 1 (x + 1 * f)
+        (few-one c trace.steps q (round + 1) (inr third)) (omega arith) keeps.within keeps.size (record {
           members = λ z mz may. absurd (true≢false (sym may ∙ deaf z));
           others = λ z is mz may. absurd (true≢false (sym may ∙ deaf z));
         })
@@ -46,7 +48,8 @@ module _ (patience set : ℕ) (trace : Recorded) (g d f : ℕ) (keeps : KeepsBou
     pub asked-ends : AreInRoundFrom set trace (round + 1 + 1) (x + f + f + c.n * f + d + f)
     asked-ends p m =
         let one = times-more 0 f in
-        told-ends patience set trace g d f keeps (round + 1) x touch there (omega arith) p 1 (x + f + f + c.n * f) m (few-one c trace.steps p (round + 1) (inr third)) (omega arith) told
+        told-ends patience set trace g d f keeps (round + 1) x touch there
+        (omega arith) p 1 (x + f + f + c.n * f) m (few-one c trace.steps p (round + 1) (inr third)) (omega arith) told
       where
         came : x + f ≤ trace.last → round + 1 ≤ passed trace.steps p + 1
         came last =
@@ -54,7 +57,8 @@ module _ (patience set : ℕ) (trace : Recorded) (g d f : ℕ) (keeps : KeepsBou
             let l = there p m s.step.place s.step.step (omega (arith, s.step.tick, s.from)) in
             omega (arith, passed-before trace.steps p s.step.place, s.step.tick, s.from)
 
-        proposes : (o : Option ℕ) → (node_in c trace.steps p (round + 1)).proposal ≡ o → is_some o ≡ true → (v : ℕ) × ((node_in c trace.steps p (round + 1)).proposal ≡ Some v)
+        proposes : (o : Option ℕ) → (node_in c trace.steps p (round + 1)).proposal ≡ o
+            → is_some o ≡ true → (v : ℕ) × ((node_in c trace.steps p (round + 1)).proposal ≡ Some v)
         proposes (Some v) e h = (v, e)
         proposes None e h = absurd (true≢false (sym h))
 
@@ -83,13 +87,15 @@ module _ (patience set : ℕ) (trace : Recorded) (g d f : ℕ) (keeps : KeepsBou
                 (omega arith)))
               where
                 sent_by : IsSentBy trace p p (round + 1) (x + 1 * f) → IsSentBy trace p p (round + 1) (x + f + f + c.n * f)
-                sent_by s = let one = times-more 0 f in let by = s.by in record { message = s.message; sent = s.sent; later = s.later; by = omega arith }
+                sent_by s = let one = times-more 0 f in
+                    let by = s.by in record { message = s.message; sent = s.sent; later = s.later; by = omega arith }
 
                 owes : (node_in c trace.steps p (round + 1)).owes_ack ≡ true
                 owes =
                     let v = proposes (node_in c trace.steps p (round + 1)).proposal refl parts.1 in
                     let come = came (omega arith) in
-                    owes-itself trace patience set keeps.run order round low part itself p v.0 (own ∙ ap (owner c.n) (same-phase round low part)) m (member-proc c set keeps.within p m)
+                    owes-itself trace patience set keeps.run order round low part itself p v.0
+                    (own ∙ ap (owner c.n) (same-phase round low part)) m (member-proc c set keeps.within p m)
                     (sym (proposal-kept c trace.steps p round low part) ∙ v.1) (omega arith)
 
             theirs : q ≢ owner c.n (phase_of (round + 1)) → IsSentBy trace q p (round + 1) (x + f + f + c.n * f)
@@ -103,8 +109,10 @@ module _ (patience set : ℕ) (trace : Recorded) (g d f : ℕ) (keeps : KeepsBou
                 let since = touch.since in
                 let few = few-all c trace.steps q (round + 1 + 1) in
                 let fourth : part_of (round + 1 + 1) ≡ 4 = part-next (round + 1) 3 (omega arith) (omega arith) third in
-                let s = sent-by trace patience set g f q keeps.run keeps.trace_is.time (keeps.paced q mq) mq keeps.phi (round + 1 + 1) (x + 1 * f + f) (omega arith) (other-goes q mq other) (omega arith)
-                (c.n - 1) p (with_proper (node_in c trace.steps q (round + 1 + 1)) (Locks (node_in c trace.steps q (round + 1 + 1)).locks)) (omega arith) (member-proc c set keeps.within p m)
+                let s = sent-by trace patience set g f q keeps.run keeps.trace_is.time
+                (keeps.paced q mq) mq keeps.phi (round + 1 + 1) (x + 1 * f + f) (omega arith) (other-goes q mq other) (omega arith)
+                (c.n - 1) p (with_proper (node_in c trace.steps q (round + 1 + 1)) (Locks (node_in c trace.steps q (round + 1 + 1)).locks))
+                (omega arith) (member-proc c set keeps.within p m)
                 (locks-sent c (node_in c trace.steps q (round + 1 + 1)) q (round + 1 + 1) p fourth) (omega arith) in
                 let later = s.later in
                 record { message = s.message; sent = s.sent; later = omega (arith, s.by); by = omega (arith, s.by) }
@@ -128,11 +136,13 @@ module _ (patience set : ℕ) (trace : Recorded) (g d f : ℕ) (keeps : KeepsBou
   unfolding total costs
   cost-one = refl
 
-  cost-two : total 5 2 ≡ 3 * f + product + d + f + (f + f + product + d + f + (product + d + f + (f + d + f + (3 * f + product + d + f + 0))))
+  cost-two : total 5 2
+      ≡ 3 * f + product + d + f + (f + f + product + d + f + (product + d + f + (f + d + f + (3 * f + product + d + f + 0))))
   unfolding total costs
   cost-two = refl
 
-  cost-three : total 5 3 ≡ f + f + product + d + f + (product + d + f + (f + d + f + (3 * f + product + d + f + (f + f + product + d + f + 0))))
+  cost-three : total 5 3
+      ≡ f + f + product + d + f + (product + d + f + (f + d + f + (3 * f + product + d + f + (f + f + product + d + f + 0))))
   unfolding total costs
   cost-three = refl
 
@@ -168,7 +178,8 @@ module _ (patience set : ℕ) (trace : Recorded) (g d f : ℕ) (keeps : KeepsBou
           | inl three ↦ of (f + f + c.n * f + d + f) (ap costs three) (asks three)
           | inr e ↦ (let four : part_of r ≡ 4 = omega arith in
               of (c.n * f + d + f) (ap costs four)
-              (let e : z + c.n * f + d + f ≡ z + (c.n * f + d + f) = omega arith in subst (AreInRoundFrom set trace (r + 1)) e (releasing-ends patience set trace g d f keeps r z in_touch there (omega arith) four)))
+              (let e : z + c.n * f + d + f ≡ z + (c.n * f + d + f) = omega arith in subst (AreInRoundFrom set trace (r + 1)) e
+              (releasing-ends patience set trace g d f keeps r z in_touch there (omega arith) four)))
         ]
       ]
     ]
@@ -176,7 +187,8 @@ module _ (patience set : ℕ) (trace : Recorded) (g d f : ℕ) (keeps : KeepsBou
         in_touch : AreInTouch patience set trace g r z
         in_touch = touch-later patience set trace g base x r z up late touch
 
-        of : (cost : ℕ) → costs (part_of r) ≡ cost → AreInRoundFrom set trace (r + 1) (z + cost) → AreInRoundFrom set trace (r + 1) (z + costs (part_of r))
+        of : (cost : ℕ) → costs (part_of r) ≡ cost
+            → AreInRoundFrom set trace (r + 1) (z + cost) → AreInRoundFrom set trace (r + 1) (z + costs (part_of r))
         of cost e there = subst (λ m. AreInRoundFrom set trace (r + 1) (z + m)) (sym e) there
 
         asks : part_of r ≡ 3 → AreInRoundFrom set trace (r + 1) (z + (f + f + c.n * f + d + f))
@@ -185,9 +197,11 @@ module _ (patience set : ℕ) (trace : Recorded) (g d f : ℕ) (keeps : KeepsBou
             let h : z + f + f + c.n * f + d + f ≡ z + (f + f + c.n * f + d + f) = omega arith in
             subst (AreInRoundFrom set trace (r + 1)) h
             (subst (λ m. AreInRoundFrom set trace (m + 1) (z + f + f + c.n * f + d + f)) e
-            (asked-ends (r - 1) z (subst (λ m. AreInTouch patience set trace g m z) (sym e) in_touch) (subst (λ m. AreInRoundFrom set trace m z) (sym e) there) (omega arith) (omega arith)))
+            (asked-ends (r - 1) z (subst (λ m. AreInTouch patience set trace g m z) (sym e) in_touch)
+            (subst (λ m. AreInRoundFrom set trace m z) (sym e) there) (omega arith) (omega arith)))
 
-    chain : (count r z : ℕ) → base ≤ r → x ≤ z → AreInRoundFrom set trace r z → AreInRoundFrom set trace (r + count) (z + total count (part_of r))
+    chain : (count r z : ℕ) → base ≤ r → x ≤ z → AreInRoundFrom set trace r z
+        → AreInRoundFrom set trace (r + count) (z + total count (part_of r))
     unfolding total
     chain zero r z up late there =
         let e : r + 0 ≡ r = omega arith in
@@ -203,7 +217,8 @@ module _ (patience set : ℕ) (trace : Recorded) (g d f : ℕ) (keeps : KeepsBou
         (chain count (r + 1) (z + costs (part_of r)) (omega arith) (omega arith) (over r z up late there)))
 
     -- So in so many ticks all members pass five rounds.
-    pub five-rounds : (wait r z : ℕ) → 5 * d + (4 * c.n + 14) * f ≤ wait → base ≤ r → x ≤ z → AreInRoundFrom set trace r z → AreInRoundFrom set trace (r + 5) (z + wait)
+    pub five-rounds : (wait r z : ℕ) → 5 * d + (4 * c.n + 14) * f ≤ wait
+        → base ≤ r → x ≤ z → AreInRoundFrom set trace r z → AreInRoundFrom set trace (r + 5) (z + wait)
     five-rounds wait r z enough up late there p m k is after =
         let e : (4 * c.n + 14) * f ≡ 4 * (c.n * f) + 14 * f = grind arith in
         let cost = five-cost (part_of r) (omega arith) (omega arith) in

@@ -18,7 +18,8 @@ search-first : (test : ℕ → Bool) (n : ℕ) → ((j : ℕ) → test j ≡ tru
 search-first test zero = inl (λ j t. omega arith)
 search-first test (suc n) = go (search-first test n) (test n) refl
   where
-    go : ((j : ℕ) → test j ≡ true → n ≤ j) ⊎ IsFirstOf test n → (b : Bool) → test n ≡ b → ((j : ℕ) → test j ≡ true → suc n ≤ j) ⊎ IsFirstOf test (suc n)
+    go : ((j : ℕ) → test j ≡ true → n ≤ j) ⊎ IsFirstOf test n
+        → (b : Bool) → test n ≡ b → ((j : ℕ) → test j ≡ true → suc n ≤ j) ⊎ IsFirstOf test (suc n)
     go (inr x) b e = inr (record { number = x.number; below = let l = x.below in omega arith; passes = x.passes; least = x.least })
     go (inl none) true e = inr (record { number = n; below = omega arith; passes = e; least = none })
     go (inl none) false e = inl (λ j t. later j t (none j t))
@@ -37,7 +38,8 @@ pub record FirstEnd (set : ℕ) (steps : List Step) (round : ℕ) : Type 0 where
   pub ids : List ℕ
   pub step : step_at steps (suc place) ≡ Some (record { proc = proc; act = Receive true ids })
   pub round_is : rounds_after steps proc place + 1 ≡ round
-  pub first : (p k : ℕ) (ids : List ℕ) → has_proc set p ≡ true → step_at steps k ≡ Some (record { proc = p; act = Receive true ids }) → round_at steps p k ≡ round → suc place ≤ k
+  pub first : (p k : ℕ) (ids : List ℕ) → has_proc set p ≡ true
+      → step_at steps k ≡ Some (record { proc = p; act = Receive true ids }) → round_at steps p k ≡ round → suc place ≤ k
 
 module _ (set : ℕ) (steps : List Step) (round : ℕ) where
   abbrev ends_it : ℕ → Step → Bool
@@ -46,11 +48,12 @@ module _ (set : ℕ) (steps : List Step) (round : ℕ) where
   abbrev is_end : ℕ → Bool
   is_end k = option_map_or (ends_it k) (step_at steps k) false
 
-  end-test : (p k : ℕ) (ids : List ℕ) → has_proc set p ≡ true → step_at steps k ≡ Some (record { proc = p; act = Receive true ids }) → round_at steps p k ≡ round → is_end k ≡ true
+  end-test : (p k : ℕ) (ids : List ℕ) → has_proc set p ≡ true
+      → step_at steps k ≡ Some (record { proc = p; act = Receive true ids }) → round_at steps p k ≡ round → is_end k ≡ true
   end-test p k ids m at here = rw (at, m, eq-eqb (round_at steps p k) round here) refl
 
-  test-end : (k : ℕ) (o : Option Step) → step_at steps k ≡ o → option_map_or (ends_it k) o false ≡ true
-      → (p : ℕ) × (ids : List ℕ) × (has_proc set p ≡ true) × (step_at steps k ≡ Some (record { proc = p; act = Receive true ids })) × (round_at steps p k ≡ round)
+  test-end : (k : ℕ) (o : Option Step) → step_at steps k ≡ o → option_map_or (ends_it k) o false ≡ true → (p : ℕ) × (ids : List ℕ)
+      × (has_proc set p ≡ true) × (step_at steps k ≡ Some (record { proc = p; act = Receive true ids })) × (round_at steps p k ≡ round)
   test-end k None e t = absurd (true≢false (sym t))
   test-end k (Some x) e t = of x.act refl
     where
@@ -60,10 +63,12 @@ module _ (set : ℕ) (steps : List Step) (round : ℕ) where
       more : (act_ends x.act ≡ true) × ((round_at steps x.proc k == round) ≡ true)
       more = and_parts (act_ends x.act) (round_at steps x.proc k == round) parts.1
 
-      of : (act : Act) → x.act ≡ act → (p : ℕ) × (ids : List ℕ) × (has_proc set p ≡ true) × (step_at steps k ≡ Some (record { proc = p; act = Receive true ids })) × (round_at steps p k ≡ round)
+      of : (act : Act) → x.act ≡ act → (p : ℕ) × (ids : List ℕ)
+          × (has_proc set p ≡ true) × (step_at steps k ≡ Some (record { proc = p; act = Receive true ids })) × (round_at steps p k ≡ round)
       of (Send to) f = absurd (true≢false (sym more.0 ∙ ap act_ends f))
       of (Receive false ids) f = absurd (true≢false (sym more.0 ∙ ap act_ends f))
-      of (Receive true ids) f = (x.proc, ids, parts.0, e ∙ ap (λ a. Some (record { proc = x.proc; act = a })) f, eqb-true (round_at steps x.proc k) round more.1)
+      of (Receive true ids) f =
+          (x.proc, ids, parts.0, e ∙ ap (λ a. Some (record { proc = x.proc; act = a })) f, eqb-true (round_at steps x.proc k) round more.1)
 
   -- If a member ends the round, there is a first one that does.
   pub first-end : (p : ℕ) → has_proc set p ≡ true → IsEndOf steps p round → FirstEnd set steps round

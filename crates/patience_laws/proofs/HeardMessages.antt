@@ -40,12 +40,13 @@ one-heard : (peers : List Peer) (q from round : ℕ) → 1 ≤ q → 1 ≤ from 
     → IsOneHeard peers q from (peer_of (slice_set peers (from - 1) (after_hearing round (peer_of peers from))) q) round
 one-heard peers q from round low first last = go (cases_eq from q)
   where
-    go : (from ≡ q) ⊎ (from ≢ q) → IsOneHeard peers q from (peer_of (slice_set peers (from - 1) (after_hearing round (peer_of peers from))) q) round
+    go : (from ≡ q) ⊎ (from ≢ q)
+        → IsOneHeard peers q from (peer_of (slice_set peers (from - 1) (after_hearing round (peer_of peers from))) q) round
     go (inl e) =
         inl (
           e,
-          subst (λ j. peer_of (slice_set peers (from - 1) (after_hearing round (peer_of peers from))) j ≡ after_hearing round (peer_of peers j)) e
-              (get_or-set_same peers (from - 1) (after_hearing round (peer_of peers from)) unheard (omega arith)),
+          subst (λ j. peer_of (slice_set peers (from - 1) (after_hearing round (peer_of peers from))) j ≡ after_hearing round
+              (peer_of peers j)) e (get_or-set_same peers (from - 1) (after_hearing round (peer_of peers from)) unheard (omega arith)),
         )
     go (inr other) =
         inr (other, get_or-set_other peers (from - 1) (q - 1) (after_hearing round (peer_of peers from)) unheard (λ e. other (omega arith)))
@@ -62,8 +63,8 @@ latest-origin round old = elim (cases_lt old.latest round) [ inl l ↦ inr (omeg
 
 module _ (steps : List Step) (p q : ℕ) (low : 1 ≤ q) where
   -- the first message, with what the others do
-  with-first : (s : ℕ) (ids : List ℕ) (old mid new : Peer) → ((sender_of steps s ≡ q) × (mid ≡ after_hearing (round_ahead steps p s) old)) ⊎ ((sender_of steps s ≢ q) × (mid ≡ old))
-      → IsHeard steps p ids q mid new → IsHeard steps p (s ∷ ids) q old new
+  with-first : (s : ℕ) (ids : List ℕ) (old mid new : Peer) → ((sender_of steps s ≡ q) × (mid ≡ after_hearing (round_ahead steps p s) old))
+      ⊎ ((sender_of steps s ≢ q) × (mid ≡ old)) → IsHeard steps p ids q mid new → IsHeard steps p (s ∷ ids) q old new
   with-first s ids old mid new (inr other) (inl un) =
       inl (record {
         none = λ m. elim (Contains-cons_cases s m.message ids m.is_in) [
@@ -130,18 +131,21 @@ module _ (steps : List Step) (p q : ℕ) (low : 1 ≤ q) where
       })
 
   -- all of them
-  pub heard-all : (ids : List ℕ) (peers : List Peer) → ((s : ℕ) → Contains ids s → (1 ≤ sender_of steps s) × (sender_of steps s ≤ length peers))
-      → IsHeard steps p ids q (peer_of peers q) (peer_of (fold (heard_message steps p) peers ids) q)
+  pub heard-all : (ids : List ℕ) (peers : List Peer) → ((s : ℕ) → Contains ids s → (1 ≤ sender_of steps s)
+      × (sender_of steps s ≤ length peers)) → IsHeard steps p ids q (peer_of peers q) (peer_of (fold (heard_message steps p) peers ids) q)
   heard-all [] peers procs = inl (record { none = λ m. Contains-nil m.message m.is_in; same = refl })
   heard-all (s ∷ ids) peers procs =
       let is = procs s (Contains-head s ids) in
       let next = heard_message steps p peers s in
-      let long : length next ≡ length peers = length-set peers (sender_of steps s - 1) (after_hearing (round_ahead steps p s) (peer_of peers (sender_of steps s))) in
+      let long : length next ≡ length peers = length-set peers
+      (sender_of steps s - 1) (after_hearing (round_ahead steps p s) (peer_of peers (sender_of steps s))) in
       with-first s ids (peer_of peers q) (peer_of next q) (peer_of (fold (heard_message steps p) next ids) q)
       (one-heard peers q (sender_of steps s) (round_ahead steps p s) low is.0 is.1)
       (heard-all ids next (λ t d. let r = procs t (Contains-rest s t ids d) in (r.0, subst (λ n. sender_of steps t ≤ n) (sym long) r.1)))
 
 -- as many processors are kept
-pub heard-long : (steps : List Step) (p : ℕ) (ids : List ℕ) (peers : List Peer) → length (fold (heard_message steps p) peers ids) ≡ length peers
+pub heard-long : (steps : List Step) (p : ℕ) (ids : List ℕ) (peers : List Peer)
+    → length (fold (heard_message steps p) peers ids) ≡ length peers
 heard-long steps p [] peers = refl
-heard-long steps p (s ∷ ids) peers = heard-long steps p ids (heard_message steps p peers s) ∙ length-set peers (sender_of steps s - 1) (after_hearing (round_ahead steps p s) (peer_of peers (sender_of steps s)))
+heard-long steps p (s ∷ ids) peers = heard-long steps p ids (heard_message steps p peers s)
+    ∙ length-set peers (sender_of steps s - 1) (after_hearing (round_ahead steps p s) (peer_of peers (sender_of steps s)))

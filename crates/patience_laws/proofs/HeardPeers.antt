@@ -43,7 +43,8 @@ pub record IsListening (steps : List Step) (p q k : ℕ) (old mid : Peer) : Type
   pub spoke : mid.spoke ≡ true
   pub suspected : mid.suspected ≡ false
   pub up : old.latest ≤ mid.latest
-  pub each : (s : ℕ) → IsTakenAt steps p (suc k) s → IsSend steps q p s → rounds_after steps p k < round_at steps q s → round_at steps q s ≤ mid.latest
+  pub each : (s : ℕ) → IsTakenAt steps p (suc k) s
+      → IsSend steps q p s → rounds_after steps p k < round_at steps q s → round_at steps q s ≤ mid.latest
   pub origin : Latest steps p q k old mid
 
 -- what was heard of q, after a Receive
@@ -69,9 +70,11 @@ pub record IsStillOf (c : Setup) (patience : ℕ) (steps : List Step) (p q k : �
   pub no_receive : (ends : Bool) (ids : List ℕ) → step_at steps (suc k) ≡ Some (record { proc = p; act = Receive ends ids }) → ⊥
 
 -- who takes something makes a Receive, the one of the step
-same-taken : (steps : List Step) (p k s : ℕ) (ends : Bool) (ids : List ℕ) → step_at steps k ≡ Some (record { proc = p; act = Receive ends ids }) → IsTakenAt steps p k s → Contains ids s
+same-taken : (steps : List Step) (p k s : ℕ) (ends : Bool) (ids : List ℕ)
+    → step_at steps k ≡ Some (record { proc = p; act = Receive ends ids }) → IsTakenAt steps p k s → Contains ids s
 same-taken steps p k s ends ids is t =
-    let same : record { proc = p; act = Receive t.ends t.ids } ≡ record { proc = p; act = Receive ends ids } = same_Some _ _ (sym t.step ∙ is) in
+    let same : record { proc = p; act = Receive t.ends t.ids }
+    ≡ record { proc = p; act = Receive ends ids } = same_Some _ _ (sym t.step ∙ is) in
     subst (λ xs. Contains xs s) (ap (λ (x : Step). act_ids x.act) same) t.taken
 
 module _ (c : Setup) (patience : ℕ) (steps : List Step) (p q : ℕ) (w : IsWellFormed c steps) (is : IsProc c q) where
@@ -89,8 +92,8 @@ module _ (c : Setup) (patience : ℕ) (steps : List Step) (p q : ℕ) (w : IsWel
   pace-long zero = length-replicate c.n unheard
   pace-long (suc k) = elim (step-cases c patience steps p k) [
     | inl s ↦ ap (λ (x : Paced). length x.peers) s.pace ∙ pace-long k
-    | inr r ↦ ap (λ (x : Paced). length x.peers) r.pace ∙ received-long r.ends (rounds_after steps p k + 1) (heard_ids (take k steps) p r.ids (pace_after c patience steps p k))
-        ∙ heard-long (take k steps) p r.ids (pace_after c patience steps p k).peers ∙ pace-long k
+    | inr r ↦ ap (λ (x : Paced). length x.peers) r.pace ∙ received-long r.ends (rounds_after steps p k + 1) (heard_ids (take k steps)
+        p r.ids (pace_after c patience steps p k)) ∙ heard-long (take k steps) p r.ids (pace_after c patience steps p k).peers ∙ pace-long k
   ]
 
   module _ (k : ℕ) (r : IsReceived c patience steps p k) where
@@ -101,7 +104,8 @@ module _ (c : Setup) (patience : ℕ) (steps : List Step) (p q : ℕ) (w : IsWel
     sender-here : (s a : ℕ) → s < suc k → IsSend steps a p s → sender_of (take k steps) s ≡ a
     sender-here s a l sent = sender_of-sent (take k steps) a p s (step_at-take steps k s (omega arith) ∙ sent)
 
-    procs : (s : ℕ) → Contains r.ids s → (1 ≤ sender_of (take k steps) s) × (sender_of (take k steps) s ≤ length (pace_after c patience steps p k).peers)
+    procs : (s : ℕ) → Contains r.ids s → (1 ≤ sender_of (take k steps) s)
+        × (sender_of (take k steps) s ≤ length (pace_after c patience steps p k).peers)
     procs s d =
         let e = sent-here s d in
         let from = sender-here s e.1 e.0 e.2 in
@@ -110,7 +114,8 @@ module _ (c : Setup) (patience : ℕ) (steps : List Step) (p q : ℕ) (w : IsWel
         (omega (arith, proc.1, proc.0), omega (arith, proc.1, proc.0))
 
     -- of which round it is, as far as p can hear it
-    ahead-here : (s : ℕ) → s < suc k → IsSend steps q p s → rounds_after steps p k < round_at steps q s → round_ahead (take k steps) p s ≡ round_at steps q s
+    ahead-here : (s : ℕ) → s < suc k → IsSend steps q p s
+        → rounds_after steps p k < round_at steps q s → round_ahead (take k steps) p s ≡ round_at steps q s
     ahead-here s l sent ahead =
         let same = round_at-take steps q k s (omega arith) in
         round_ahead-ahead (take k steps) q p s (step_at-take steps k s (omega arith) ∙ sent) (omega arith) ∙ same
@@ -140,7 +145,8 @@ module _ (c : Setup) (patience : ℕ) (steps : List Step) (p q : ℕ) (w : IsWel
     mid-heard = peer_of (heard_ids (take k steps) p r.ids (pace_after c patience steps p k)).peers q
 
     -- what is heard of q with its messages
-    heard-here : IsDeaf steps p q k (peer_after c patience steps p q k) mid-heard ⊎ IsListening steps p q k (peer_after c patience steps p q k) mid-heard
+    heard-here : IsDeaf steps p q k (peer_after c patience steps p q k) mid-heard
+        ⊎ IsListening steps p q k (peer_after c patience steps p q k) mid-heard
     heard-here = elim (heard-all (take k steps) p q is.0 r.ids (pace_after c patience steps p k).peers procs) [
       | inl u ↦ inl (record { none = λ t. u.none (from-takes t); same = u.same })
       | inr t ↦ inr (record {
@@ -159,7 +165,8 @@ module _ (c : Setup) (patience : ℕ) (steps : List Step) (p q : ℕ) (w : IsWel
       })
     ]
       where
-        of : (m : TakesOf steps p q (suc k)) → mid-heard.latest ≡ round_ahead (take k steps) p m.message → Latest steps p q k (peer_after c patience steps p q k) mid-heard
+        of : (m : TakesOf steps p q (suc k)) → mid-heard.latest ≡ round_ahead (take k steps) p m.message
+            → Latest steps p q k (peer_after c patience steps p q k) mid-heard
         of m e =
             let d = same-taken steps p (suc k) m.message r.ends r.ids r.step m.take in
             let l = (sent-here m.message d).0 in
@@ -169,11 +176,13 @@ module _ (c : Setup) (patience : ℕ) (steps : List Step) (p q : ℕ) (w : IsWel
             ]
 
     -- and then by the end of a phase
-    received-here : (ends : Bool) (round : ℕ) (x : Paced) → q - 1 < length x.peers → peer_of (after_receive ends round x).peers q ≡ peer_received ends round (peer_of x.peers q)
+    received-here : (ends : Bool) (round : ℕ) (x : Paced)
+        → q - 1 < length x.peers → peer_of (after_receive ends round x).peers q ≡ peer_received ends round (peer_of x.peers q)
     received-here false round x l = refl
     received-here true round x l = go (part_of round == 4) refl
       where
-        go : (b : Bool) → (part_of round == 4) ≡ b → peer_of (after_receive true round x).peers q ≡ peer_received true round (peer_of x.peers q)
+        go : (b : Bool) → (part_of round == 4) ≡ b
+            → peer_of (after_receive true round x).peers q ≡ peer_received true round (peer_of x.peers q)
         go true e = rw e (get_or-map (after_phase round) x.peers (q - 1) unheard unheard l)
         go false e = rw e refl
 
@@ -211,7 +220,8 @@ unfolding pace_after
 pace-quorum c patience steps p zero = refl
 pace-quorum c patience steps p (suc k) = elim (step-cases c patience steps p k) [
   | inl s ↦ ap (λ (x : Paced). x.quorum) s.pace ∙ pace-quorum c patience steps p k
-  | inr r ↦ ap (λ (x : Paced). x.quorum) r.pace ∙ received-quorum r.ends (rounds_after steps p k + 1) (heard_ids (take k steps) p r.ids (pace_after c patience steps p k)) ∙ pace-quorum c patience steps p k
+  | inr r ↦ ap (λ (x : Paced). x.quorum) r.pace ∙ received-quorum r.ends
+      (rounds_after steps p k + 1) (heard_ids (take k steps) p r.ids (pace_after c patience steps p k)) ∙ pace-quorum c patience steps p k
 ]
   where
     received-quorum : (ends : Bool) (round : ℕ) (x : Paced) → (after_receive ends round x).quorum ≡ x.quorum

@@ -31,16 +31,19 @@ module _ (c : Setup) (patience : ℕ) (steps : List Step) (p : ℕ) where
       rw e (omega (arith, rounds-rise j more, rounds-step (j + more)))
 
   pub rounds-up : (j k : ℕ) → j ≤ k → rounds_after steps p j ≤ rounds_after steps p k
-  rounds-up j k l = let e : j + (k - j) ≡ k = omega arith in subst (λ n. rounds_after steps p j ≤ rounds_after steps p n) e (rounds-rise j (k - j))
+  rounds-up j k l = let e : j + (k - j) ≡ k = omega arith in
+      subst (λ n. rounds_after steps p j ≤ rounds_after steps p n) e (rounds-rise j (k - j))
 
 module _ (c : Setup) (patience : ℕ) (steps : List Step) (p q : ℕ) (w : IsWellFormed c steps) (is : IsProc c q) where
   -- what was heard with the last step, or before
-  pub heard-cases : (r k : ℕ) → HasHeardOf steps p q r (suc k) → HasHeardOf steps p q r k ⊎ ((m : TakesOf steps p q (suc k)) × (r ≤ round_at steps q m.message))
+  pub heard-cases : (r k : ℕ) → HasHeardOf steps p q r (suc k)
+      → HasHeardOf steps p q r k ⊎ ((m : TakesOf steps p q (suc k)) × (r ≤ round_at steps q m.message))
   heard-cases r k h = elim (cases_lt h.place (suc k)) [
     | inl l ↦ inl (record { message = h.message; sent = h.sent; later = h.later; place = h.place; take = h.take; by = omega arith })
     | inr l ↦
         let e : h.place ≡ suc k = omega (arith, h.by) in
-        let m : TakesOf steps p q (suc k) = record { message = h.message; sent = h.sent; take = subst (λ n. IsTakenAt steps p n h.message) e h.take } in
+        let m : TakesOf steps p q (suc k) =
+        record { message = h.message; sent = h.sent; take = subst (λ n. IsTakenAt steps p n h.message) e h.take } in
         inr (m, h.later)
   ]
 
@@ -53,8 +56,8 @@ module _ (c : Setup) (patience : ℕ) (steps : List Step) (p q : ℕ) (w : IsWel
       earlier = rounds-step c patience steps p k
 
       go : (rounds_after steps p k < r → HasHeardOf steps p q r k → r ≤ (peer_after c patience steps p q k).latest)
-          → HasHeardOf steps p q r k ⊎ ((m : TakesOf steps p q (suc k)) × (r ≤ round_at steps q m.message)) → IsStillOf c patience steps p q k ⊎ IsReceivedOf c patience steps p q k
-          → r ≤ (peer_after c patience steps p q (suc k)).latest
+          → HasHeardOf steps p q r k ⊎ ((m : TakesOf steps p q (suc k)) × (r ≤ round_at steps q m.message))
+          → IsStillOf c patience steps p q k ⊎ IsReceivedOf c patience steps p q k → r ≤ (peer_after c patience steps p q (suc k)).latest
       go before (inl old) (inl s) = subst (λ (x : Peer). r ≤ x.latest) (sym s.same) (before (let e = earlier in omega arith) old)
       go before (inr m) (inl s) = absurd (s.none m.0)
       go before (inl old) (inr x) =
@@ -80,28 +83,32 @@ module _ (c : Setup) (patience : ℕ) (steps : List Step) (p q : ℕ) (w : IsWel
   heard zero some =
       let low = is.0 in
       let high = is.1 in
-      let none : (peer_after c patience steps p q zero).latest ≡ 0 = ap (λ (x : Peer). x.latest) (get_or-replicate c.n (q - 1) unheard unheard (omega arith)) in
+      let none : (peer_after c patience steps p q zero).latest
+      ≡ 0 = ap (λ (x : Peer). x.latest) (get_or-replicate c.n (q - 1) unheard unheard (omega arith)) in
       absurd (omega arith)
   heard (suc k) some = go (heard k) (peer-cases c patience steps p q w is k)
     where
-      go : (0 < (peer_after c patience steps p q k).latest → HasHeardOf steps p q (peer_after c patience steps p q k).latest k) → IsStillOf c patience steps p q k ⊎ IsReceivedOf c patience steps p q k
+      go : (0 < (peer_after c patience steps p q k).latest → HasHeardOf steps p q (peer_after c patience steps p q k).latest k)
+          → IsStillOf c patience steps p q k ⊎ IsReceivedOf c patience steps p q k
           → HasHeardOf steps p q (peer_after c patience steps p q (suc k)).latest (suc k)
       go before (inl s) =
           let latest = ap (λ (y : Peer). y.latest) s.same in
-          heard-weaker steps p q (peer_after c patience steps p q k).latest (peer_after c patience steps p q (suc k)).latest k (suc k) (omega arith) (omega arith) (before (omega arith))
+          heard-weaker steps p q (peer_after c patience steps p q k).latest
+          (peer_after c patience steps p q (suc k)).latest k (suc k) (omega arith) (omega arith) (before (omega arith))
       go before (inr x) =
           let latest = ap (λ (y : Peer). y.latest) x.new ∙ latest-received x.ends (rounds_after steps p k + 1) x.mid in
           elim x.heard [
             | inl deaf ↦ (
                 let same = ap (λ (y : Peer). y.latest) deaf.same in
-                heard-weaker steps p q (peer_after c patience steps p q k).latest (peer_after c patience steps p q (suc k)).latest k (suc k) (omega arith) (omega arith) (before (omega arith)))
+                heard-weaker steps p q (peer_after c patience steps p q k).latest
+                (peer_after c patience steps p q (suc k)).latest k (suc k) (omega arith) (omega arith) (before (omega arith)))
             | inr listening ↦ of x.mid latest listening.origin
           ]
         where
-          of : (mid : Peer) → (peer_after c patience steps p q (suc k)).latest ≡ mid.latest → Latest steps p q k (peer_after c patience steps p q k) mid
-              → HasHeardOf steps p q (peer_after c patience steps p q (suc k)).latest (suc k)
-          of mid latest (Kept e) =
-              heard-weaker steps p q (peer_after c patience steps p q k).latest (peer_after c patience steps p q (suc k)).latest k (suc k) (omega arith) (omega arith) (before (omega arith))
+          of : (mid : Peer) → (peer_after c patience steps p q (suc k)).latest ≡ mid.latest → Latest steps p q k
+              (peer_after c patience steps p q k) mid → HasHeardOf steps p q (peer_after c patience steps p q (suc k)).latest (suc k)
+          of mid latest (Kept e) = heard-weaker steps p q (peer_after c patience steps p q k).latest
+              (peer_after c patience steps p q (suc k)).latest k (suc k) (omega arith) (omega arith) (before (omega arith))
           of mid latest (Past e) = absurd (omega arith)
           of mid latest (Taken m e) = record {
             message = m.message;

@@ -23,32 +23,38 @@ module _ (patience set : ℕ) (trace : Recorded) (g d f : ℕ) (keeps : KeepsBou
   c = trace.config
 
   -- who ends a lock-release round as complete has heard of each member, where the members need one another
-  needs : (base x0 : ℕ) → AreInTouch patience set trace g base x0 → NeedAll patience set trace x0
-      → (p q n : ℕ) (ids : List ℕ) → has_proc set p ≡ true → has_proc set q ≡ true → step_at trace.steps (suc n) ≡ Some (record { proc = p; act = Receive true ids })
+  needs : (base x0 : ℕ) → AreInTouch patience set trace g base x0 → NeedAll patience set trace x0 → (p q n : ℕ) (ids : List ℕ)
+      → has_proc set p ≡ true → has_proc set q ≡ true → step_at trace.steps (suc n) ≡ Some (record { proc = p; act = Receive true ids })
       → base ≤ rounds_after trace.steps p n + 1 → part_of (rounds_after trace.steps p n + 1) ≡ 4 → x0 ≤ tick_of trace (suc n)
-      → is_complete c (node_before c trace.steps p (suc n)) (rounds_after trace.steps p n + 1) p (heard_ids (take n trace.steps) p ids (pace_after c patience trace.steps p n)) ≡ true
-      → HasHeardOf trace.steps p q (rounds_after trace.steps p n + 1) (suc n)
-  needs base x0 touch (inl few) p q n ids mp mq at up part late done =
-      quorum-heard c patience trace.steps p keeps.run.well_formed n ids true at (keeps.paced p mp) set few others q (member-proc c set keeps.within q mq) mq done
-      (ap (λ x. may_hear_all_in x (node_before c trace.steps p (suc n)) (owner c.n (phase_of (rounds_after trace.steps p n + 1))) p) (part_at-releasing (rounds_after trace.steps p n + 1) part))
+      → is_complete c (node_before c trace.steps p (suc n)) (rounds_after trace.steps p n + 1) p (heard_ids (take n trace.steps) p ids
+      (pace_after c patience trace.steps p n)) ≡ true → HasHeardOf trace.steps p q (rounds_after trace.steps p n + 1) (suc n)
+  needs base x0 touch (inl few) p q n ids mp mq at up part late done = quorum-heard c patience
+      trace.steps p keeps.run.well_formed n ids true at (keeps.paced p mp) set few others q (member-proc c set keeps.within q mq) mq done
+      (ap (λ x. may_hear_all_in x (node_before c trace.steps p (suc n)) (owner c.n (phase_of (rounds_after trace.steps p n + 1))) p)
+      (part_at-releasing (rounds_after trace.steps p n + 1) part))
     where
       others : (z : ℕ) → IsProc c z → has_proc set z ≡ false → HasHeardOf trace.steps p z (rounds_after trace.steps p n + 1) (suc n) → ⊥
       others z is other h =
           let silent = touch.silent p z mp is other (suc n) (record { ids = ids; ends = true; step = at }) late in
           let ended = rounds-ended c patience trace.steps p n ids at in
-          suspect-unheard c patience trace.steps p z (suc n) (rounds_after trace.steps p n + 1) keeps.run.well_formed is (omega arith) silent h
+          suspect-unheard c patience trace.steps p z
+          (suc n) (rounds_after trace.steps p n + 1) keeps.run.well_formed is (omega arith) silent h
   needs base x0 touch (inr none) p q n ids mp mq at up part late done =
       let e : suc n - 1 ≡ n = omega arith in
-      complete-heard c patience trace.steps p keeps.run.well_formed n ids true at (keeps.paced p mp) q (member-proc c set keeps.within q mq) done
-      (ap (λ x. may_hear_in x (node_before c trace.steps p (suc n)) (owner c.n (phase_of (rounds_after trace.steps p n + 1))) p q) (part_at-releasing (rounds_after trace.steps p n + 1) part))
-      (λ s. none p q (suc n) mp mq (record { ids = ids; ends = true; step = at }) late (subst (λ m. (Rattle.patience_laws.specs.PacedRuns.peer_after c patience trace.steps p q m).suspected ≡ true) (sym e) s))
+      complete-heard c patience trace.steps p keeps.run.well_formed n ids true at
+      (keeps.paced p mp) q (member-proc c set keeps.within q mq) done
+      (ap (λ x. may_hear_in x (node_before c trace.steps p (suc n)) (owner c.n (phase_of (rounds_after trace.steps p n + 1))) p q)
+      (part_at-releasing (rounds_after trace.steps p n + 1) part))
+      (λ s. none p q (suc n) mp mq (record { ids = ids; ends = true; step = at }) late
+      (subst (λ m. (Rattle.patience_laws.specs.PacedRuns.peer_after c patience trace.steps p q m).suspected ≡ true) (sym e) s))
 
   need-later : (x z : ℕ) → x ≤ z → NeedAll patience set trace x → NeedAll patience set trace z
   need-later x z l (inl few) = inl few
   need-later x z l (inr none) = inr (λ p q k mp mq receive by. none p q k mp mq receive (omega arith))
 
   module _ (order : TakeInOrder set trace) (itself : HearThemselves set trace) (enough : 5 * d + (4 * trace.config.n + 14) * f ≤ patience)
-      (least most : ℕ) (alone : AreAlone set trace g least most) (need : NeedAll patience set trace g) (one : ℕ) (mo : has_proc set one ≡ true) where
+      (least most : ℕ) (alone : AreAlone set trace g least most)
+      (need : NeedAll patience set trace g) (one : ℕ) (mo : has_proc set one ≡ true) where
     abbrev u : ℕ
     u = longest_round c patience f
 
@@ -70,7 +76,8 @@ module _ (patience set : ℕ) (trace : Recorded) (g d f : ℕ) (keeps : KeepsBou
 
     in-by : (r : ℕ) → AreInRoundFrom set trace r (g + (r - least) * u)
     in-by r p m k is by =
-        let all = passes-rounds trace patience set g f p keeps.run keeps.trace_is.time (keeps.paced p m) m keeps.phi (r - least) least g (omega arith) (alone.there p m) k is by in
+        let all = passes-rounds trace patience set g f p keeps.run keeps.trace_is.time
+        (keeps.paced p m) m keeps.phi (r - least) least g (omega arith) (alone.there p m) k is by in
         omega arith
 
     base-there : AreInRoundFrom set trace (base + 4) x0
@@ -95,45 +102,51 @@ module _ (patience set : ℕ) (trace : Recorded) (g d f : ℕ) (keeps : KeepsBou
           (end-of c patience trace.steps one m (s.step.place - 1) low (omega arith)).0
 
       pub have-met : HaveMet patience set trace g (met_round c patience f least most) (met_tick c patience g f least most)
-      have-met = of (closes patience set trace g d f keeps order itself enough base x0 touch (omega arith) (needs base x0 touch (need-later g x0 (omega arith) need)) one mo limit ends
-          (w + 2) (base + 4) start x0 (omega arith) (omega arith) (omega arith) (omega arith) (omega arith) none-before base-there (omega arith))
+      have-met = of (closes patience set trace g d f keeps order itself enough base x0 touch
+          (omega arith) (needs base x0 touch (need-later g x0 (omega arith) need)) one mo limit ends (w + 2)
+          (base + 4) start x0 (omega arith) (omega arith) (omega arith) (omega arith) (omega arith) none-before base-there (omega arith))
         where
-          of : HeardOutOnce patience set trace g d f keeps order itself enough base x0 touch (omega arith) (needs base x0 touch (need-later g x0 (omega arith) need)) start (start + 4 * (w + 2))
+          of : HeardOutOnce patience set trace g d f keeps order itself enough base x0 touch
+              (omega arith) (needs base x0 touch (need-later g x0 (omega arith) need)) start (start + 4 * (w + 2))
               → HaveMet patience set trace g (met_round c patience f least most) (met_tick c patience g f least most)
           of h = met h.round (omega (arith, h.above)) (omega (arith, h.below)) h.part h.heard h.from
             where
-              met : (r : ℕ) → start ≤ r → r ≤ limit → part_of r ≡ 4 → IsHeardOutByAll set trace r → ((p k : ℕ) → has_proc set p ≡ true → ComesTo trace.steps p r k → x0 ≤ tick_of trace k)
+              met : (r : ℕ) → start ≤ r → r ≤ limit → part_of r ≡ 4
+                  → IsHeardOutByAll set trace r → ((p k : ℕ) → has_proc set p ≡ true → ComesTo trace.steps p r k → x0 ≤ tick_of trace k)
                   → HaveMet patience set trace g (met_round c patience f least most) (met_tick c patience g f least most)
-              met r low high part heard from = meets (first-end set trace.steps r one mo (ends r (omega arith) high)) (ends r (omega arith) high)
-                where
-                  meets : FirstEnd set trace.steps r → IsEndOf trace.steps one r → HaveMet patience set trace g (met_round c patience f least most) (met_tick c patience g f least most)
-                  meets end own = record {
-                    first = r + 1;
-                    since = tick_of trace (suc end.place);
-                    met = meet-once patience set trace g d f keeps order base x0 r touch (omega arith) part heard end late;
-                    in_time = omega arith;
-                    before = let l = own-early in let rise =
-                        rises one (suc own.place) own.ids own.step
-                        (end.first one (suc own.place) own.ids mo own.step
-                        (round-here trace.steps one own.place ∙ own.round_is)) in omega arith;
-                  }
-                    where
-                      late : x0 ≤ tick_of trace (suc end.place)
-                      late =
-                          let is = end.round_is in
-                          since patience set trace g d f keeps base x0 touch (omega arith) r x0 (omega arith) (omega arith) from
-                          end.proc end.place (Receive true end.ids) end.member end.step (omega arith)
+              met r low high part heard from = meets
+                  (first-end set trace.steps r one mo (ends r (omega arith) high)) (ends r (omega arith) high) where
+                    meets : FirstEnd set trace.steps r → IsEndOf trace.steps one r
+                        → HaveMet patience set trace g (met_round c patience f least most) (met_tick c patience g f least most)
+                    meets end own = record {
+                      first = r + 1;
+                      since = tick_of trace (suc end.place);
+                      met = meet-once patience set trace g d f keeps order base x0 r touch (omega arith) part heard end late;
+                      in_time = omega arith;
+                      before = let l = own-early in let rise =
+                          rises one (suc own.place) own.ids own.step
+                          (end.first one (suc own.place) own.ids mo own.step
+                          (round-here trace.steps one own.place ∙ own.round_is)) in omega arith;
+                    }
+                      where
+                        late : x0 ≤ tick_of trace (suc end.place)
+                        late =
+                            let is = end.round_is in
+                            since patience set trace g d f keeps base x0 touch (omega arith) r x0 (omega arith) (omega arith) from
+                            end.proc end.place (Receive true end.ids) end.member end.step (omega arith)
 
-                      rises : (p k : ℕ) (ids : List ℕ)
-                          → step_at trace.steps k ≡ Some (record { proc = p; act = Receive true ids })
-                          → suc end.place ≤ k → tick_of trace (suc end.place) ≤ tick_of trace k
-                      rises p k ids at l = ticks_rise trace keeps.trace_is.time (suc end.place) k (record { proc = end.proc; act = Receive true end.ids }) (record { proc = p; act = Receive true ids }) end.step at l
+                        rises : (p k : ℕ) (ids : List ℕ)
+                            → step_at trace.steps k ≡ Some (record { proc = p; act = Receive true ids })
+                            → suc end.place ≤ k → tick_of trace (suc end.place) ≤ tick_of trace k
+                        rises p k ids at l = ticks_rise trace keeps.trace_is.time (suc end.place) k (record
+                            { proc = end.proc; act = Receive true end.ids }) (record { proc = p; act = Receive true ids }) end.step at l
 
-                      own-early : tick_of trace (suc own.place) < met_tick c patience g f least most
-                      own-early = elim (cases_lt (tick_of trace (suc own.place)) (met_tick c patience g f least most)) [
-                        | inl l ↦ l
-                        | inr l ↦ absurd (
-                            let there = in-by (met_round c patience f least most) one mo (suc own.place) (Receive true own.ids, own.step) (omega arith) in
-                            let is = round-here trace.steps one own.place ∙ own.round_is in
-                            omega arith)
-                      ]
+                        own-early : tick_of trace (suc own.place) < met_tick c patience g f least most
+                        own-early = elim (cases_lt (tick_of trace (suc own.place)) (met_tick c patience g f least most)) [
+                          | inl l ↦ l
+                          | inr l ↦ absurd (
+                              let there = in-by (met_round c patience f least most) one mo
+                              (suc own.place) (Receive true own.ids, own.step) (omega arith) in
+                              let is = round-here trace.steps one own.place ∙ own.round_is in
+                              omega arith)
+                        ]

@@ -11,9 +11,11 @@ pub member-proc : (c : Setup) (set : ℕ) → IsWithin set c.n → (q : ℕ) →
 member-proc c set within q m = (member-positive set q m, within q m)
 
 -- who ends a later round ends it later
-pub end-later : (trace : Recorded) (patience : ℕ) → IsTimed trace → (p r s : ℕ) (e : IsEndOf trace.steps p r) (h : IsEndOf trace.steps p s) → r ≤ s
-    → tick_of trace (suc e.place) ≤ tick_of trace (suc h.place)
+pub end-later : (trace : Recorded) (patience : ℕ) → IsTimed trace → (p r s : ℕ) (e : IsEndOf trace.steps p r) (h : IsEndOf trace.steps p s)
+    → r ≤ s → tick_of trace (suc e.place) ≤ tick_of trace (suc h.place)
 end-later trace patience time p r s e h l = elim (cases_lt h.place e.place) [
-  | inl before ↦ absurd (let up = rounds-up trace.config patience trace.steps p (suc h.place) e.place (omega arith) in let a = h.after in let b = e.round_is in omega arith)
-  | inr after ↦ ticks_rise trace time (suc e.place) (suc h.place) (record { proc = p; act = Receive true e.ids }) (record { proc = p; act = Receive true h.ids }) e.step h.step (omega arith)
+  | inl before ↦ absurd (let up = rounds-up trace.config patience trace.steps p (suc h.place) e.place (omega arith) in
+      let a = h.after in let b = e.round_is in omega arith)
+  | inr after ↦ ticks_rise trace time (suc e.place) (suc h.place)
+      (record { proc = p; act = Receive true e.ids }) (record { proc = p; act = Receive true h.ids }) e.step h.step (omega arith)
 ]

@@ -28,14 +28,15 @@ or-where : (a b : Bool) → (a ≡ true → b ≡ true) → (not a || b) ≡ tru
 or-where true b h = h refl
 or-where false b h = refl
 
-module _ (trace : Recorded) (patience set : ℕ) (run : IsRun trace.config trace.steps) (order : TakeInOrder set trace) (round : ℕ) (low : 1 ≤ round) (part : part_of round ≡ 2) where
+module _ (trace : Recorded) (patience set : ℕ) (run : IsRun trace.config trace.steps)
+    (order : TakeInOrder set trace) (round : ℕ) (low : 1 ≤ round) (part : part_of round ≡ 2) where
   abbrev c : Setup
   c = trace.config
 
-  module _ (o q v : ℕ) (own : o ≡ owner c.n (phase_of round)) (mo : has_proc set o ≡ true) (mq : has_proc set q ≡ true) (is : IsProc c q) (from : IsProc c o)
-      (proposes : (node_in c trace.steps o round).proposal ≡ Some v) (over : round ≤ passed trace.steps q)
-      (heard : (k : ℕ) (ids : List ℕ) → step_at trace.steps k ≡ Some (record { proc = q; act = Receive true ids }) → round_at trace.steps q k ≡ round → may_hear_of c trace.steps q round o ≡ true
-      → HasHeardOf trace.steps q o round k) where
+  module _ (o q v : ℕ) (own : o ≡ owner c.n (phase_of round)) (mo : has_proc set o ≡ true) (mq : has_proc set q ≡ true) (is : IsProc c q)
+      (from : IsProc c o) (proposes : (node_in c trace.steps o round).proposal ≡ Some v) (over : round ≤ passed trace.steps q)
+      (heard : (k : ℕ) (ids : List ℕ) → step_at trace.steps k ≡ Some (record { proc = q; act = Receive true ids })
+      → round_at trace.steps q k ≡ round → may_hear_of c trace.steps q round o ≡ true → HasHeardOf trace.steps q o round k) where
     -- the message that tells q to lock
     abbrev telling : Body
     telling = with_proper (node_in c trace.steps o round) (Lock v)
@@ -50,13 +51,14 @@ module _ (trace : Recorded) (patience set : ℕ) (run : IsRun trace.config trace
       in_time : round_at trace.steps q place ≤ round
 
     may : may_hear_of c trace.steps q round o ≡ true
-    may =
-        may-in Locking c trace.steps q round o (part_at-locking round part)
+    may = may-in Locking c trace.steps q round o (part_at-locking round part)
         ∙ ap (λ j. o == j && (not (q == j) || is_some (node_in c trace.steps q round).proposal)) (sym own)
-        ∙ rw (eq-eqb o o refl) (or-where (q == o) (is_some (node_in c trace.steps q round).proposal) (λ e. ap is_some (ap (λ j. (node_in c trace.steps j round).proposal) (eqb-true q o e) ∙ proposes)))
+        ∙ rw (eq-eqb o o refl) (or-where (q == o) (is_some (node_in c trace.steps q round).proposal)
+        (λ e. ap is_some (ap (λ j. (node_in c trace.steps j round).proposal) (eqb-true q o e) ∙ proposes)))
 
     said : out c (node_in c trace.steps o round) o round q ≡ Some telling
-    said = subst (λ j. out c (node_in c trace.steps o round) j round q ≡ Some telling) (sym own) (lock-sent c (node_in c trace.steps o round) round q v part proposes)
+    said = subst (λ j. out c (node_in c trace.steps o round) j round q ≡ Some telling)
+        (sym own) (lock-sent c (node_in c trace.steps o round) round q v part proposes)
 
     passed-all : rounds_after trace.steps q (length trace.steps) ≡ passed trace.steps q
     passed-all = ap (λ xs. passed xs q) (take-length trace.steps)
@@ -66,7 +68,8 @@ module _ (trace : Recorded) (patience set : ℕ) (run : IsRun trace.config trace
         let e = end-of c patience trace.steps q round (length trace.steps) low (let f = passed-all in omega arith) in
         of (suc e.0.place) e.0.ids e.0.step (round-here trace.steps q e.0.place ∙ e.0.round_is)
       where
-        of : (k : ℕ) (ids : List ℕ) → step_at trace.steps k ≡ Some (record { proc = q; act = Receive true ids }) → round_at trace.steps q k ≡ round → IsTold
+        of : (k : ℕ) (ids : List ℕ) → step_at trace.steps k ≡ Some (record { proc = q; act = Receive true ids })
+            → round_at trace.steps q k ≡ round → IsTold
         of k ids at here = go (heard k ids at here may)
           where
             go : HasHeardOf trace.steps q o round k → IsTold
@@ -97,7 +100,8 @@ module _ (trace : Recorded) (patience set : ℕ) (run : IsRun trace.config trace
                     round_is = first.round_is;
                     place = taken.place;
                     take = taken.take;
-                    in_time = let up = round_at-up c patience trace.steps q taken.place k (let a = taken.by in let b = h.by in omega arith) in omega arith;
+                    in_time = let up = round_at-up c patience trace.steps q taken.place k
+                        (let a = taken.by in let b = h.by in omega arith) in omega arith;
                   })
             ]
 
@@ -107,7 +111,13 @@ module _ (trace : Recorded) (patience set : ℕ) (run : IsRun trace.config trace
         heard_table-from_heard trace.steps q round o (record {
           over = over;
           message = t.message;
-          take = record { place = t.place; step = record { proc = q; act = Receive t.take.ends t.take.ids }; stands = t.take.step; taker = refl; taken = t.take.taken };
+          take = record {
+            place = t.place;
+            step = record { proc = q; act = Receive t.take.ends t.take.ids };
+            stands = t.take.step;
+            taker = refl;
+            taken = t.take.taken;
+          };
           in_time = t.in_time;
           sent = record { round = t.round_is; step = record { proc = o; act = Send q }; stands = t.sent; sender = refl; sends = refl };
         })
@@ -118,23 +128,26 @@ module _ (trace : Recorded) (patience set : ℕ) (run : IsRun trace.config trace
         let all = messages_heard c (heard_table trace.steps) nodes q round in
         let told : IsToldToLock (owner c.n (phase_of round)) all v = record {
           message = (o, telling);
-          is_heard = messages_heard-has c (heard_table trace.steps) nodes q round (o, telling) (record { sender = from; heard = hears; body = said });
+          is_heard = messages_heard-has c (heard_table trace.steps) nodes q round
+              (o, telling) (record { sender = from; heard = hears; body = said });
           sender = own;
           kind = refl;
         } in
         ap (λ (s : State). s.owes_ack) (node-next c trace.steps q round low)
-        ∙ (locking-told c (node_in c trace.steps q round) q round all v part (messages_heard-rise c (heard_table trace.steps) nodes q round) told).owes_ack
+        ∙ (locking-told c (node_in c trace.steps q round) q round all v part
+        (messages_heard-rise c (heard_table trace.steps) nodes q round) told).owes_ack
 
   -- an owner that takes what it sends to itself owes itself one
-  pub owes-itself : HearThemselves set trace → (o v : ℕ) → o ≡ owner c.n (phase_of round) → has_proc set o ≡ true → IsProc c o → (node_in c trace.steps o round).proposal ≡ Some v
-      → round ≤ passed trace.steps o → (node_in c trace.steps o (round + 1)).owes_ack ≡ true
+  pub owes-itself : HearThemselves set trace → (o v : ℕ) → o ≡ owner c.n (phase_of round) → has_proc set o ≡ true → IsProc c o → (node_in c
+      trace.steps o round).proposal ≡ Some v → round ≤ passed trace.steps o → (node_in c trace.steps o (round + 1)).owes_ack ≡ true
   owes-itself itself o v own mo is proposes over = owes o o v own mo mo is is proposes over heard
     where
       said : out c (node_in c trace.steps o round) o round o ≡ Some (with_proper (node_in c trace.steps o round) (Lock v))
-      said = subst (λ j. out c (node_in c trace.steps o round) j round o ≡ Some (with_proper (node_in c trace.steps o round) (Lock v))) (sym own) (lock-sent c (node_in c trace.steps o round) round o v part proposes)
+      said = subst (λ j. out c (node_in c trace.steps o round) j round o ≡ Some (with_proper (node_in c trace.steps o round) (Lock v)))
+          (sym own) (lock-sent c (node_in c trace.steps o round) round o v part proposes)
 
-      heard : (k : ℕ) (ids : List ℕ) → step_at trace.steps k ≡ Some (record { proc = o; act = Receive true ids }) → round_at trace.steps o k ≡ round → may_hear_of c trace.steps o round o ≡ true
-          → HasHeardOf trace.steps o o round k
+      heard : (k : ℕ) (ids : List ℕ) → step_at trace.steps k ≡ Some (record { proc = o; act = Receive true ids })
+          → round_at trace.steps o k ≡ round → may_hear_of c trace.steps o round o ≡ true → HasHeardOf trace.steps o o round k
       heard zero ids at here told = absurd (none-some _ at)
       heard (suc k) ids at here told =
           let ended = rounds-ended c patience trace.steps o k ids at in
@@ -146,14 +159,24 @@ module _ (trace : Recorded) (patience set : ℕ) (run : IsRun trace.config trace
           let earlier = first.earlier in
           let round_is = first.round_is in
           elim (cases_eq first.message (suc k)) [
-            | inl same ↦ absurd (sends-not ids (subst (λ n. step_at trace.steps n ≡ Some (record { proc = o; act = Send o })) same first.sent) at)
+            | inl same ↦ absurd
+                (sends-not ids (subst (λ n. step_at trace.steps n ≡ Some (record { proc = o; act = Send o })) same first.sent) at)
             | inr other ↦ (
                 let taken = itself o first.message (suc k) mo first.sent (record { ids = ids; ends = true; step = at }) (omega arith) in
-                record { message = first.message; sent = first.sent; later = omega arith; place = taken.place; take = taken.take; by = taken.by })
+                record {
+                  message = first.message;
+                  sent = first.sent;
+                  later = omega arith;
+                  place = taken.place;
+                  take = taken.take;
+                  by = taken.by;
+                })
           ]
         where
-          sends-not : (ids : List ℕ) → step_at trace.steps (suc k) ≡ Some (record { proc = o; act = Send o }) → step_at trace.steps (suc k) ≡ Some (record { proc = o; act = Receive true ids }) → ⊥
-          sends-not ids a b = true≢false (ap (λ (x : Step). act_sends x.act) (same_Some (record { proc = o; act = Send o }) (record { proc = o; act = Receive true ids }) (sym a ∙ b)))
+          sends-not : (ids : List ℕ) → step_at trace.steps (suc k) ≡ Some (record { proc = o; act = Send o })
+              → step_at trace.steps (suc k) ≡ Some (record { proc = o; act = Receive true ids }) → ⊥
+          sends-not ids a b = true≢false (ap (λ (x : Step). act_sends x.act)
+              (same_Some (record { proc = o; act = Send o }) (record { proc = o; act = Receive true ids }) (sym a ∙ b)))
 
   pub owe-all : IsHeardOutByAll set trace round → ((p : ℕ) → has_proc set p ≡ true → IsProc c p) → OweAcknowledgements set trace (round + 1)
   owe-all heard procs v mo proposes q mq came =

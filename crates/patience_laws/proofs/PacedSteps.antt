@@ -22,7 +22,8 @@ pub record IsReceived (c : Setup) (patience : ℕ) (steps : List Step) (p k : �
   pub ids : List ℕ
   pub ends : Bool
   pub step : step_at steps (suc k) ≡ Some (record { proc = p; act = Receive ends ids })
-  pub pace : pace_after c patience steps p (suc k) ≡ after_receive ends (rounds_after steps p k + 1) (heard_ids (take k steps) p ids (pace_after c patience steps p k))
+  pub pace : pace_after c patience steps p (suc k)
+      ≡ after_receive ends (rounds_after steps p k + 1) (heard_ids (take k steps) p ids (pace_after c patience steps p k))
   pub round : rounds_after steps p (suc k) ≡ rounds_after steps p k + cond ends 1 0
 
 pace-next : (c : Setup) (patience : ℕ) (steps : List Step) (p k : ℕ)
@@ -45,25 +46,31 @@ take-past (x ∷ steps) zero l = absurd (none-some x (sym l))
 take-past (x ∷ steps) (suc k) l = ap (λ rest. x ∷ rest) (take-past steps k l)
 
 module _ (c : Setup) (patience : ℕ) (steps : List Step) (p k : ℕ) where
-  stays : (x : Step) → slice_get steps k ≡ Some x → (x.proc == p && act_ends x.act) ≡ false → rounds_after steps p (suc k) ≡ rounds_after steps p k
+  stays : (x : Step) → slice_get steps k ≡ Some x → (x.proc == p && act_ends x.act) ≡ false
+      → rounds_after steps p (suc k) ≡ rounds_after steps p k
   stays x h other = omega (arith, round-next steps p k, round-here steps p k, round_at-stays steps (suc k) x p h other)
 
-  ends-round : (x : Step) → slice_get steps k ≡ Some x → x.proc ≡ p → act_ends x.act ≡ true → rounds_after steps p (suc k) ≡ rounds_after steps p k + 1
+  ends-round : (x : Step) → slice_get steps k ≡ Some x
+      → x.proc ≡ p → act_ends x.act ≡ true → rounds_after steps p (suc k) ≡ rounds_after steps p k + 1
   ends-round x h own ends =
-      let more : round_at steps p (suc k + 1) ≡ round_at steps p (suc k) + 1 = subst (λ q. round_at steps q (suc k + 1) ≡ round_at steps q (suc k) + 1) own (round_at-ended steps (suc k) x h ends) in
+      let more : round_at steps p (suc k + 1) ≡ round_at steps p (suc k) + 1 =
+      subst (λ q. round_at steps q (suc k + 1) ≡ round_at steps q (suc k) + 1) own (round_at-ended steps (suc k) x h ends) in
       omega (arith, round-next steps p k, round-here steps p k)
 
   pub step-cases : IsStill c patience steps p k ⊎ IsReceived c patience steps p k
   step-cases = go (slice_get steps k) refl
     where
-      next : (o : Option Step) → slice_get steps k ≡ o → pace_after c patience steps p (suc k) ≡ pace_stepping (take k steps) p o (pace_after c patience steps p k)
+      next : (o : Option Step) → slice_get steps k ≡ o
+          → pace_after c patience steps p (suc k) ≡ pace_stepping (take k steps) p o (pace_after c patience steps p k)
       next o e = pace-next c patience steps p k ∙ ap (λ x. pace_stepping (take k steps) p x (pace_after c patience steps p k)) e
 
-      own : (x : Step) (act : Act) → slice_get steps k ≡ Some x → x.act ≡ act → x.proc ≡ p → IsStill c patience steps p k ⊎ IsReceived c patience steps p k
+      own : (x : Step) (act : Act) → slice_get steps k ≡ Some x
+          → x.act ≡ act → x.proc ≡ p → IsStill c patience steps p k ⊎ IsReceived c patience steps p k
       own x (Send to) e f g = inl (record {
         pace = next (Some x) e ∙ rw (eq-eqb x.proc p g, f) refl;
         round = stays x e (ap (λ a. x.proc == p && act_ends a) f ∙ and_right (x.proc == p) false refl);
-        none = λ ends ids s. (let same : x.act ≡ Receive ends ids = ap (λ (y : Step). y.act) (same_Some _ _ (sym e ∙ s)) in true≢false (ap act_sends (sym f ∙ same)));
+        none = λ ends ids s. (let same : x.act ≡ Receive ends ids = ap (λ (y : Step). y.act) (same_Some _ _ (sym e ∙ s)) in
+            true≢false (ap act_sends (sym f ∙ same)));
       })
       own x (Receive false ids) e f g = inr (record {
         ids = ids;
@@ -93,5 +100,6 @@ module _ (c : Setup) (patience : ℕ) (steps : List Step) (p k : ℕ) where
           of false t = inl (record {
             pace = next (Some x) e ∙ rw t refl;
             round = stays x e (and_left (x.proc == p) (act_ends x.act) t);
-            none = λ ends ids s. (let same : x.proc ≡ p = ap (λ (y : Step). y.proc) (same_Some _ _ (sym e ∙ s)) in true≢false (sym (eq-eqb x.proc p same) ∙ t));
+            none = λ ends ids s. (let same : x.proc ≡ p = ap (λ (y : Step). y.proc) (same_Some _ _ (sym e ∙ s)) in
+                true≢false (sym (eq-eqb x.proc p same) ∙ t));
           })

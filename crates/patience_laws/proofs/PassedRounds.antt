@@ -22,19 +22,21 @@ module _ (c : Setup) (patience : ℕ) (steps : List Step) (p : ℕ) where
   IsLeft n true = (left (suc n) ≡ patience) × (rounds_after steps p (suc n) ≡ rounds_after steps p n + 1)
   IsLeft n false = (left (suc n) ≡ left n - 1) × (rounds_after steps p (suc n) ≡ rounds_after steps p n)
 
-  pub left-received : (n : ℕ) (ids : List ℕ) (ends : Bool) → step_at steps (suc n) ≡ Some (record { proc = p; act = Receive ends ids }) → IsLeft n ends
+  pub left-received : (n : ℕ) (ids : List ℕ) (ends : Bool)
+      → step_at steps (suc n) ≡ Some (record { proc = p; act = Receive ends ids }) → IsLeft n ends
   left-received n ids ends at = elim (step-cases c patience steps p n) [
     | inl still ↦ absurd (still.none ends ids at)
     | inr r ↦ (
         let same = same_Some (receiving p r.ends r.ids) (receiving p ends ids) (sym r.step ∙ at) in
         let is : r.ends ≡ ends = ap (λ (x : Step). act_ends x.act) same in
         let x = heard_ids (take n steps) p r.ids (pace_after c patience steps p n) in
-        of ends x (pace-patience c patience steps p n) (ap (λ (y : Paced). y.left) r.pace ∙ ap (λ b. (after_receive b (rounds_after steps p n + 1) x).left) is)
+        of ends x (pace-patience c patience steps p n)
+        (ap (λ (y : Paced). y.left) r.pace ∙ ap (λ b. (after_receive b (rounds_after steps p n + 1) x).left) is)
         (r.round ∙ ap (λ b. rounds_after steps p n + cond b 1 0) is) refl)
   ]
     where
-      of : (b : Bool) (x : Paced) → x.patience ≡ patience → left (suc n) ≡ (after_receive b (rounds_after steps p n + 1) x).left → rounds_after steps p (suc n) ≡ rounds_after steps p n + cond b 1 0
-          → x.left ≡ left n → IsLeft n b
+      of : (b : Bool) (x : Paced) → x.patience ≡ patience → left (suc n) ≡ (after_receive b (rounds_after steps p n + 1) x).left
+          → rounds_after steps p (suc n) ≡ rounds_after steps p n + cond b 1 0 → x.left ≡ left n → IsLeft n b
       of true x e new round same = (new ∙ e, round)
       of false x e new round same = (new ∙ ap (λ m. m - 1) same, round ∙ omega arith)
 
@@ -63,10 +65,12 @@ module _ (c : Setup) (patience : ℕ) (steps : List Step) (p : ℕ) where
       let before = left-falls n more (omega arith) in
       elim (step-cases c patience steps p (n + more)) [
         | inl still ↦ (let f = ap (λ (y : Paced). y.left) still.pace in omega arith)
-        | inr r ↦ (let g : left (suc (n + more)) ≤ left (n + more) = of r.ends (left-received (n + more) r.ids r.ends r.step) (omega arith) in omega arith)
+        | inr r ↦ (let g : left (suc (n + more)) ≤ left (n + more) =
+            of r.ends (left-received (n + more) r.ids r.ends r.step) (omega arith) in omega arith)
       ]
     where
-      of : (b : Bool) → IsLeft (n + more) b → rounds_after steps p (suc (n + more)) ≤ rounds_after steps p (n + more) → left (suc (n + more)) ≤ left (n + more)
+      of : (b : Bool) → IsLeft (n + more) b → rounds_after steps p (suc (n + more)) ≤ rounds_after steps p (n + more)
+          → left (suc (n + more)) ≤ left (n + more)
       of true is low = absurd (let e = is.1 in omega arith)
       of false is low = let e = is.0 in omega arith
 
@@ -75,7 +79,8 @@ module _ (trace : Recorded) (patience set g f p : ℕ) (run : IsRun trace.config
   abbrev remains : ℕ → ℕ
   remains n = left trace.config patience trace.steps p n
 
-  module _ (round x : ℕ) (since : g ≤ x) (there : IsInRoundFrom trace p round x) (most : ℕ) (few : length (sends_to trace.config trace.steps p round) ≤ most) where
+  module _ (round x : ℕ) (since : g ≤ x) (there : IsInRoundFrom trace p round x)
+      (most : ℕ) (few : length (sends_to trace.config trace.steps p round) ≤ most) where
     -- a Receive that ends no round uses the patience up
     uses : (j k : ℕ) (ids : List ℕ) (ends : Bool)
         → step_at trace.steps j ≡ Some (record { proc = p; act = Receive ends ids }) → round_at trace.steps p j ≡ round
@@ -88,11 +93,13 @@ module _ (trace : Recorded) (patience set g f p : ℕ) (run : IsRun trace.config
 
         of : (b : Bool) → ends ≡ b → remains (k - 1) + 1 ≤ remains (suc j - 1)
         of true e =
-            let is = left-received trace.config patience trace.steps p j ids true (at ∙ ap (λ b. Some (record { proc = p; act = Receive b ids })) e) in
+            let is = left-received trace.config patience trace.steps p j ids true
+            (at ∙ ap (λ b. Some (record { proc = p; act = Receive b ids })) e) in
             let up = within in
             absurd (omega (arith, round-here trace.steps p j, is.1))
         of false e =
-            let is = left-received trace.config patience trace.steps p j ids false (at ∙ ap (λ b. Some (record { proc = p; act = Receive b ids })) e) in
+            let is = left-received trace.config patience trace.steps p j ids false
+            (at ∙ ap (λ b. Some (record { proc = p; act = Receive b ids })) e) in
             let next = is.0 in
             let still = is.1 in
             let a = round-here trace.steps p j in
@@ -105,48 +112,57 @@ module _ (trace : Recorded) (patience set g f p : ℕ) (run : IsRun trace.config
             let f5 = ap remains f4 in
             elim (cases_lt 1 (remains j)) [
               | inl many ↦ omega arith
-              | inr out ↦ absurd (true≢false (sym (ends-out trace.config patience trace.steps p run.well_formed j ids ends at paced out) ∙ e))
+              | inr out ↦ absurd
+                  (true≢false (sym (ends-out trace.config patience trace.steps p run.well_formed j ids ends at paced out) ∙ e))
             ]
 
     -- in i times f ticks after all is sent, i Receives are used up
-    uses-in : (i k : ℕ) → IsStepOf trace.steps k p → x + most * f + i * f ≤ tick_of trace k → round_at trace.steps p k ≡ round → remains (k - 1) + i ≤ patience
+    uses-in : (i k : ℕ) → IsStepOf trace.steps k p
+        → x + most * f + i * f ≤ tick_of trace k → round_at trace.steps p k ≡ round → remains (k - 1) + i ≤ patience
     uses-in zero k is late here = let l = left-most trace.config patience trace.steps p (k - 1) in omega arith
     uses-in (suc i) k is late here =
         let e = times-more i f in
         let one = one-before trace patience set g f p run time paced member phi (x + most * f + i * f) k (omega arith) is (omega arith) in
         let from = one.from in
         let l = one.earlier in
-        let same = same-round trace patience set g f p run time paced member phi round x since there one.place k one.act one.at (omega arith) (omega arith) here in
+        let same = same-round trace patience set g f p run time paced member phi round x since there one.place k one.act one.at
+        (omega arith) (omega arith) here in
         let sent : length (sends_to trace.config trace.steps p round) ≤ sent_before trace.steps p round one.place =
-        elim (sends-in trace patience set g f p run time paced member phi round x since there most one.place (one.act, one.at) (omega arith) same) [
+        elim (sends-in trace patience set g f p run time paced member phi round x since there most one.place
+        (one.act, one.at) (omega arith) same) [
           | inl enough ↦ omega arith
           | inr all ↦ all
         ] in
         let r = receives trace patience set g f p run time paced member phi round x since there one.place one.act one.at same sent in
-        let at : step_at trace.steps one.place ≡ Some (record { proc = p; act = Receive r.1 r.0 }) = subst (λ a. step_at trace.steps one.place ≡ Some (record { proc = p; act = a })) r.2 one.at in
+        let at : step_at trace.steps one.place ≡ Some (record { proc = p; act = Receive r.1 r.0 }) =
+        subst (λ a. step_at trace.steps one.place ≡ Some (record { proc = p; act = a })) r.2 one.at in
         omega (arith, uses-in i one.place (one.act, one.at) from same, uses one.place k r.0 r.1 at same l here)
 
     -- So its patience ends the round, if nothing else does.
     pub patience-ends : IsInRoundFrom trace p (round + 1) (x + most * f + patience * f + f)
-    patience-ends = round-ends trace patience set g f p run time paced member phi round x since there most (x + most * f + patience * f) few (omega arith) each
-      where
-        each : EachEnds trace p round (x + most * f + patience * f)
-        each zero ids ends at here late = absurd (none-some _ at)
-        each (suc k) ids ends at here late =
-            let used = uses-in patience (suc k) (Receive ends ids, at) late here in
-            let e : suc k - 1 ≡ k = omega arith in
-            let f1 = ap remains e in
-            ends-out trace.config patience trace.steps p run.well_formed k ids ends at paced (omega arith)
+    patience-ends = round-ends trace patience set g f p run time paced member phi round x since there most
+        (x + most * f + patience * f) few (omega arith) each where
+          each : EachEnds trace p round (x + most * f + patience * f)
+          each zero ids ends at here late = absurd (none-some _ at)
+          each (suc k) ids ends at here late =
+              let used = uses-in patience (suc k) (Receive ends ids, at) late here in
+              let e : suc k - 1 ≡ k = omega arith in
+              let f1 = ap remains e in
+              ends-out trace.config patience trace.steps p run.well_formed k ids ends at paced (omega arith)
 
   -- No member is stuck: it passes so many rounds in so many times (N + P + 1) f ticks.
-  pub passes-rounds : (count round x : ℕ) → g ≤ x → IsInRoundFrom trace p round x → IsInRoundFrom trace p (round + count) (x + count * ((trace.config.n + patience + 1) * f))
+  pub passes-rounds : (count round x : ℕ) → g ≤ x → IsInRoundFrom trace p round x
+      → IsInRoundFrom trace p (round + count) (x + count * ((trace.config.n + patience + 1) * f))
   passes-rounds zero round x since there =
       let e : round + 0 ≡ round = omega arith in
       let z : x + 0 * ((trace.config.n + patience + 1) * f) ≡ x = grind arith in
-      subst (λ r. IsInRoundFrom trace p r (x + 0 * ((trace.config.n + patience + 1) * f))) (sym e) (subst (IsInRoundFrom trace p round) (sym z) there)
+      subst (λ r. IsInRoundFrom trace p r (x + 0 * ((trace.config.n + patience + 1) * f)))
+      (sym e) (subst (IsInRoundFrom trace p round) (sym z) there)
   passes-rounds (suc count) round x since there =
       let e : round + count + 1 ≡ round + suc count = omega arith in
-      let z : x + count * ((trace.config.n + patience + 1) * f) + trace.config.n * f + patience * f + f ≡ x + suc count * ((trace.config.n + patience + 1) * f) = grind arith in
+      let z : x + count * ((trace.config.n + patience + 1) * f) + trace.config.n * f + patience * f + f
+      ≡ x + suc count * ((trace.config.n + patience + 1) * f) = grind arith in
       subst (λ r. IsInRoundFrom trace p r (x + suc count * ((trace.config.n + patience + 1) * f))) e
       (subst (IsInRoundFrom trace p (round + count + 1)) z
-      (patience-ends (round + count) (x + count * ((trace.config.n + patience + 1) * f)) (omega arith) (passes-rounds count round x since there) trace.config.n (few-all trace.config trace.steps p (round + count))))
+      (patience-ends (round + count) (x + count * ((trace.config.n + patience + 1) * f))
+      (omega arith) (passes-rounds count round x since there) trace.config.n (few-all trace.config trace.steps p (round + count))))

@@ -65,22 +65,24 @@ module _ (c : Setup) (steps : List Step) (p round : ℕ) where
   few-all = let e = length-filter sends (processors c) in let l = count-few sends 1 c.n in omega arith
 
   pub few-one : (part_of round ≡ 1) ⊎ (part_of round ≡ 3) → length (sends_to c steps p round) ≤ 1
-  few-one part = let e = length-filter sends (processors c) in let l = count-one sends (owner c.n (phase_of round)) 1 c.n only in omega arith
-    where
-      only : (x : ℕ) → sends x ≡ true → x ≡ owner c.n (phase_of round)
-      only x t = elim (cases_eq x (owner c.n (phase_of round))) [
-        | inl e ↦ e
-        | inr other ↦ absurd (true≢false (sym t ∙ sent-to_owner c (node_in c steps p round) p round x part other))
-      ]
+  few-one part = let e = length-filter sends (processors c) in
+      let l = count-one sends (owner c.n (phase_of round)) 1 c.n only in omega arith where
+        only : (x : ℕ) → sends x ≡ true → x ≡ owner c.n (phase_of round)
+        only x t = elim (cases_eq x (owner c.n (phase_of round))) [
+          | inl e ↦ e
+          | inr other ↦ absurd (true≢false (sym t ∙ sent-to_owner c (node_in c steps p round) p round x part other))
+        ]
 
   -- an owner without a proposal sends nothing in a locking round
   says-none : part_of round ≡ 2 → p ≡ owner c.n (phase_of round) → (node_in c steps p round).proposal ≡ None → (to : ℕ) → sends to ≡ false
   says-none part is none to = ap is_some said
     where
       said : out c (node_in c steps p round) p round to ≡ None
-      said = out-in Locking c (node_in c steps p round) p round to (part_at-locking round part) ∙ rw (eq-eqb p (owner c.n (phase_of round)) is, none) refl
+      said = out-in Locking c (node_in c steps p round) p round to (part_at-locking round part)
+          ∙ rw (eq-eqb p (owner c.n (phase_of round)) is, none) refl
 
-  pub few-none : part_of round ≡ 2 → p ≡ owner c.n (phase_of round) → (node_in c steps p round).proposal ≡ None → length (sends_to c steps p round) ≤ 0
+  pub few-none : part_of round ≡ 2 → p ≡ owner c.n (phase_of round)
+      → (node_in c steps p round).proposal ≡ None → length (sends_to c steps p round) ≤ 0
   few-none part is none =
       let l = count_by-none sends (processors c) (λ to d. says-none part is none to) in
       omega (arith, length-filter sends (processors c))
@@ -104,21 +106,24 @@ pub all-passed : (c : Setup) (patience : ℕ) (steps : List Step) (q round n : �
     → length (sends_to c steps q round) ≤ sent_before steps q round (suc n)
 all-passed c patience steps q round zero run low passed = absurd (let e : rounds_after steps q zero ≡ 0 = refl in omega arith)
 all-passed c patience steps q round (suc n) run low passed = elim (cases_lt (rounds_after steps q n) round) [
-  | inr before ↦ (let l = all-passed c patience steps q round n run low before in let up = sent_before-up steps q round (suc n) (suc (suc n)) (omega arith) in omega arith)
+  | inr before ↦ (let l = all-passed c patience steps q round n run low before in
+      let up = sent_before-up steps q round (suc n) (suc (suc n)) (omega arith) in omega arith)
   | inl now ↦ elim (step-cases c patience steps q n) [
     | inl still ↦ absurd (let e = still.round in omega arith)
     | inr r ↦ ended r.ends r.ids r.step r.round now
   ]
 ]
   where
-    ended : (ends : Bool) (ids : List ℕ) → step_at steps (suc n) ≡ Some (record { proc = q; act = Receive ends ids }) → rounds_after steps q (suc n) ≡ rounds_after steps q n + cond ends 1 0
+    ended : (ends : Bool) (ids : List ℕ) → step_at steps (suc n) ≡ Some (record { proc = q; act = Receive ends ids })
+        → rounds_after steps q (suc n) ≡ rounds_after steps q n + cond ends 1 0
         → rounds_after steps q n < round → length (sends_to c steps q round) ≤ sent_before steps q round (suc (suc n))
     ended false ids at e now = absurd (let f : rounds_after steps q (suc n) ≡ rounds_after steps q n + 0 = e in omega arith)
     ended true ids at e now =
         let f : rounds_after steps q (suc n) ≡ rounds_after steps q n + 1 = e in
         let here : round_at steps q (suc n) ≡ round = round-here steps q n ∙ omega arith in
         let due : next_destination c steps q (suc n) ≡ None = run.each (suc n) (record { proc = q; act = Receive true ids }) at in
-        let none : slice_get (sends_to c steps q round) (sent_before steps q round (suc n)) ≡ None = sym (next_destination-in c steps q (suc n) round here) ∙ due in
+        let none : slice_get (sends_to c steps q round) (sent_before steps q round (suc n))
+        ≡ None = sym (next_destination-in c steps q (suc n) round here) ∙ due in
         let up = sent_before-up steps q round (suc n) (suc (suc n)) (omega arith) in
         elim (cases_lt (sent_before steps q round (suc n)) (length (sends_to c steps q round))) [
           | inl l ↦ absurd (none-some _ (sym none ∙ slice_get-get_or (sends_to c steps q round) (sent_before steps q round (suc n)) 0 l))
@@ -129,7 +134,8 @@ module _ (trace : Recorded) (patience set g f q : ℕ) (run : IsRun trace.config
     (paced : StepsByPace trace.config patience trace.steps q) (member : has_proc set q ≡ true) (phi : PhiHolds set trace g f)
     (round x : ℕ) (since : g ≤ x) (there : IsInRoundFrom trace q round x) (low : 1 ≤ round) where
   -- after a step in the last of i + 1 times f ticks, all is sent
-  all-sent : (i j : ℕ) (act : Act) → step_at trace.steps j ≡ Some (record { proc = q; act = act }) → x + i * f ≤ tick_of trace j → length (sends_to trace.config trace.steps q round) ≤ suc i
+  all-sent : (i j : ℕ) (act : Act) → step_at trace.steps j ≡ Some (record { proc = q; act = act })
+      → x + i * f ≤ tick_of trace j → length (sends_to trace.config trace.steps q round) ≤ suc i
       → length (sends_to trace.config trace.steps q round) ≤ sent_before trace.steps q round (suc j)
   all-sent i zero act at late few = absurd (none-some _ at)
   all-sent i (suc j) act at late few = elim (cases_lt round (round_at trace.steps q (suc j))) [
@@ -144,7 +150,8 @@ module _ (trace : Recorded) (patience set g f q : ℕ) (run : IsRun trace.config
         let up = sent_before-up trace.steps q round (suc j) (suc (suc j)) (omega arith) in
         elim (cases_lt (sent_before trace.steps q round (suc j)) (length (sends_to trace.config trace.steps q round))) [
           | inl more ↦ (
-              let grown = sends-first trace patience set g f q run time paced member phi round x since there (suc j) (suc (suc j)) act at here (omega arith) more in
+              let grown = sends-first trace patience set g f q run time paced member phi round x since there
+              (suc j) (suc (suc j)) act at here (omega arith) more in
               elim (sends-in trace patience set g f q run time paced member phi round x since there i (suc j) (act, at) late here) [
                 | inl enough ↦ omega arith
                 | inr all ↦ omega arith
@@ -154,7 +161,8 @@ module _ (trace : Recorded) (patience set g f q : ℕ) (run : IsRun trace.config
   ]
 
   pub sent-by : (i p : ℕ) (body : Body) → length (sends_to trace.config trace.steps q round) ≤ suc i → IsProc trace.config p
-      → out trace.config (node_in trace.config trace.steps q round) q round p ≡ Some body → x + suc i * f ≤ trace.last → IsSentBy trace q p round (x + suc i * f)
+      → out trace.config (node_in trace.config trace.steps q round) q round p ≡ Some body
+      → x + suc i * f ≤ trace.last → IsSentBy trace q p round (x + suc i * f)
   sent-by i p body few is said last =
       let e = times-more i f in
       let s = phi.each (x + i * f) (omega arith) (omega arith) q member in
@@ -168,5 +176,6 @@ module _ (trace : Recorded) (patience set g f q : ℕ) (run : IsRun trace.config
       let sent = sent-to trace.config trace.steps q p round run place.0 (suc s.step.place) (omega arith) place.2 in
       let earlier = sent.earlier in
       let round_is = sent.round_is in
-      let rise = ticks_rise trace time sent.message s.step.place (record { proc = q; act = Send p }) (record { proc = q; act = at.0 }) sent.sent at.1 (omega arith) in
+      let rise = ticks_rise trace time sent.message s.step.place
+      (record { proc = q; act = Send p }) (record { proc = q; act = at.0 }) sent.sent at.1 (omega arith) in
       record { message = sent.message; sent = sent.sent; later = omega arith; by = omega arith }

@@ -34,7 +34,8 @@ round-grows c patience steps p k = elim (step-cases c patience steps p k) [
   | inr r ↦ grown r.ends r.round
 ]
   where
-    grown : (b : Bool) → rounds_after steps p (suc k) ≡ rounds_after steps p k + cond b 1 0 → rounds_after steps p (suc k) ≤ rounds_after steps p k + 1
+    grown : (b : Bool) → rounds_after steps p (suc k) ≡ rounds_after steps p k + cond b 1 0
+        → rounds_after steps p (suc k) ≤ rounds_after steps p k + 1
     grown true e = omega arith
     grown false e = omega arith
 
@@ -58,12 +59,14 @@ module _ (steps : List Step) (p r : ℕ) where
       subst (λ n. count (j - 1) ≤ count n) e (count-rise (j - 1) (k - 1 - (j - 1)))
 
   -- a message counts
-  pub sent_before-send : (to j k : ℕ) → step_at steps j ≡ Some (record { proc = p; act = Send to }) → round_at steps p j ≡ r → j < k → sent_before steps p r j < sent_before steps p r k
+  pub sent_before-send : (to j k : ℕ) → step_at steps j ≡ Some (record { proc = p; act = Send to })
+      → round_at steps p j ≡ r → j < k → sent_before steps p r j < sent_before steps p r k
   unfolding count
   sent_before-send to zero k at round l = absurd (none-some _ at)
   sent_before-send to (suc j) k at round l =
       let one = count_by-more (λ s. is_sent_in steps p r s) j in
-      let passes : is_sent_in steps p r (suc j) ≡ true = is_sent_in-from_send steps p r (suc j) (record { round = round; step = record { proc = p; act = Send to }; stands = at; sender = refl; sends = refl }) in
+      let passes : is_sent_in steps p r (suc j) ≡ true = is_sent_in-from_send steps p r
+      (suc j) (record { round = round; step = record { proc = p; act = Send to }; stands = at; sender = refl; sends = refl }) in
       let more : count (suc j) ≡ count j + 1 = one ∙ ap (λ b. count j + cond b 1 0) passes in
       let e : suc j + (k - 1 - suc j) ≡ k - 1 = omega arith in
       let rise : count (suc j) ≤ count (k - 1) = subst (λ n. count (suc j) ≤ count n) e (count-rise (suc j) (k - 1 - suc j)) in
@@ -96,7 +99,8 @@ module _ (trace : Recorded) (patience set g f p : ℕ) (run : IsRun trace.config
         at = at.1;
         from = omega arith;
         until = omega arith;
-        earlier = number_below trace time s.step.place k (record { proc = p; act = at.0 }) (record { proc = p; act = is.0 }) at.1 is.1 (omega arith);
+        earlier = number_below trace time s.step.place k
+            (record { proc = p; act = at.0 }) (record { proc = p; act = is.0 }) at.1 is.1 (omega arith);
       }
 
   module _ (round x : ℕ) (since : g ≤ x) (there : IsInRoundFrom trace p round x) where
@@ -107,12 +111,14 @@ module _ (trace : Recorded) (patience set g f p : ℕ) (run : IsRun trace.config
         omega (arith, round_at-up trace.config patience trace.steps p j k l, there j (act, at) from)
 
     -- p sends first, as long as it has something to send
-    pub sends-first : (j k : ℕ) (act : Act) → step_at trace.steps j ≡ Some (record { proc = p; act = act }) → round_at trace.steps p j ≡ round
-        → j < k → sent_before trace.steps p round j < length (sends_to trace.config trace.steps p round) → sent_before trace.steps p round j < sent_before trace.steps p round k
+    pub sends-first : (j k : ℕ) (act : Act) → step_at trace.steps j ≡ Some (record { proc = p; act = act })
+        → round_at trace.steps p j ≡ round → j < k → sent_before trace.steps p round j < length (sends_to trace.config trace.steps p round)
+        → sent_before trace.steps p round j < sent_before trace.steps p round k
     sends-first j k act at here l more =
         let to = get_or (sends_to trace.config trace.steps p round) (sent_before trace.steps p round j) 0 in
         let next : next_destination trace.config trace.steps p j ≡ Some to =
-        next_destination-in trace.config trace.steps p j round here ∙ slice_get-get_or (sends_to trace.config trace.steps p round) (sent_before trace.steps p round j) 0 more in
+        next_destination-in trace.config trace.steps p j round here
+        ∙ slice_get-get_or (sends_to trace.config trace.steps p round) (sent_before trace.steps p round j) 0 more in
         let e : act ≡ Send to = paced.sends j to act at next in
         sent_before-send trace.steps p round to j k (at ∙ ap (λ a. Some (record { proc = p; act = a })) e) here l
 
@@ -139,14 +145,17 @@ module _ (trace : Recorded) (patience set g f p : ℕ) (run : IsRun trace.config
 
     -- where all is sent p receives
     pub receives : (j : ℕ) (act : Act) → step_at trace.steps j ≡ Some (record { proc = p; act = act }) → round_at trace.steps p j ≡ round
-        → length (sends_to trace.config trace.steps p round) ≤ sent_before trace.steps p round j → (ids : List ℕ) × (ends : Bool) × (act ≡ Receive ends ids)
+        → length (sends_to trace.config trace.steps p round) ≤ sent_before trace.steps p round j
+        → (ids : List ℕ) × (ends : Bool) × (act ≡ Receive ends ids)
     receives j (Send to) at here all =
         let due = run.each j (record { proc = p; act = Send to }) at in
-        absurd (none-some to (sym (slice_get_past (sends_to trace.config trace.steps p round) (sent_before trace.steps p round j) all) ∙ sym (next_destination-in trace.config trace.steps p j round here) ∙ due))
+        absurd (none-some to (sym (slice_get_past (sends_to trace.config trace.steps p round) (sent_before trace.steps p round j) all)
+        ∙ sym (next_destination-in trace.config trace.steps p j round here) ∙ due))
     receives j (Receive ends ids) at here all = (ids, ends, refl)
 
     -- Where each Receive of the round ends it, from the tick on by which all is sent, it is over f ticks later.
-    pub round-ends : (most z : ℕ) → length (sends_to trace.config trace.steps p round) ≤ most → x + most * f ≤ z → EachEnds trace p round z → IsInRoundFrom trace p (round + 1) (z + f)
+    pub round-ends : (most z : ℕ) → length (sends_to trace.config trace.steps p round) ≤ most
+        → x + most * f ≤ z → EachEnds trace p round z → IsInRoundFrom trace p (round + 1) (z + f)
     round-ends most z few late each k is after = elim (cases_lt round (round_at trace.steps p k)) [
       | inl done ↦ omega arith
       | inr not_yet ↦ (
@@ -156,12 +165,14 @@ module _ (trace : Recorded) (patience set g f p : ℕ) (run : IsRun trace.config
           let from = one.from in
           let l = one.earlier in
           let same = same-round one.place k one.act one.at (omega arith) (omega arith) here in
-          let sent : length (sends_to trace.config trace.steps p round) ≤ sent_before trace.steps p round one.place = elim (sends-in most one.place (one.act, one.at) (omega arith) same) [
+          let sent : length (sends_to trace.config trace.steps p round)
+          ≤ sent_before trace.steps p round one.place = elim (sends-in most one.place (one.act, one.at) (omega arith) same) [
             | inl enough ↦ omega arith
             | inr all ↦ all
           ] in
           let r = receives one.place one.act one.at same sent in
-          let at : step_at trace.steps one.place ≡ Some (record { proc = p; act = Receive r.1 r.0 }) = subst (λ a. step_at trace.steps one.place ≡ Some (record { proc = p; act = a })) r.2 one.at in
+          let at : step_at trace.steps one.place ≡ Some (record { proc = p; act = Receive r.1 r.0 }) =
+          subst (λ a. step_at trace.steps one.place ≡ Some (record { proc = p; act = a })) r.2 one.at in
           let ends = each one.place r.0 r.1 at same from in
           let next = round_at-ended trace.steps one.place (record { proc = p; act = Receive r.1 r.0 }) at ends in
           let up = round_at-up trace.config patience trace.steps p (one.place + 1) k (omega arith) in

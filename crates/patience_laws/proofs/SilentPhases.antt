@@ -20,10 +20,12 @@ first_after rounds = rounds - rounds % 4 + 1
 
 -- what a Receive makes of q, by whether it ends a phase
 abbrev IsPart : Bool → ℕ → Peer → Peer → Type 0
-IsPart ends rounds mid new = ((ends && part_of (rounds + 1) == 4) ≡ false) × (new ≡ mid) ⊎ ((ends ≡ true) × (rounds % 4 ≡ 3) × (new ≡ after_phase (rounds + 1) mid))
+IsPart ends rounds mid new = ((ends && part_of (rounds + 1) == 4) ≡ false)
+    × (new ≡ mid) ⊎ ((ends ≡ true) × (rounds % 4 ≡ 3) × (new ≡ after_phase (rounds + 1) mid))
 
 part-three : (rounds : ℕ) → part_of (rounds + 1) ≡ 4 → rounds % 4 ≡ 3
-part-three rounds e = let f : rounds + 1 - 1 ≡ rounds = omega arith in let g : rounds % 4 + 1 ≡ 4 = subst (λ n. n % 4 + 1 ≡ 4) f e in omega arith
+part-three rounds e = let f : rounds + 1 - 1 ≡ rounds = omega arith in
+    let g : rounds % 4 + 1 ≡ 4 = subst (λ n. n % 4 + 1 ≡ 4) f e in omega arith
 
 part-four : (rounds : ℕ) → rounds % 4 ≡ 3 → part_of (rounds + 1) ≡ 4
 part-four rounds e = let f : rounds ≡ rounds + 1 - 1 = omega arith in subst (λ n. n % 4 + 1 ≡ 4) f (omega arith)
@@ -38,7 +40,8 @@ part-cases ends rounds mid = go (ends && part_of (rounds + 1) == 4) refl
         inr (parts.0, part-three rounds (eqb-true (part_of (rounds + 1)) 4 parts.1), rw e refl)
 
 -- a Receive that ends no phase leaves the first round of the phase as it is
-same-first : (ends : Bool) (rounds : ℕ) → (ends && part_of (rounds + 1) == 4) ≡ false → first_after (rounds + cond ends 1 0) ≡ first_after rounds
+same-first : (ends : Bool) (rounds : ℕ) → (ends && part_of (rounds + 1) == 4) ≡ false
+    → first_after (rounds + cond ends 1 0) ≡ first_after rounds
 same-first false rounds e = let f : rounds + 0 ≡ rounds = omega arith in ap first_after f
 same-first true rounds e = elim (cases_eq (rounds % 4) 3) [
   | inl three ↦ absurd (eqb-false (part_of (rounds + 1)) 4 e (part-four rounds three))
@@ -53,7 +56,8 @@ opening c patience steps p q is = let low = is.0 in let high = is.1 in get_or-re
 opening-spoke : (c : Setup) (patience : ℕ) (steps : List Step) (p q : ℕ) → IsProc c q → (peer_after c patience steps p q zero).spoke ≡ false
 opening-spoke c patience steps p q is = ap (λ (x : Peer). x.spoke) (opening c patience steps p q is)
 
-opening-suspected : (c : Setup) (patience : ℕ) (steps : List Step) (p q : ℕ) → IsProc c q → (peer_after c patience steps p q zero).suspected ≡ false
+opening-suspected : (c : Setup) (patience : ℕ) (steps : List Step) (p q : ℕ)
+    → IsProc c q → (peer_after c patience steps p q zero).suspected ≡ false
 opening-suspected c patience steps p q is = ap (λ (x : Peer). x.suspected) (opening c patience steps p q is)
 
 module _ (c : Setup) (patience : ℕ) (steps : List Step) (p q : ℕ) (w : IsWellFormed c steps) (is : IsProc c q) where
@@ -81,17 +85,22 @@ module _ (c : Setup) (patience : ℕ) (steps : List Step) (p q : ℕ) (w : IsWel
       let up = rounds-up c patience steps p m k (omega arith) in
       omega arith
 
-  spoken-still : (k : ℕ) (b : Bool) → rounds_after steps p (suc k) ≡ rounds_after steps p k → (TakesOf steps p q (suc k) → ⊥) → IsSpoken k b → IsSpoken (suc k) b
+  spoken-still : (k : ℕ) (b : Bool) → rounds_after steps p (suc k) ≡ rounds_after steps p k
+      → (TakesOf steps p q (suc k) → ⊥) → IsSpoken k b → IsSpoken (suc k) b
   spoken-still k true round none s = (s.0, (let l = s.1 in omega arith), (let l = s.2 in let e = ap first_after round in omega arith), s.3)
-  spoken-still k false round none s = subst (λ n. TakesNothingOf steps p q n (suc k)) (sym (ap first_after round)) (nothing-more (first_after (rounds_after steps p k)) k s none)
+  spoken-still k false round none s = subst (λ n. TakesNothingOf steps p q n (suc k))
+      (sym (ap first_after round)) (nothing-more (first_after (rounds_after steps p k)) k s none)
 
   -- the same where the first round of the phase stays
-  spoken-same : (k : ℕ) (b : Bool) → first_after (rounds_after steps p (suc k)) ≡ first_after (rounds_after steps p k) → (TakesOf steps p q (suc k) → ⊥) → IsSpoken k b → IsSpoken (suc k) b
+  spoken-same : (k : ℕ) (b : Bool) → first_after (rounds_after steps p (suc k)) ≡ first_after (rounds_after steps p k)
+      → (TakesOf steps p q (suc k) → ⊥) → IsSpoken k b → IsSpoken (suc k) b
   spoken-same k true first none s = (s.0, (let l = s.1 in omega arith), (let l = s.2 in omega arith), s.3)
-  spoken-same k false first none s = subst (λ n. TakesNothingOf steps p q n (suc k)) (sym first) (nothing-more (first_after (rounds_after steps p k)) k s none)
+  spoken-same k false first none s = subst (λ n. TakesNothingOf steps p q n (suc k))
+      (sym first) (nothing-more (first_after (rounds_after steps p k)) k s none)
 
   spoken : (k : ℕ) → IsSpoken k (peer_after c patience steps p q k).spoke
-  spoken zero = subst (IsSpoken zero) (sym (opening-spoke c patience steps p q is)) (λ m from by t. let a = (step_at_within steps m _ t.take.step).0 in omega arith)
+  spoken zero = subst (IsSpoken zero) (sym (opening-spoke c patience steps p q is))
+      (λ m from by t. let a = (step_at_within steps m _ t.take.step).0 in omega arith)
   spoken (suc k) = go (spoken k) (peer-cases c patience steps p q w is k)
     where
       go : IsSpoken k (peer_after c patience steps p q k).spoke → IsStillOf c patience steps p q k
@@ -102,15 +111,19 @@ module _ (c : Setup) (patience : ℕ) (steps : List Step) (p q : ℕ) (w : IsWel
       go before (inr x) = elim (part-cases x.ends (rounds_after steps p k) x.mid) [
         | inl part ↦ (
             let spoke : (peer_after c patience steps p q (suc k)).spoke ≡ x.mid.spoke = ap (λ (y : Peer). y.spoke) (x.new ∙ part.1) in
-            let first : first_after (rounds_after steps p (suc k)) ≡ first_after (rounds_after steps p k) = ap first_after x.round ∙ same-first x.ends (rounds_after steps p k) part.0 in
+            let first : first_after (rounds_after steps p (suc k)) ≡ first_after (rounds_after steps p k) = ap first_after x.round
+            ∙ same-first x.ends (rounds_after steps p k) part.0 in
             subst (IsSpoken (suc k)) (sym spoke)
             (elim x.heard [
-              | inl deaf ↦ subst (IsSpoken (suc k)) (sym (ap (λ (y : Peer). y.spoke) deaf.same)) (spoken-same k (peer_after c patience steps p q k).spoke first deaf.none before)
-              | inr listening ↦ subst (IsSpoken (suc k)) (sym listening.spoke) (suc k, omega arith, (let f = round-here steps p k in omega arith), listening.one)
+              | inl deaf ↦ subst (IsSpoken (suc k)) (sym (ap (λ (y : Peer). y.spoke) deaf.same))
+                  (spoken-same k (peer_after c patience steps p q k).spoke first deaf.none before)
+              | inr listening ↦ subst (IsSpoken (suc k))
+                  (sym listening.spoke) (suc k, omega arith, (let f = round-here steps p k in omega arith), listening.one)
             ]))
         | inr part ↦ (
             let spoke : (peer_after c patience steps p q (suc k)).spoke ≡ false = ap (λ (y : Peer). y.spoke) (x.new ∙ part.2) in
-            let ends : rounds_after steps p (suc k) ≡ rounds_after steps p k + 1 = x.round ∙ ap (λ b. rounds_after steps p k + cond b 1 0) part.0 in
+            let ends : rounds_after steps p (suc k) ≡ rounds_after steps p k + 1 = x.round
+            ∙ ap (λ b. rounds_after steps p k + cond b 1 0) part.0 in
             subst (IsSpoken (suc k)) (sym spoke) (λ m from by t. let up = round-up m k by in omega (arith, part.1)))
       ]
 
@@ -142,17 +155,20 @@ module _ (c : Setup) (patience : ℕ) (steps : List Step) (p q : ℕ) (w : IsWel
         | inr part ↦ ended part.0 part.1 x.heard x.mid.suspected refl (sym (ap (λ (y : Peer). y.suspected) (x.new ∙ part.2)) ∙ s)
       ]
         where
-          kept : IsDeaf steps p q k (peer_after c patience steps p q k) x.mid ⊎ IsListening steps p q k (peer_after c patience steps p q k) x.mid → x.mid.suspected ≡ true → WasSilent steps p q (suc k)
+          kept : IsDeaf steps p q k (peer_after c patience steps p q k) x.mid
+              ⊎ IsListening steps p q k (peer_after c patience steps p q k) x.mid → x.mid.suspected ≡ true → WasSilent steps p q (suc k)
           kept (inl deaf) e = silent-longer k deaf.none (before (sym (ap (λ (y : Peer). y.suspected) deaf.same) ∙ e))
           kept (inr listening) e = absurd (true≢false (sym e ∙ listening.suspected))
 
-          ended : x.ends ≡ true → rounds_after steps p k % 4 ≡ 3 → IsDeaf steps p q k (peer_after c patience steps p q k) x.mid ⊎ IsListening steps p q k (peer_after c patience steps p q k) x.mid
-              → (b : Bool) → x.mid.suspected ≡ b → (b || (not x.mid.spoke && nat_lt x.mid.latest (rounds_after steps p k + 1))) ≡ true → WasSilent steps p q (suc k)
+          ended : x.ends ≡ true → rounds_after steps p k % 4 ≡ 3 → IsDeaf steps p q k (peer_after c patience steps p q k) x.mid
+              ⊎ IsListening steps p q k (peer_after c patience steps p q k) x.mid → (b : Bool) → x.mid.suspected ≡ b
+              → (b || (not x.mid.spoke && nat_lt x.mid.latest (rounds_after steps p k + 1))) ≡ true → WasSilent steps p q (suc k)
           ended ends three h true e f = kept h e
           ended ends three (inr listening) false e f = absurd (true≢false (sym f ∙ rw listening.spoke refl))
           ended ends three (inl deaf) false e f =
               let parts = and_parts (not x.mid.spoke) (nat_lt x.mid.latest (rounds_after steps p k + 1)) f in
-              let quiet : (peer_after c patience steps p q k).spoke ≡ false = sym (ap (λ (y : Peer). y.spoke) deaf.same) ∙ not-true x.mid.spoke parts.0 in
+              let quiet : (peer_after c patience steps p q k).spoke ≡ false = sym (ap (λ (y : Peer). y.spoke) deaf.same)
+              ∙ not-true x.mid.spoke parts.0 in
               let late = ltb-true x.mid.latest (rounds_after steps p k + 1) parts.1 in
               let nothing : TakesNothingOf steps p q (first_after (rounds_after steps p k)) k = subst (IsSpoken k) quiet spoke in
               let e : first_after (rounds_after steps p k) ≡ rounds_after steps p k + 1 - 3 = omega arith in
@@ -181,7 +197,8 @@ module _ (c : Setup) (patience : ℕ) (steps : List Step) (p q : ℕ) (w : IsWel
     where
       -- nothing is taken with this step
       none : TakesOf steps p q (suc k) → ⊥
-      none t = s.nothing (suc k) (let up = round-up s.place k s.by in let here = round-here steps p k in let e = s.round_is in omega arith) (omega arith) t
+      none t = s.nothing (suc k) (let up = round-up s.place k s.by in let here = round-here steps p k in let e = s.round_is in omega arith)
+          (omega arith) t
 
       earlier : s.place < suc k → WasSilent steps p q k
       earlier l = record {
@@ -216,8 +233,10 @@ module _ (c : Setup) (patience : ℕ) (steps : List Step) (p q : ℕ) (w : IsWel
           absurd (x.no_receive true s.ids (subst (λ n. step_at steps n ≡ Some (record { proc = p; act = Receive true s.ids })) e s.step))
       go before (inr l) (inr x) =
           let e : s.place ≡ suc k = omega (arith, s.by) in
-          let stands : step_at steps (suc k) ≡ Some (record { proc = p; act = Receive true s.ids }) = subst (λ n. step_at steps n ≡ Some (record { proc = p; act = Receive true s.ids })) e s.step in
-          let same : record { proc = p; act = Receive x.ends x.ids } ≡ record { proc = p; act = Receive true s.ids } = same_Some _ _ (sym x.step ∙ stands) in
+          let stands : step_at steps (suc k) ≡ Some (record { proc = p; act = Receive true s.ids }) =
+          subst (λ n. step_at steps n ≡ Some (record { proc = p; act = Receive true s.ids })) e s.step in
+          let same : record { proc = p; act = Receive x.ends x.ids }
+          ≡ record { proc = p; act = Receive true s.ids } = same_Some _ _ (sym x.step ∙ stands) in
           let ends : x.ends ≡ true = ap (λ (y : Step). act_ends y.act) same in
           let round : s.round ≡ rounds_after steps p k + 1 = sym s.round_is ∙ ap (round_at steps p) e ∙ round-here steps p k in
           let three = part-three (rounds_after steps p k) (sym (ap part_of round) ∙ s.last) in
@@ -228,24 +247,31 @@ module _ (c : Setup) (patience : ℕ) (steps : List Step) (p q : ℕ) (w : IsWel
               → IsDeaf steps p q k (peer_after c patience steps p q k) x.mid ⊎ IsListening steps p q k
               (peer_after c patience steps p q k) x.mid → Suspects c patience steps p q (suc k)
           of ends round three e part (inr listening) = absurd (none listening.one)
-          of ends round three e (inl part) (inl deaf) = absurd (true≢false (sym (rw (ends, eq-eqb (part_of (rounds_after steps p k + 1)) 4 (part-four (rounds_after steps p k) three)) refl) ∙ part.0))
+          of ends round three e (inl part) (inl deaf) = absurd (true≢false
+              (sym (rw (ends, eq-eqb (part_of (rounds_after steps p k + 1)) 4 (part-four (rounds_after steps p k) three)) refl) ∙ part.0))
           of ends round three e (inr part) (inl deaf) =
-              let quiet : x.mid.spoke ≡ false = ap (λ (y : Peer). y.spoke) deaf.same ∙ silent-spoke (peer_after c patience steps p q k).spoke refl (spoken k) in
-              let late : nat_lt x.mid.latest (rounds_after steps p k + 1) ≡ true = elim (cases_lt x.mid.latest (rounds_after steps p k + 1)) [
+              let quiet : x.mid.spoke ≡ false = ap (λ (y : Peer). y.spoke) deaf.same
+              ∙ silent-spoke (peer_after c patience steps p q k).spoke refl (spoken k) in
+              let late : nat_lt x.mid.latest (rounds_after steps p k + 1)
+              ≡ true = elim (cases_lt x.mid.latest (rounds_after steps p k + 1)) [
                 | inl low ↦ lt-ltb x.mid.latest (rounds_after steps p k + 1) low
                 | inr high ↦ (
                     let same = ap (λ (y : Peer). y.latest) deaf.same in
                     let is_known = heard c patience steps p q w is k (omega arith) in
-                    absurd (s.behind (heard-weaker steps p q (peer_after c patience steps p q k).latest s.round k s.place (omega arith) (omega arith) is_known)))
+                    absurd (s.behind (heard-weaker steps p q
+                    (peer_after c patience steps p q k).latest s.round k s.place (omega arith) (omega arith) is_known)))
               ] in
-              ap (λ (y : Peer). y.suspected) (x.new ∙ part.2) ∙ or_right x.mid.suspected (not x.mid.spoke && nat_lt x.mid.latest (rounds_after steps p k + 1)) (rw (quiet, late) refl)
+              ap (λ (y : Peer). y.suspected) (x.new ∙ part.2)
+              ∙ or_right x.mid.suspected (not x.mid.spoke && nat_lt x.mid.latest (rounds_after steps p k + 1)) (rw (quiet, late) refl)
             where
-              silent-spoke : (b : Bool) → (peer_after c patience steps p q k).spoke ≡ b → IsSpoken k b → (peer_after c patience steps p q k).spoke ≡ false
+              silent-spoke : (b : Bool) → (peer_after c patience steps p q k).spoke ≡ b
+                  → IsSpoken k b → (peer_after c patience steps p q k).spoke ≡ false
               silent-spoke false f t = f
               silent-spoke true f t = absurd (s.nothing t.0 (let from = t.2 in omega arith) (let by = t.1 in omega arith) t.3)
 
   -- until something is taken of it
-  pub suspected-stays : (j k : ℕ) → j ≤ k → ((m : ℕ) → j < m → m ≤ k → TakesOf steps p q m → ⊥) → Suspects c patience steps p q j → Suspects c patience steps p q k
+  pub suspected-stays : (j k : ℕ) → j ≤ k → ((m : ℕ) → j < m → m ≤ k → TakesOf steps p q m → ⊥)
+      → Suspects c patience steps p q j → Suspects c patience steps p q k
   suspected-stays j k l none s = silent-suspected k (record {
     round = was.round;
     place = was.place;

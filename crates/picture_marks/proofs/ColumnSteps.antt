@@ -33,17 +33,19 @@ steps_so trace columns p c (suc n) low h = go (is_in_column trace columns p c (s
         record { tick = tick_of trace (suc n); steps = record { place = suc n; step = step; tick = refl }; column = eqb-true _ _ t.1 }
     go false e h before = before h
 
-steps_test : (trace : Recorded) (columns p c n k : ℕ) → 1 ≤ k → k ≤ n → is_in_column trace columns p c k ≡ true → steps_to trace columns p c n ≡ true
+steps_test : (trace : Recorded) (columns p c n k : ℕ)
+    → 1 ≤ k → k ≤ n → is_in_column trace columns p c k ≡ true → steps_to trace columns p c n ≡ true
 steps_test trace columns p c zero k low high e = absurd (omega arith)
-steps_test trace columns p c (suc n) k low high e = go (is_in_column trace columns p c (suc n)) refl (λ l. steps_test trace columns p c n k low l e)
-  where
-    go : (t : Bool) → is_in_column trace columns p c (suc n) ≡ t → (k ≤ n → steps_to trace columns p c n ≡ true) → (if t then true else steps_to trace columns p c n) ≡ true
-    go true f before = refl
-    go false f before =
-        elim (cases_lt n k) [
-          | inl l ↦ let same : k ≡ suc n = omega arith in let yes = rw same at e in cc
-          | inr l ↦ before l
-        ]
+steps_test trace columns p c (suc n) k low high e =
+    go (is_in_column trace columns p c (suc n)) refl (λ l. steps_test trace columns p c n k low l e) where
+      go : (t : Bool) → is_in_column trace columns p c (suc n) ≡ t
+          → (k ≤ n → steps_to trace columns p c n ≡ true) → (if t then true else steps_to trace columns p c n) ≡ true
+      go true f before = refl
+      go false f before =
+          elim (cases_lt n k) [
+            | inl l ↦ let same : k ≡ suc n = omega arith in let yes = rw same at e in cc
+            | inr l ↦ before l
+          ]
 
 -- the test of a step of p in a column
 in_column : (trace : Recorded) (columns p c : ℕ) (g : StepsInColumn trace columns p c) → is_in_column trace columns p c g.steps.place ≡ true
@@ -53,7 +55,8 @@ in_column trace columns p c g =
     let column : column_in columns trace.last g.tick ≡ c = g.column in
     grind (arith, own, tick, column)
 
-pub steps_exact : (trace : Recorded) (columns p c : ℕ) → 1 ≤ p → steps_to trace columns p c (length trace.steps) ≡ true ↔ StepsInColumn trace columns p c
+pub steps_exact : (trace : Recorded) (columns p c : ℕ)
+    → 1 ≤ p → steps_to trace columns p c (length trace.steps) ≡ true ↔ StepsInColumn trace columns p c
 steps_exact trace columns p c low = (
   (λ h. steps_so trace columns p c (length trace.steps) low h),
   (λ (g : StepsInColumn trace columns p c).
@@ -64,8 +67,8 @@ steps_exact trace columns p c low = (
 has_marked : (s : Strokes) (p c : ℕ) → p ≤ MAX_MEMBER → c < COLUMNS → has_stroke s p c ≡ busy_at s.busy.items p c
 has_marked s p c high inside = let test = and_from _ _ (le-leb p MAX_MEMBER high) (lt-ltb c COLUMNS inside) in rw test refl
 
-pub strokes_exact : (trace : Recorded) (s : Strokes)
-    → ((p c : ℕ) → p ≤ MAX_MEMBER → c < COLUMNS → busy_at s.busy.items p c ≡ steps_to trace s.columns p c (length trace.steps)) → ShowsSteps trace s
+pub strokes_exact : (trace : Recorded) (s : Strokes) → ((p c : ℕ)
+    → p ≤ MAX_MEMBER → c < COLUMNS → busy_at s.busy.items p c ≡ steps_to trace s.columns p c (length trace.steps)) → ShowsSteps trace s
 strokes_exact trace s marked = record {
   each = λ p c low high inside.
       let same = has_marked s p c high inside ∙ marked p c high inside in

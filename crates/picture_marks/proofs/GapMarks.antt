@@ -62,7 +62,8 @@ same_end_so (Some a) b h = let t = and_parts (a.proc == b.proc) (a.to == b.to) h
 with_gap : (rows : List Row) (k : ℕ) (a : Gap) → gap_at rows k ≡ Some a → (r : Row) × (row_at rows k ≡ Some r) × (r.gap ≡ Some a)
 with_gap rows k a h = go (row_at rows k) refl h
   where
-    go : (o : Option Row) → row_at rows k ≡ o → option_and_then (λ r. r.gap) o ≡ Some a → (r : Row) × (row_at rows k ≡ Some r) × (r.gap ≡ Some a)
+    go : (o : Option Row) → row_at rows k ≡ o → option_and_then (λ r. r.gap) o ≡ Some a
+        → (r : Row) × (row_at rows k ≡ Some r) × (r.gap ≡ Some a)
     go None e h = absurd (none-some a h)
     go (Some r) e h = (r, e, h)
 
@@ -107,29 +108,50 @@ covers_shown w lanes a b p t =
 first_with : (set : ℕ) (trace : Recorded) (w : Window) (lanes : ℕ) (rows : List Row) → IsReport set trace rows
     → (k : ℕ) (b : Gap) → IsShownGap w lanes b → gap_at rows k ≡ Some b → Found w lanes rows b k
 first_with set trace w lanes rows is zero b t h = absurd (none-some b h)
-first_with set trace w lanes rows is (suc k) b t h = go (share_end (gap_at rows k) (gap_at rows (suc k))) refl (λ a. first_with set trace w lanes rows is k a)
-  where
-    go : (same : Bool) → share_end (gap_at rows k) (gap_at rows (suc k)) ≡ same → ((a : Gap) → IsShownGap w lanes a → gap_at rows k ≡ Some a → Found w lanes rows a k) → Found w lanes rows b (suc k)
-    go true e before =
-        let s = with_gap rows (suc k) b h in
-        let y = same_end_so (gap_at rows k) b (rw h at e) in
-        let r = with_gap rows k y.0 y.1 in
-        let covers = first_covers set trace rows k r.0 s.0 y.0 b is r.1 s.1 r.2 s.2 y.2 y.3 in
-        let f = before y.0 (covers_shown w lanes y.0 b covers t) y.1 in
-        let l : f.place ≤ k = f.until in
-        record { place = f.place; until = omega arith; row = f.row; has = f.has; at = f.at; gap = f.gap; shown = f.shown; covers = Covers-further f.has y.0 b f.covers covers }
-    go false e before =
-        let y = with_gap rows (suc k) b h in
-        let back_one : suc k - 1 ≡ k = omega arith in
-        let other : share_end (gap_at rows (suc k - 1)) (gap_at rows (suc k)) ≡ false = rw back_one e in
-        let inside : option_map_or (λ a. shows_gap w lanes a) (gap_at rows (suc k)) false ≡ true = rw h (shown_test w lanes b t) in
-        record { place = suc k; until = omega arith; row = y.0; has = b; at = y.1; gap = y.2; shown = shown_so w lanes rows (suc k) y.0 y.1 inside other; covers = Covers-itself b }
+first_with set trace w lanes rows is (suc k) b t h =
+    go (share_end (gap_at rows k) (gap_at rows (suc k))) refl (λ a. first_with set trace w lanes rows is k a) where
+      go : (same : Bool) → share_end (gap_at rows k) (gap_at rows (suc k)) ≡ same
+          → ((a : Gap) → IsShownGap w lanes a → gap_at rows k ≡ Some a → Found w lanes rows a k) → Found w lanes rows b (suc k)
+      go true e before =
+          let s = with_gap rows (suc k) b h in
+          let y = same_end_so (gap_at rows k) b (rw h at e) in
+          let r = with_gap rows k y.0 y.1 in
+          let covers = first_covers set trace rows k r.0 s.0 y.0 b is r.1 s.1 r.2 s.2 y.2 y.3 in
+          let f = before y.0 (covers_shown w lanes y.0 b covers t) y.1 in
+          let l : f.place ≤ k = f.until in
+          record {
+            place = f.place;
+            until = omega arith;
+            row = f.row;
+            has = f.has;
+            at = f.at;
+            gap = f.gap;
+            shown = f.shown;
+            covers = Covers-further f.has y.0 b f.covers covers;
+          }
+      go false e before =
+          let y = with_gap rows (suc k) b h in
+          let back_one : suc k - 1 ≡ k = omega arith in
+          let other : share_end (gap_at rows (suc k - 1)) (gap_at rows (suc k)) ≡ false = rw back_one e in
+          let inside : option_map_or (λ a. shows_gap w lanes a) (gap_at rows (suc k)) false ≡ true = rw h (shown_test w lanes b t) in
+          record {
+            place = suc k;
+            until = omega arith;
+            row = y.0;
+            has = b;
+            at = y.1;
+            gap = y.2;
+            shown = shown_so w lanes rows (suc k) y.0 y.1 inside other;
+            covers = Covers-itself b;
+          }
 
-pub gaps_exact : (set : ℕ) (trace : Recorded) (w : Window) (lanes : ℕ) (rows : List Row) → IsReport set trace rows → ShowsGaps rows w lanes (gathered (shown_gap w lanes rows) (length rows))
+pub gaps_exact : (set : ℕ) (trace : Recorded) (w : Window) (lanes : ℕ) (rows : List Row)
+    → IsReport set trace rows → ShowsGaps rows w lanes (gathered (shown_gap w lanes rows) (length rows))
 gaps_exact set trace w lanes rows is = record {
   sound = λ a (g : HasGap (gathered (shown_gap w lanes rows) (length rows)) a).
       let y = gathered_from (shown_gap w lanes rows) (length rows) g.0 g.1 in
-      let i = if_option (option_map_or (λ x. shows_gap w lanes x) (gap_at rows y.0) false && not (share_end (gap_at rows (y.0 - 1)) (gap_at rows y.0))) (row_at rows y.0) g.0 y.3 in
+      let i = if_option (option_map_or (λ x. shows_gap w lanes x) (gap_at rows y.0) false
+      && not (share_end (gap_at rows (y.0 - 1)) (gap_at rows y.0))) (row_at rows y.0) g.0 y.3 in
       let h : gap_at rows y.0 ≡ Some a = rw i.1 g.2 in
       let passed : option_map_or (λ x. shows_gap w lanes x) (gap_at rows y.0) false ≡ true =
       (and_parts (option_map_or (λ x. shows_gap w lanes x) (gap_at rows y.0) false)

@@ -25,12 +25,14 @@ pub gathered_has : {X : Type 0} (f : ℕ → Option X) (n k : ℕ) (x : X) → 1
 gathered_has f zero k x low high e = absurd (omega arith)
 gathered_has f (suc n) k x low high e =
     elim (cases_lt n k) [
-      | inl l ↦ let same : k ≡ suc n = omega arith in Contains-append_right (gathered f n) (one_or_none (f (suc n))) x (one_has (f (suc n)) x (rw same at e))
+      | inl l ↦ let same : k ≡ suc n = omega arith in
+          Contains-append_right (gathered f n) (one_or_none (f (suc n))) x (one_has (f (suc n)) x (rw same at e))
       | inr l ↦ Contains-append_left (gathered f n) (one_or_none (f (suc n))) x (gathered_has f n k x low l e)
     ]
 
 -- what is there is what a number gives
-pub gathered_from : {X : Type 0} (f : ℕ → Option X) (n : ℕ) (x : X) → Contains (gathered f n) x → (k : ℕ) × (1 ≤ k) × (k ≤ n) × (f k ≡ Some x)
+pub gathered_from : {X : Type 0} (f : ℕ → Option X) (n : ℕ) (x : X)
+    → Contains (gathered f n) x → (k : ℕ) × (1 ≤ k) × (k ≤ n) × (f k ≡ Some x)
 gathered_from f zero x h = absurd (Contains-nil x h)
 gathered_from f (suc n) x h =
     elim (Contains-append_cases (gathered f n) (one_or_none (f (suc n))) x h) [

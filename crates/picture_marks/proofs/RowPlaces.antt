@@ -18,12 +18,14 @@ begins_at rows k r e =
     get_or-map (λ (x : Row). x.gst) rows k r 0 inside ∙ ap (λ (x : Row). x.gst) same
 
 -- a row doesn't begin after the next one
-pub rows_rise : (rows : List Row) (k : ℕ) (r s : Row) → IsStrictlyIncreasing (map (λ x. x.gst) rows) → row_at rows k ≡ Some r → row_at rows (suc k) ≡ Some s → r.gst ≤ s.gst
+pub rows_rise : (rows : List Row) (k : ℕ) (r s : Row)
+    → IsStrictlyIncreasing (map (λ x. x.gst) rows) → row_at rows k ≡ Some r → row_at rows (suc k) ≡ Some s → r.gst ≤ s.gst
 rows_rise rows zero r s rising e f = absurd (none-some r e)
 rows_rise rows (suc k) r s rising e f =
     let inside : suc k < length rows = slice_get_within rows (suc k) s f in
     let next : suc k ≡ k + 1 = omega arith in
-    let below : get_or (map (λ x. x.gst) rows) k 0 < get_or (map (λ x. x.gst) rows) (suc k) 0 = rw next (rising k (rw length-map (omega arith))) in
+    let below : get_or (map (λ x. x.gst) rows) k 0
+    < get_or (map (λ x. x.gst) rows) (suc k) 0 = rw next (rising k (rw length-map (omega arith))) in
     let first : get_or (map (λ x. x.gst) rows) k 0 ≡ r.gst = begins_at rows k r e in
     let second : get_or (map (λ x. x.gst) rows) (suc k) 0 ≡ s.gst = begins_at rows (suc k) s f in
     omega arith

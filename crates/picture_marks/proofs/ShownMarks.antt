@@ -37,7 +37,8 @@ touches_test w a b t = and_from _ _ (le-leb a w.to t.begins) (le-leb w.first b t
 abbrev step_test : Recorded → Window → ℕ → ℕ → Bool
 step_test trace w lanes s = touches w (tick_of trace s) (tick_of trace s) && has_proc lanes (proc_of trace.steps s)
 
-pub steps_exact : (trace : Recorded) (w : Window) (lanes : ℕ) (s : ℕ) → Contains (gathered (shown_step trace w lanes) (length trace.steps)) s ↔ IsShownStep trace w lanes s
+pub steps_exact : (trace : Recorded) (w : Window) (lanes : ℕ) (s : ℕ)
+    → Contains (gathered (shown_step trace w lanes) (length trace.steps)) s ↔ IsShownStep trace w lanes s
 steps_exact trace w lanes s = (
   (λ h. let y = gathered_from (shown_step trace w lanes) (length trace.steps) s h in go y.0 y.1 y.2 y.3),
   (λ (g : IsShownStep trace w lanes s).
@@ -52,7 +53,8 @@ steps_exact trace w lanes s = (
         rw (← f.1) (record { low = low; high = high; inside = touches_so w (tick_of trace k) (tick_of trace k) t.0; lane = t.1 })
 
 -- a test of a step that passes has a step
-at_some : (o : Option Step) (s : ℕ) → list_any (λ i. i == s) (option_map_or (λ x. act_ids x.act) o []) ≡ true → (x : Step) × (o ≡ Some x) × Contains (act_ids x.act) s
+at_some : (o : Option Step) (s : ℕ) → list_any (λ i. i == s) (option_map_or (λ x. act_ids x.act) o []) ≡ true
+    → (x : Step) × (o ≡ Some x) × Contains (act_ids x.act) s
 at_some None s h = cc
 at_some (Some x) s h = (x, refl, Contains-from_takes x.act s h)
 
@@ -66,7 +68,8 @@ taker_so : (steps : List Step) (n s r : ℕ) → taker steps n s ≡ Some r → 
 taker_so steps zero s r h = absurd (none-some r h)
 taker_so steps (suc n) s r h = go (takes_at steps (suc n) s) refl h (λ e. taker_so steps n s r e)
   where
-    go : (t : Bool) → takes_at steps (suc n) s ≡ t → (if t then Some (suc n) else taker steps n s) ≡ Some r → (taker steps n s ≡ Some r → TakesAt steps r s) → TakesAt steps r s
+    go : (t : Bool) → takes_at steps (suc n) s ≡ t
+        → (if t then Some (suc n) else taker steps n s) ≡ Some r → (taker steps n s ≡ Some r → TakesAt steps r s) → TakesAt steps r s
     go true e h before = rw (← same_Some (suc n) r h) (takes_so steps (suc n) s e)
     go false e h before = before h
 
@@ -75,7 +78,8 @@ taker_none steps zero s h zero l t = none-some t.0 t.1
 taker_none steps zero s h (suc r) l t = omega arith
 taker_none steps (suc n) s h r l t = go (takes_at steps (suc n) s) refl h (λ e k. taker_none steps n s e r k t)
   where
-    go : (test : Bool) → takes_at steps (suc n) s ≡ test → (if test then Some (suc n) else taker steps n s) ≡ None → (taker steps n s ≡ None → r ≤ n → ⊥) → ⊥
+    go : (test : Bool) → takes_at steps (suc n) s ≡ test
+        → (if test then Some (suc n) else taker steps n s) ≡ None → (taker steps n s ≡ None → r ≤ n → ⊥) → ⊥
     go true e h before = none-some (suc n) (sym h)
     go false e h before =
         elim (cases_lt n r) [
@@ -91,7 +95,8 @@ taken_by steps s = go (taker steps (length steps) s) refl
     go (Some r) e = taker_so steps (length steps) s r e
 
 -- in a well-formed trace there is one answer
-taker_is : (c : Setup) (steps : List Step) (s : ℕ) (o : Option ℕ) → IsWellFormed c steps → IsTakenBy steps s o → taker steps (length steps) s ≡ o
+taker_is : (c : Setup) (steps : List Step) (s : ℕ) (o : Option ℕ)
+    → IsWellFormed c steps → IsTakenBy steps s o → taker steps (length steps) s ≡ o
 taker_is c steps s o w g = go (taker steps (length steps) s) o (taken_by steps s) g
   where
     go : (a b : Option ℕ) → IsTakenBy steps s a → IsTakenBy steps s b → a ≡ b
@@ -112,26 +117,29 @@ act_so : (lanes : ℕ) (a : Act) → sends_to_lane lanes a ≡ true → (to : �
 act_so lanes (Send to) h = (to, refl, h)
 act_so lanes (Receive ends ids) h = cc
 
-sends_so : (lanes : ℕ) (o : Option Step) → option_map_or (λ x. sends_to_lane lanes x.act && has_proc lanes x.proc) o false ≡ true → SendsBetween lanes o
+sends_so : (lanes : ℕ) (o : Option Step) → option_map_or (λ x. sends_to_lane lanes x.act && has_proc lanes x.proc) o false ≡ true
+    → SendsBetween lanes o
 sends_so lanes None h = cc
 sends_so lanes (Some x) h =
     let t = and_parts (sends_to_lane lanes x.act) (has_proc lanes x.proc) h in
     let y = act_so lanes x.act t.0 in
     record { to = y.0; proc = x.proc; step = ap (λ (a : Act). Some (record { proc = x.proc; act = a })) y.1; begins = t.1; ends = y.2 }
 
-sends_test : (lanes : ℕ) (steps : List Step) (s to : ℕ) → IsSentTo steps s to → has_proc lanes (proc_of steps s) ≡ true → has_proc lanes to ≡ true → sends_between lanes steps s ≡ true
+sends_test : (lanes : ℕ) (steps : List Step) (s to : ℕ)
+    → IsSentTo steps s to → has_proc lanes (proc_of steps s) ≡ true → has_proc lanes to ≡ true → sends_between lanes steps s ≡ true
 sends_test lanes steps s to h begins ends =
     let from : has_proc lanes h.0 ≡ true = rw h.1 at begins in
     rw h.1 (and_from (has_proc lanes to) (has_proc lanes h.0) ends from)
 
-shown_so : (trace : Recorded) (w : Window) (lanes : ℕ) (m : Message) → sends_between lanes trace.steps m.sent ≡ true → taker trace.steps (length trace.steps) m.sent ≡ m.taken
+shown_so : (trace : Recorded) (w : Window) (lanes : ℕ) (m : Message)
+    → sends_between lanes trace.steps m.sent ≡ true → taker trace.steps (length trace.steps) m.sent ≡ m.taken
     → touches w (tick_of trace m.sent) (end_of trace m) ≡ true → shown_message trace w lanes m.sent ≡ Some m
 shown_so trace w lanes m p e q =
     let test : (sends_between lanes trace.steps m.sent && touches w (tick_of trace m.sent) (end_of trace m)) ≡ true = and_from _ _ p q in
     rw (e, test) refl
 
-is_shown : (trace : Recorded) (w : Window) (lanes : ℕ) (s : ℕ) → sends_between lanes trace.steps s ≡ true → touches w (tick_of trace s) (end_of trace (message_of trace.steps s)) ≡ true
-    → IsShownMessage trace w lanes (message_of trace.steps s)
+is_shown : (trace : Recorded) (w : Window) (lanes : ℕ) (s : ℕ) → sends_between lanes trace.steps s ≡ true
+    → touches w (tick_of trace s) (end_of trace (message_of trace.steps s)) ≡ true → IsShownMessage trace w lanes (message_of trace.steps s)
 is_shown trace w lanes s p q =
     let y = sends_so lanes (step_at trace.steps s) p in
     record {
@@ -151,13 +159,15 @@ messages_exact trace w lanes m is = (
       let within = step_at_within trace.steps m.sent _ g.sent.1 in
       let low : 1 ≤ m.sent = omega arith in
       gathered_has (shown_message trace w lanes) (length trace.steps) m.sent m low within.1
-      (shown_so trace w lanes m (sends_test lanes trace.steps m.sent g.to g.sent g.begins g.ends) (taker_is trace.config trace.steps m.sent m.taken is g.taken)
+      (shown_so trace w lanes m (sends_test lanes trace.steps m.sent g.to g.sent g.begins g.ends)
+      (taker_is trace.config trace.steps m.sent m.taken is g.taken)
       (touches_test w (tick_of trace m.sent) (end_of trace m) g.inside))),
 )
   where
     from_number : (k : ℕ) → shown_message trace w lanes k ≡ Some m → IsShownMessage trace w lanes m
     from_number k e =
-        let f = if_some (sends_between lanes trace.steps k && touches w (tick_of trace k) (end_of trace (message_of trace.steps k))) (message_of trace.steps k) m e in
+        let f = if_some (sends_between lanes trace.steps k && touches w (tick_of trace k) (end_of trace (message_of trace.steps k)))
+        (message_of trace.steps k) m e in
         let t = and_parts _ _ f.0 in
         let P : Message → Type 0 = λ x. IsShownMessage trace w lanes x in
         subst P f.1 (is_shown trace w lanes k t.0 t.1)

@@ -51,9 +51,11 @@ phase_after-decides : (c : Setup) (member : ℕ → Bool) (table : Table) (round
     → is_some (state_after c table (suc (suc (suc (suc rounds)))) o).decision ≡ true
 unfolding state_after
 phase_after-decides c member table rounds o setup e owns mo many hear =
-    let listed = common-value c member table (state_after c table rounds) (suc rounds) o (initial_value c o) e (at 0 (suc rounds) (omega arith) (omega arith))
+    let listed = common-value c member table (state_after c table rounds)
+    (suc rounds) o (initial_value c o) e (at 0 (suc rounds) (omega arith) (omega arith))
     (KeepsProper-state_after c table rounds) mo (initial_value-proper c table rounds o) in
-    phase-decides c member table (state_after c table (suc rounds)) (suc (suc rounds)) o listed.0 setup (omega arith) (omega arith) owns mo many
+    phase-decides c member table (state_after c table (suc rounds))
+    (suc (suc rounds)) o listed.0 setup (omega arith) (omega arith) owns mo many
     (at 1 (suc (suc rounds)) (omega arith) (omega arith)) (at 2 (suc (suc (suc rounds))) (omega arith) (omega arith))
     (at 3 (suc (suc (suc (suc rounds)))) (omega arith) (omega arith)) listed.1
   where
@@ -66,13 +68,14 @@ member-positive set zero m = cc
 member-positive set (suc p) m = omega arith
 
 -- members of a set within the processors that hear all of it hear one another
-HearOneAnother-from : (c : Setup) (set : ℕ) (table : Table) (round : ℕ) → IsWithin set c.n → HearsAllOf set table round → HearOneAnother c (has_proc set) table round
+HearOneAnother-from : (c : Setup) (set : ℕ) (table : Table) (round : ℕ)
+    → IsWithin set c.n → HearsAllOf set table round → HearOneAnother c (has_proc set) table round
 HearOneAnother-from c set table round within hears = record { processors = λ p m. (member-positive set p m, within p m); hears = hears }
 
 -- The bounded decision: each member decides by the third round of its own phase among the N after
 -- the settling phase, and the decision stays.
-pub HaveDecided-state_after : (c : Setup) (set : ℕ) (table : Table) (first rounds : ℕ) → IsSetup c → IsInTouch c set table first (deciding_round c first)
-    → deciding_round c first ≤ rounds → HaveDecided set (state_after c table rounds)
+pub HaveDecided-state_after : (c : Setup) (set : ℕ) (table : Table) (first rounds : ℕ) → IsSetup c
+    → IsInTouch c set table first (deciding_round c first) → deciding_round c first ≤ rounds → HaveDecided set (state_after c table rounds)
 HaveDecided-state_after c set table first rounds setup touch late p m = stays (state_after c table decided p).decision refl decides
   where
     own : (phase : ℕ) × IsOwnPhase c.n p (settling_phase first) phase
@@ -86,45 +89,49 @@ HaveDecided-state_after c set table first rounds setup touch late p m = stays (s
     decided = suc (suc (suc (suc before)))
 
     hear : (more : ℕ) → more ≤ 3 → HearOneAnother c (has_proc set) table (suc before + more)
-    hear more h = HearOneAnother-from c set table (suc before + more) touch.within
-        (touch.hears (suc before + more) (omega (arith, touch.numbered, own.1.later)) (omega (arith, touch.numbered, own.1.later, own.1.soon)))
+    hear more h = HearOneAnother-from c set table (suc before + more) touch.within (touch.hears (suc before + more)
+        (omega (arith, touch.numbered, own.1.later)) (omega (arith, touch.numbered, own.1.later, own.1.soon)))
 
     decides : is_some (state_after c table decided p).decision ≡ true
     decides =
         let same : own.0 ≡ phase_of (suc (suc before)) = omega (arith, touch.numbered, own.1.later) in
-        phase_after-decides c (has_proc set) table before p setup (omega (arith, touch.numbered, own.1.later)) (own.1.owns ∙ ap (owner c.n) same) m touch.size hear
+        phase_after-decides c (has_proc set) table before p setup
+        (omega (arith, touch.numbered, own.1.later)) (own.1.owns ∙ ap (owner c.n) same) m touch.size hear
 
     stays : (o : Option ℕ) → (state_after c table decided p).decision ≡ o → is_some (state_after c table decided p).decision ≡ true
         → is_some (state_after c table rounds p).decision ≡ true
     stays None e d = let clash = sym d ∙ ap is_some e in cc
     stays (Some v) e d =
         let same : decided + (rounds - decided) ≡ rounds = omega (arith, touch.numbered, own.1.later, own.1.soon, late) in
-        ap is_some (subst (λ n. (state_after c table n p).decision ≡ Some v) same (decision-stays_later c table decided (rounds - decided) p v e))
+        ap is_some
+        (subst (λ n. (state_after c table n p).decision ≡ Some v) same (decision-stays_later c table decided (rounds - decided) p v e))
 
 -- one lock value after one more round, a lock-release round
-HoldOneValue-next : (c : Setup) (set : ℕ) (table : Table) (rounds : ℕ) → part_of (suc rounds) ≡ 4 → IsWithin set c.n → HearsAllOf set table (suc rounds)
-    → HoldOneValue set (state_after c table (suc rounds))
+HoldOneValue-next : (c : Setup) (set : ℕ) (table : Table) (rounds : ℕ)
+    → part_of (suc rounds) ≡ 4 → IsWithin set c.n → HearsAllOf set table (suc rounds) → HoldOneValue set (state_after c table (suc rounds))
 unfolding state_after
-HoldOneValue-next c set table rounds e within hears =
-    held-one_value c (has_proc set) table (state_after c table rounds) (suc rounds) e (HearOneAnother-from c set table (suc rounds) within hears)
+HoldOneValue-next c set table rounds e within hears = held-one_value c
+    (has_proc set) table (state_after c table rounds) (suc rounds) e (HearOneAnother-from c set table (suc rounds) within hears)
 
 -- which is proper
-LocksAreProper-next : (c : Setup) (set : ℕ) (table : Table) (rounds : ℕ) → part_of (suc rounds) ≡ 4 → IsWithin set c.n → HearsAllOf set table (suc rounds)
-    → LocksAreProper set (state_after c table (suc rounds))
+LocksAreProper-next : (c : Setup) (set : ℕ) (table : Table) (rounds : ℕ) → part_of (suc rounds) ≡ 4
+    → IsWithin set c.n → HearsAllOf set table (suc rounds) → LocksAreProper set (state_after c table (suc rounds))
 unfolding state_after
-LocksAreProper-next c set table rounds e within hears =
-    held-proper c (has_proc set) table (state_after c table rounds) (suc rounds) e (HearOneAnother-from c set table (suc rounds) within hears) (KeepsProper-state_after c table rounds)
+LocksAreProper-next c set table rounds e within hears = held-proper c (has_proc set) table (state_after c table rounds)
+    (suc rounds) e (HearOneAnother-from c set table (suc rounds) within hears) (KeepsProper-state_after c table rounds)
 
 -- one lock value after the last round of a phase
-pub HoldOneValue-state_after : (c : Setup) (set : ℕ) (table : Table) (phase : ℕ) → IsWithin set c.n → 1 ≤ phase → HearsAllOf set table (4 * phase)
-    → HoldOneValue set (state_after c table (4 * phase))
+pub HoldOneValue-state_after : (c : Setup) (set : ℕ) (table : Table) (phase : ℕ)
+    → IsWithin set c.n → 1 ≤ phase → HearsAllOf set table (4 * phase) → HoldOneValue set (state_after c table (4 * phase))
 HoldOneValue-state_after c set table phase within low hears =
     let is : suc (4 * phase - 1) ≡ 4 * phase = omega arith in
-    subst (λ n. HoldOneValue set (state_after c table n)) is (HoldOneValue-next c set table (4 * phase - 1) (omega arith) within (subst (HearsAllOf set table) (sym is) hears))
+    subst (λ n. HoldOneValue set (state_after c table n)) is
+    (HoldOneValue-next c set table (4 * phase - 1) (omega arith) within (subst (HearsAllOf set table) (sym is) hears))
 
 -- which is proper
-pub LocksAreProper-state_after : (c : Setup) (set : ℕ) (table : Table) (phase : ℕ) → IsWithin set c.n → 1 ≤ phase → HearsAllOf set table (4 * phase)
-    → LocksAreProper set (state_after c table (4 * phase))
+pub LocksAreProper-state_after : (c : Setup) (set : ℕ) (table : Table) (phase : ℕ)
+    → IsWithin set c.n → 1 ≤ phase → HearsAllOf set table (4 * phase) → LocksAreProper set (state_after c table (4 * phase))
 LocksAreProper-state_after c set table phase within low hears =
     let is : suc (4 * phase - 1) ≡ 4 * phase = omega arith in
-    subst (λ n. LocksAreProper set (state_after c table n)) is (LocksAreProper-next c set table (4 * phase - 1) (omega arith) within (subst (HearsAllOf set table) (sym is) hears))
+    subst (λ n. LocksAreProper set (state_after c table n)) is
+    (LocksAreProper-next c set table (4 * phase - 1) (omega arith) within (subst (HearsAllOf set table) (sym is) hears))

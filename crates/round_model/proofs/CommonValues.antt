@@ -27,8 +27,9 @@ has_lock-at [] lock d = absurd (Contains-nil lock d)
 has_lock-at (x ∷ rest) lock d = refl
 
 -- the value that each lists
-pub common-value : (c : Setup) (member : ℕ → Bool) (table : Table) (nodes : ℕ → State) (round o v : ℕ) → part_of round ≡ 4 → HearOneAnother c member table round
-    → ((j : ℕ) → KeepsProper (nodes j)) → member o ≡ true → Contains (nodes o).proper v → (u : ℕ) × IsListedByAll member (nodes_after c table nodes round) u
+pub common-value : (c : Setup) (member : ℕ → Bool) (table : Table) (nodes : ℕ → State) (round o v : ℕ)
+    → part_of round ≡ 4 → HearOneAnother c member table round → ((j : ℕ) → KeepsProper (nodes j))
+    → member o ≡ true → Contains (nodes o).proper v → (u : ℕ) × IsListedByAll member (nodes_after c table nodes round) u
 common-value c member table nodes round o v e hear known mo proper = go (list_any holds (processors c)) refl
   where
     after : ℕ → State

@@ -23,8 +23,9 @@ abbrev owner_in : Setup → ℕ → ℕ
 owner_in c round = owner c.n (phase_of round)
 
 -- what the node of q has to say to p is heard if the table lets it
-heard-to_say : (c : Setup) (table : Table) (nodes : ℕ → State) (p round q : ℕ) (kind : Kind) (says : Message → Bool) → table p round q ≡ true
-    → out c (nodes q) q round p ≡ Some (with_proper (nodes q) kind) → says (q, with_proper (nodes q) kind) ≡ true → IsHeardToSay (heard_of c table nodes p round) says q
+heard-to_say : (c : Setup) (table : Table) (nodes : ℕ → State) (p round q : ℕ) (kind : Kind) (says : Message → Bool)
+    → table p round q ≡ true → out c (nodes q) q round p ≡ Some (with_proper (nodes q) kind)
+    → says (q, with_proper (nodes q) kind) ≡ true → IsHeardToSay (heard_of c table nodes p round) says q
 heard-to_say c table nodes p round q kind says heard sent passes = record {
   message = (q, with_proper (nodes q) kind);
   is_heard = heard_of-heard c table nodes p round q heard ∙ ap (λ o. option_map (λ (body : Body). (q, body)) o) sent;
@@ -33,18 +34,20 @@ heard-to_say c table nodes p round q kind says heard sent passes = record {
 
 -- the listing round: the owner has a proposal
 owner-proposes : (c : Setup) (member : ℕ → Bool) (table : Table) (nodes : ℕ → State) (round u : ℕ) → IsSetup c → part_of round ≡ 1
-    → member (owner_in c round) ≡ true → HearOneAnother c member table round → c.n - c.t ≤ number_of c.n member → IsListedByAll member nodes u
-    → is_some (nodes_after c table nodes round (owner_in c round)).proposal ≡ true
+    → member (owner_in c round) ≡ true → HearOneAnother c member table round → c.n - c.t ≤ number_of c.n member
+    → IsListedByAll member nodes u → is_some (nodes_after c table nodes round (owner_in c round)).proposal ≡ true
 owner-proposes c member table nodes round u setup e mo hear many listed =
     let o = owner_in c round in
     listing-quorum c (nodes o) round (heard_of c table nodes o round) setup e u member many
     (λ q is m.
-    heard-to_say c table nodes o round q (Listed (values_to_list (nodes q))) (listing u) (hear.hears o q mo m) (list-sent c (nodes q) q round e)
+    heard-to_say c table nodes o round q (Listed (values_to_list (nodes q)))
+    (listing u) (hear.hears o q mo m) (list-sent c (nodes q) q round e)
     (lists-from_Contains (q, with_proper (nodes q) (Listed (values_to_list (nodes q)))) u (listed q m)))
 
 -- the locking round: each member owes an acknowledgement of the owner's proposal
-members-owe : (c : Setup) (member : ℕ → Bool) (table : Table) (nodes : ℕ → State) (round w p : ℕ) → part_of round ≡ 2 → member (owner_in c round) ≡ true
-    → HearOneAnother c member table round → (nodes (owner_in c round)).proposal ≡ Some w → member p ≡ true → (nodes_after c table nodes round p).owes_ack ≡ true
+members-owe : (c : Setup) (member : ℕ → Bool) (table : Table) (nodes : ℕ → State) (round w p : ℕ)
+    → part_of round ≡ 2 → member (owner_in c round) ≡ true → HearOneAnother c member table round
+    → (nodes (owner_in c round)).proposal ≡ Some w → member p ≡ true → (nodes_after c table nodes round p).owes_ack ≡ true
 members-owe c member table nodes round w p e mo hear proposal mp =
     (locking-told c (nodes p) p round (messages_heard c table nodes p round) w e (messages_heard-rise c table nodes p round)
     (record { message = told; is_heard = is_heard; sender = refl; kind = refl })).owes_ack
@@ -68,13 +71,13 @@ owner-decides c member table nodes round w setup e mo hear many proposal owe =
     let o = owner_in c round in
     let faults = setup.faults in
     ap is_some (acknowledging-quorum c (nodes o) round (heard_of c table nodes o round) e w member proposal (omega arith)
-    (λ q is m. heard-to_say c table nodes o round q Ack acknowledging (hear.hears o q mo m) (acknowledgement-sent c (nodes q) q round e (owe q m)) refl))
+    (λ q is m. heard-to_say c table nodes o round q Ack acknowledging
+    (hear.hears o q mo m) (acknowledgement-sent c (nodes q) q round e (owe q m)) refl))
 
 -- The first three rounds of a phase decide.
-pub phase-decides : (c : Setup) (member : ℕ → Bool) (table : Table) (nodes : ℕ → State) (round o u : ℕ) → IsSetup c → 1 ≤ round → part_of round ≡ 1
-    → o ≡ owner c.n (phase_of round) → member o ≡ true → c.n - c.t ≤ number_of c.n member
-    → HearOneAnother c member table round → HearOneAnother c member table (suc round) → HearOneAnother c member table (suc (suc round))
-    → IsListedByAll member nodes u
+pub phase-decides : (c : Setup) (member : ℕ → Bool) (table : Table) (nodes : ℕ → State) (round o u : ℕ) → IsSetup c → 1 ≤ round
+    → part_of round ≡ 1 → o ≡ owner c.n (phase_of round) → member o ≡ true → c.n - c.t ≤ number_of c.n member → HearOneAnother c member
+    table round → HearOneAnother c member table (suc round) → HearOneAnother c member table (suc (suc round)) → IsListedByAll member nodes u
     → is_some (nodes_after c table (nodes_after c table (nodes_after c table nodes round) (suc round)) (suc (suc round)) o).decision ≡ true
 phase-decides c member table nodes round o u setup low e owns mo many first second third listed = go (proposed o).proposal refl proposes
   where
@@ -104,8 +107,9 @@ phase-decides c member table nodes round o u setup low e owns mo many first seco
     kept : (w : ℕ) → (proposed o).proposal ≡ Some w → (locked o).proposal ≡ Some w
     kept w h = (locking-keeps c (proposed o) o (suc round) (messages_heard c table proposed o (suc round)) (omega arith)).proposal ∙ h
 
-    go : (w : Option ℕ) → (proposed o).proposal ≡ w → is_some (proposed o).proposal ≡ true → is_some (nodes_after c table locked (suc (suc round)) o).decision ≡ true
+    go : (w : Option ℕ) → (proposed o).proposal ≡ w
+        → is_some (proposed o).proposal ≡ true → is_some (nodes_after c table locked (suc (suc round)) o).decision ≡ true
     go None h some = let clash = sym some ∙ ap is_some h in cc
     go (Some w) h some = subst (λ j. is_some (nodes_after c table locked (suc (suc round)) j).decision ≡ true) (sym owns_third)
-        (owner-decides c member table locked (suc (suc round)) w setup (omega arith) (is_member (owner_in c (suc (suc round))) owns_third) third many
-        (subst (λ j. (locked j).proposal ≡ Some w) owns_third (kept w h)) (λ p mp. owe w p h mp))
+        (owner-decides c member table locked (suc (suc round)) w setup (omega arith) (is_member (owner_in c (suc (suc round))) owns_third)
+        third many (subst (λ j. (locked j).proposal ≡ Some w) owns_third (kept w h)) (λ p mp. owe w p h mp))

@@ -7,7 +7,8 @@ use Rattle.lock_phases.specs.NodeFunctions.{out, next}
 
 -- what p hears of a sender, if anything
 abbrev pub heard_of : Setup → Table → (ℕ → State) → ℕ → ℕ → ℕ → Option Message
-heard_of c table nodes p round sender = if table p round sender then option_map (λ body. (sender, body)) (out c (nodes sender) sender round p) else None
+heard_of c table nodes p round sender = if table p round sender
+    then option_map (λ body. (sender, body)) (out c (nodes sender) sender round p) else None
 
 -- the nodes after a round
 abbrev pub nodes_after : Setup → Table → (ℕ → State) → ℕ → ℕ → State
@@ -30,7 +31,8 @@ pub heard_of-sender : (c : Setup) (table : Table) (nodes : ℕ → State) (p rou
     → heard_of c table nodes p round sender ≡ Some m → IsHeardOf nodes sender m
 heard_of-sender c table nodes p round sender m e = go (table p round sender) (out c (nodes sender) sender round p) refl e
   where
-    go : (b : Bool) (o : Option Body) → out c (nodes sender) sender round p ≡ o → cond b (option_map (λ body. (sender, body)) o) None ≡ Some m → IsHeardOf nodes sender m
+    go : (b : Bool) (o : Option Body) → out c (nodes sender) sender round p ≡ o
+        → cond b (option_map (λ body. (sender, body)) o) None ≡ Some m → IsHeardOf nodes sender m
     go true None s h = cc
     go true (Some body) s h =
         let same : (sender, body) ≡ m = cc in

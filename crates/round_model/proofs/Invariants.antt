@@ -13,7 +13,8 @@ pub record LocksArePast (nodes : ℕ → State) (phase part : ℕ) : Type 0 wher
 
 -- Before the acknowledging round, each lock of this phase is on the proposal of its owner.
 pub record FreshLocksAreProposed (c : Setup) (nodes : ℕ → State) (phase part : ℕ) : Type 0 where
-  pub proposed : part ≡ 3 → (j : ℕ) (lock : LockPair) → Contains (nodes j).locks lock → phase_of_lock lock ≡ phase → (nodes (owner c.n phase)).proposal ≡ Some (value_of lock)
+  pub proposed : part ≡ 3 → (j : ℕ) (lock : LockPair)
+      → Contains (nodes j).locks lock → phase_of_lock lock ≡ phase → (nodes (owner c.n phase)).proposal ≡ Some (value_of lock)
 
 -- A flag is set only before the acknowledging round, and who has it set holds a lock of this phase.
 pub record FlagsMeanFreshLocks (nodes : ℕ → State) (phase part : ℕ) : Type 0 where
@@ -66,10 +67,10 @@ IsLockSince-from_test phase v locks e =
     record { lock = f.0; held = f.1; value = eqb-true (value_of f.0) v b.0; since = leb-true phase (phase_of_lock f.0) b.1 }
 
 -- with such a lock the test passes
-pub is_locked_since-lock : (phase v : ℕ) (locks : List LockPair) (lock : LockPair) → Contains locks lock → value_of lock ≡ v → phase ≤ phase_of_lock lock
-    → is_locked_since phase v locks ≡ true
-is_locked_since-lock phase v locks lock d e l =
-    list_any-at (λ x. value_of x == v && nat_le phase (phase_of_lock x)) locks lock d (rw (eq-eqb (value_of lock) v e, le-leb phase (phase_of_lock lock) l) refl)
+pub is_locked_since-lock : (phase v : ℕ) (locks : List LockPair) (lock : LockPair)
+    → Contains locks lock → value_of lock ≡ v → phase ≤ phase_of_lock lock → is_locked_since phase v locks ≡ true
+is_locked_since-lock phase v locks lock d e l = list_any-at (λ x. value_of x == v && nat_le phase (phase_of_lock x)) locks lock d
+    (rw (eq-eqb (value_of lock) v e, le-leb phase (phase_of_lock lock) l) refl)
 
 -- those who hold a value go on holding it, if each does
 pub holders-kept : (c : Setup) (nodes after : ℕ → State) (phase v : ℕ)
@@ -77,12 +78,13 @@ pub holders-kept : (c : Setup) (nodes after : ℕ → State) (phase v : ℕ)
     → c.t + 1 ≤ count_by (λ j. is_locked_since phase v (nodes j).locks) (processors c)
     → c.t + 1 ≤ count_by (λ j. is_locked_since phase v (after j).locks) (processors c)
 holders-kept c nodes after phase v kept l =
-    let more = count_by-le (λ j. is_locked_since phase v (nodes j).locks) (λ j. is_locked_since phase v (after j).locks) (processors c) kept in
+    let more = count_by-le (λ j. is_locked_since phase v (nodes j).locks)
+    (λ j. is_locked_since phase v (after j).locks) (processors c) kept in
     omega arith
 
 -- of two anchored values the one at the earlier phase is the only one that is held since
-same-earlier : (c : Setup) (nodes : ℕ → State) (phase part v w : ℕ) (a : IsAnchored c nodes phase part v) (b : IsAnchored c nodes phase part w)
-    → a.anchor ≤ b.anchor → w ≡ v
+same-earlier : (c : Setup) (nodes : ℕ → State) (phase part v w : ℕ)
+    (a : IsAnchored c nodes phase part v) (b : IsAnchored c nodes phase part w) → a.anchor ≤ b.anchor → w ≡ v
 same-earlier c nodes phase part v w a b l =
     let more = b.holders in
     let j = count_by-found (λ i. is_locked_since b.anchor w (nodes i).locks) (processors c) (omega arith) in
@@ -90,7 +92,8 @@ same-earlier c nodes phase part v w a b l =
     sym h.value ∙ a.sole j.0 h.lock h.held (omega (arith, h.since))
 
 -- any two anchored values are equal
-pub IsAnchored-same : (c : Setup) (nodes : ℕ → State) (phase part v w : ℕ) → IsAnchored c nodes phase part v → IsAnchored c nodes phase part w → v ≡ w
+pub IsAnchored-same : (c : Setup) (nodes : ℕ → State) (phase part v w : ℕ)
+    → IsAnchored c nodes phase part v → IsAnchored c nodes phase part w → v ≡ w
 IsAnchored-same c nodes phase part v w a b = elim (cases_lt a.anchor b.anchor) [
   | inl l ↦ sym (same-earlier c nodes phase part v w a b (omega arith))
   | inr l ↦ same-earlier c nodes phase part w v b a (omega arith)

@@ -12,7 +12,8 @@ told-proposed : (c : Setup) (table : Table) (nodes : ℕ → State) (round p o v
     → (nodes o).proposal ≡ Some v
 told-proposed c table nodes round p o v told =
     let h = messages_heard-said c table nodes p round told.message told.is_heard in
-    subst (λ j. (nodes j).proposal ≡ Some v) told.sender (lock-said_by (nodes (sender_of told.message)) (body_of told.message) v h.said told.kind)
+    subst (λ j. (nodes j).proposal ≡ Some v) told.sender
+    (lock-said_by (nodes (sender_of told.message)) (body_of told.message) v h.said told.kind)
 
 -- the invariants after a locking round
 pub IsSafe-locking : (c : Setup) (table : Table) (nodes : ℕ → State) (round : ℕ) → part_of round ≡ 2 → IsSafe c nodes (phase_of round) 2
@@ -46,27 +47,31 @@ IsSafe-locking c table nodes round e safe = record {
     locks j = locking-locks c (nodes j) j round (messages_heard c table nodes j round) e
 
     -- a lock was held, or is a new one on the proposal
-    fresh : (j : ℕ) (lock : LockPair) → Contains (after j).locks lock → Contains (nodes j).locks lock ⊎ ((phase_of_lock lock ≡ phase) × ((nodes o).proposal ≡ Some (value_of lock)))
+    fresh : (j : ℕ) (lock : LockPair) → Contains (after j).locks lock
+        → Contains (nodes j).locks lock ⊎ ((phase_of_lock lock ≡ phase) × ((nodes o).proposal ≡ Some (value_of lock)))
     fresh j lock d = elim ((locks j).fresh lock d) [
       | inl h ↦ inl h
       | inr h ↦ inr (h.0, told-proposed c table nodes round j o (value_of lock) h.1)
     ]
 
-    begun : (j : ℕ) (lock : LockPair) → Contains (nodes j).locks lock ⊎ ((phase_of_lock lock ≡ phase) × ((nodes o).proposal ≡ Some (value_of lock))) → phase_of_lock lock ≤ phase
+    begun : (j : ℕ) (lock : LockPair) → Contains (nodes j).locks lock
+        ⊎ ((phase_of_lock lock ≡ phase) × ((nodes o).proposal ≡ Some (value_of lock))) → phase_of_lock lock ≤ phase
     begun j lock (inl d) = safe.past.begun j lock d
     begun j lock (inr h) = let same = h.0 in omega arith
 
-    proposed : (j : ℕ) (lock : LockPair) → phase_of_lock lock ≡ phase → Contains (nodes j).locks lock ⊎ ((phase_of_lock lock ≡ phase) × ((nodes o).proposal ≡ Some (value_of lock)))
-        → (after o).proposal ≡ Some (value_of lock)
+    proposed : (j : ℕ) (lock : LockPair) → phase_of_lock lock ≡ phase → Contains (nodes j).locks lock
+        ⊎ ((phase_of_lock lock ≡ phase) × ((nodes o).proposal ≡ Some (value_of lock))) → (after o).proposal ≡ Some (value_of lock)
     proposed j lock h (inl d) = let l = safe.past.earlier (omega arith) j lock d in absurd (omega arith)
     proposed j lock h (inr p) = (keeps o).proposal ∙ p.1
 
-    flagged : (j : ℕ) → ((nodes j).owes_ack ≡ true) ⊎ ((v : ℕ) × Contains (after j).locks (v, phase)) → (v : ℕ) × Contains (after j).locks (v, phase)
+    flagged : (j : ℕ) → ((nodes j).owes_ack ≡ true) ⊎ ((v : ℕ) × Contains (after j).locks (v, phase))
+        → (v : ℕ) × Contains (after j).locks (v, phase)
     flagged j (inl f) = let p = safe.flags.acknowledging j f in absurd (omega arith)
     flagged j (inr h) = h
 
     -- who held a value since an earlier phase still does: the lock is kept, or replaced by a later one
-    still : (anchor v j : ℕ) → anchor ≤ phase → is_locked_since anchor v (nodes j).locks ≡ true → is_locked_since anchor v (after j).locks ≡ true
+    still : (anchor v j : ℕ) → anchor ≤ phase → is_locked_since anchor v (nodes j).locks ≡ true
+        → is_locked_since anchor v (after j).locks ≡ true
     still anchor v j l h =
         let x = IsLockSince-from_test anchor v (nodes j).locks h in
         elim ((locks j).held x.lock x.held) [

@@ -10,30 +10,35 @@ use Rattle.round_model.specs.HeardSets.{rows_of}
 
 -- a range with one more number
 pub range_with_len-more : (a n j : ℕ) → a + n ≡ j → range_with_len a (n + 1) ≡ range_with_len a n ++ j ∷ []
-range_with_len-more a n j is =
-    sym (map-id (range_with_len a (n + 1))) ∙ map-range_with_len_more (λ x. x) a n j is ∙ ap (λ xs. xs ++ j ∷ []) (map-id (range_with_len a n))
+range_with_len-more a n j is = sym (map-id (range_with_len a (n + 1)))
+    ∙ map-range_with_len_more (λ x. x) a n j is ∙ ap (λ xs. xs ++ j ∷ []) (map-id (range_with_len a n))
 
 -- the list with f of each number of a range is known by its elements
-pub map-range_with_len-from : {X : Type 0} (f : ℕ → X) (xs : List X) (a n : ℕ) (d : X) → length xs ≡ n → ((k : ℕ) → k < n → get_or xs k d ≡ f (a + k)) → xs ≡ map f (range_with_len a n)
+pub map-range_with_len-from : {X : Type 0} (f : ℕ → X) (xs : List X) (a n : ℕ) (d : X)
+    → length xs ≡ n → ((k : ℕ) → k < n → get_or xs k d ≡ f (a + k)) → xs ≡ map f (range_with_len a n)
 map-range_with_len-from f xs a n d long each =
     same_lists xs (map f (range_with_len a n)) (long ∙ sym (length-map-range_with_len f a n))
     (λ k e h. get_or_default xs k e d h ∙ each k (omega arith) ∙ sym (get_or-map-range_with_len f a n k (a + k) e (omega arith) refl))
 
 -- functions that agree on a range
-pub map-range_with_len-agree : {X : Type 0} (f g : ℕ → X) (a n : ℕ) → ((p : ℕ) → a ≤ p → p < a + n → f p ≡ g p) → map f (range_with_len a n) ≡ map g (range_with_len a n)
+pub map-range_with_len-agree : {X : Type 0} (f g : ℕ → X) (a n : ℕ)
+    → ((p : ℕ) → a ≤ p → p < a + n → f p ≡ g p) → map f (range_with_len a n) ≡ map g (range_with_len a n)
 map-range_with_len-agree f g a zero same = refl
-map-range_with_len-agree f g a (suc n) same = rw (same a (omega arith) (omega arith), map-range_with_len-agree f g (a + 1) n (λ p l h. same p (omega arith) (omega arith))) refl
+map-range_with_len-agree f g a (suc n) same =
+    rw (same a (omega arith) (omega arith), map-range_with_len-agree f g (a + 1) n (λ p l h. same p (omega arith) (omega arith))) refl
 
 -- functions that agree on a range give the same if they give something
-pub filter_map-range_with_len-agree : {X : Type 0} (f g : ℕ → Option X) (a n : ℕ) → ((p : ℕ) → a ≤ p → p < a + n → f p ≡ g p) → filter_map f (range_with_len a n) ≡ filter_map g (range_with_len a n)
+pub filter_map-range_with_len-agree : {X : Type 0} (f g : ℕ → Option X) (a n : ℕ)
+    → ((p : ℕ) → a ≤ p → p < a + n → f p ≡ g p) → filter_map f (range_with_len a n) ≡ filter_map g (range_with_len a n)
 filter_map-range_with_len-agree f g a zero same = refl
-filter_map-range_with_len-agree f g a (suc n) same = rw (same a (omega arith) (omega arith), filter_map-range_with_len-agree f g (a + 1) n (λ p l h. same p (omega arith) (omega arith))) refl
+filter_map-range_with_len-agree f g a (suc n) same = rw
+    (same a (omega arith) (omega arith), filter_map-range_with_len-agree f g (a + 1) n (λ p l h. same p (omega arith) (omega arith))) refl
 
 -- what f gives of a range with one more number
 pub filter_map-range_with_len-more : {X : Type 0} (f : ℕ → Option X) (a n j : ℕ) (r : Option X) → a + n ≡ j → f j ≡ r
     → filter_map f (range_with_len a (n + 1)) ≡ filter_map f (range_with_len a n) ++ option_to_list r
-filter_map-range_with_len-more {X = X} f a n j r is gives =
-    ap (filter_map f) (range_with_len-more a n j is) ∙ filter_map-append f (range_with_len a n) (j ∷ []) ∙ ap (λ xs. filter_map f (range_with_len a n) ++ xs) (go r gives)
+filter_map-range_with_len-more {X = X} f a n j r is gives = ap (filter_map f) (range_with_len-more a n j is)
+    ∙ filter_map-append f (range_with_len a n) (j ∷ []) ∙ ap (λ xs. filter_map f (range_with_len a n) ++ xs) (go r gives)
   where
     go : (r : Option X) → f j ≡ r → filter_map f (j ∷ []) ≡ option_to_list r
     go None e = rw e refl
@@ -57,7 +62,8 @@ pub All-from_map : {X Y : Type 0} (P : Y → Type 0) (f : X → Y) (xs : List X)
 All-from_map P f xs all k d h = subst P (get_or-map f xs k d (f d) h) (all k (f d) (omega (arith, length-map xs f)))
 
 -- rows that are one for each number of a range
-pub rows_of-length : {X A : Type 0} (rows : List (Vec X A)) (f : ℕ → List X) (a n : ℕ) → rows_of rows ≡ map f (range_with_len a n) → length rows ≡ n
+pub rows_of-length : {X A : Type 0} (rows : List (Vec X A)) (f : ℕ → List X) (a n : ℕ)
+    → rows_of rows ≡ map f (range_with_len a n) → length rows ≡ n
 rows_of-length rows f a n are = sym (length-map rows (λ row. row.items)) ∙ ap length are ∙ length-map-range_with_len f a n
 
 -- the row of one number

@@ -10,8 +10,8 @@ use Rattle.round_model.specs.RoundStates.{Table, initial_value, messages_heard, 
 use Rattle.round_model.proofs.HeardMessages.{nodes_after, messages_heard-said}
 
 -- a lock was held before a round, or is on a value that the owner's Lock asked to lock
-lock-origin : (c : Setup) (s : State) (me round : ℕ) (heard : List Message) (lock : LockPair) → Contains (next c s me round heard).locks lock
-    → Contains s.locks lock ⊎ IsToldToLock (owner c.n (phase_of round)) heard (value_of lock)
+lock-origin : (c : Setup) (s : State) (me round : ℕ) (heard : List Message) (lock : LockPair) → Contains
+    (next c s me round heard).locks lock → Contains s.locks lock ⊎ IsToldToLock (owner c.n (phase_of round)) heard (value_of lock)
 lock-origin c s me round heard lock d = go (part_of-cases round)
   where
     told : Contains s.locks lock ⊎ ((phase_of_lock lock ≡ phase_of round) × IsToldToLock (owner c.n (phase_of round)) heard (value_of lock))
@@ -32,7 +32,8 @@ pub record KeepsProper (s : State) : Type 0 where
   pub proposal : (v : ℕ) → s.proposal ≡ Some v → Contains s.proper v
 
 -- a round keeps it, of all nodes
-KeepsProper-after : (c : Setup) (table : Table) (nodes : ℕ → State) (round : ℕ) → ((p : ℕ) → KeepsProper (nodes p)) → (p : ℕ) → KeepsProper (nodes_after c table nodes round p)
+KeepsProper-after : (c : Setup) (table : Table) (nodes : ℕ → State) (round : ℕ)
+    → ((p : ℕ) → KeepsProper (nodes p)) → (p : ℕ) → KeepsProper (nodes_after c table nodes round p)
 KeepsProper-after c table nodes round known p = record {
   locks = λ lock d. locked lock (lock-origin c (nodes p) p round heard lock d);
   proposal = λ v e. proposed v (proposal-origin c (nodes p) p round heard v e);
@@ -53,7 +54,8 @@ KeepsProper-after c table nodes round known p = record {
         let said = (messages_heard-said c table nodes p round m h).said in
         proper.taken m v h (subst (λ xs. Contains xs v) (sym said.proper) d)
 
-    locked : (lock : LockPair) → Contains (nodes p).locks lock ⊎ IsToldToLock (owner c.n (phase_of round)) heard (value_of lock) → Contains after.proper (value_of lock)
+    locked : (lock : LockPair) → Contains (nodes p).locks lock ⊎ IsToldToLock (owner c.n (phase_of round)) heard (value_of lock)
+        → Contains after.proper (value_of lock)
     locked lock (inl d) = proper.stays (value_of lock) ((known p).locks lock d)
     locked lock (inr t) =
         let said = (messages_heard-said c table nodes p round t.message t.is_heard).said in
@@ -70,10 +72,12 @@ KeepsProper-after c table nodes round known p = record {
 pub KeepsProper-state_after : (c : Setup) (table : Table) (rounds p : ℕ) → KeepsProper (state_after c table rounds p)
 unfolding state_after
 KeepsProper-state_after c table zero p = record { locks = λ lock d. absurd (Contains-nil lock d); proposal = λ v e. cc }
-KeepsProper-state_after c table (suc rounds) p = KeepsProper-after c table (state_after c table rounds) (suc rounds) (KeepsProper-state_after c table rounds) p
+KeepsProper-state_after c table (suc rounds) p = KeepsProper-after c table
+    (state_after c table rounds) (suc rounds) (KeepsProper-state_after c table rounds) p
 
 -- a processor's initial value stays in its PROPER
 pub initial_value-proper : (c : Setup) (table : Table) (rounds p : ℕ) → Contains (state_after c table rounds p).proper (initial_value c p)
 unfolding state_after
 initial_value-proper c table zero p = Contains-head (initial_value c p) []
-initial_value-proper c table (suc rounds) p = (proper-taken_in c (state_after c table rounds p) p (suc rounds) _).stays (initial_value c p) (initial_value-proper c table rounds p)
+initial_value-proper c table (suc rounds) p = (proper-taken_in c (state_after c table rounds p) p (suc rounds) _).stays
+    (initial_value c p) (initial_value-proper c table rounds p)

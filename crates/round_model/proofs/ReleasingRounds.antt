@@ -29,8 +29,8 @@ IsSafe-releasing c table nodes round e safe = record {
     unflagged j f = let p = safe.flags.acknowledging j (sym (keeps j).owes_ack ∙ f) in omega arith
 
     -- what is heard since the anchor is the anchored value
-    told : (v : ℕ) (a : IsAnchored c nodes (phase_of round) 4 v) (j : ℕ) (lock : LockPair) → IsTold (messages_heard c table nodes j round) lock
-        → a.anchor ≤ phase_of_lock lock → value_of lock ≡ v
+    told : (v : ℕ) (a : IsAnchored c nodes (phase_of round) 4 v) (j : ℕ) (lock : LockPair)
+        → IsTold (messages_heard c table nodes j round) lock → a.anchor ≤ phase_of_lock lock → value_of lock ≡ v
     told v a j lock t l =
         let h = messages_heard-said c table nodes j round t.message t.is_heard in
         a.sole (sender_of t.message) lock (told-said_by (nodes (sender_of t.message)) (body_of t.message) lock h.said t.tells) l
@@ -40,7 +40,8 @@ IsSafe-releasing c table nodes round e safe = record {
     still v a j h =
         let x = IsLockSince-from_test a.anchor v (nodes j).locks h in
         let since = x.since in
-        let kept = (keeps j).held x.lock x.held (λ r. let later = r.later in r.other (told v a j r.releasing r.told (omega arith) ∙ sym x.value)) in
+        let kept = (keeps j).held x.lock x.held (λ r. let later = r.later in
+        r.other (told v a j r.releasing r.told (omega arith) ∙ sym x.value)) in
         is_locked_since-lock a.anchor v (after j).locks x.lock kept x.value x.since
 
     anchored : (v : ℕ) → IsAnchored c nodes (phase_of round) 4 v → IsAnchored c after (phase_of round + 1) 1 v

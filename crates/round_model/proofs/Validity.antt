@@ -43,7 +43,8 @@ HasInitialValues-after c table nodes round known p is = record {
     decision v (inr e) = (known p is).proposal v e
 
 -- validity, of each processor after each round
-pub HasInitialValues-state_after : (c : Setup) (table : Table) (rounds : ℕ) → IsSetup c → (p : ℕ) → IsProc c p → HasInitialValues c (state_after c table rounds p)
+pub HasInitialValues-state_after : (c : Setup) (table : Table) (rounds : ℕ)
+    → IsSetup c → (p : ℕ) → IsProc c p → HasInitialValues c (state_after c table rounds p)
 unfolding state_after
 HasInitialValues-state_after c table zero setup p is = record {
   proper = λ v d. own v (Contains-cons_cases (initial_value c p) v [] d);

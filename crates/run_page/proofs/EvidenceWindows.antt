@@ -27,7 +27,8 @@ record Begins (last : ℕ) (s : Span) : Type 0 where
   some : 1 ≤ last
 
 -- the row of a witness
-row_with : {X : Type 0} (f : Row → Option X) (rows : List Row) (k : ℕ) (x : X) → option_and_then f (slice_get rows k) ≡ Some x → (r : Row) × Contains rows r × (f r ≡ Some x)
+row_with : {X : Type 0} (f : Row → Option X) (rows : List Row) (k : ℕ) (x : X)
+    → option_and_then f (slice_get rows k) ≡ Some x → (r : Row) × Contains rows r × (f r ≡ Some x)
 row_with f rows k x is = go (slice_get rows k) refl is where
   go : (o : Option Row) → slice_get rows k ≡ o → option_and_then f o ≡ Some x → (r : Row) × Contains rows r × (f r ≡ Some x)
   go None e h = absurd (none-some x h)
@@ -54,12 +55,17 @@ module _ (set : ℕ) (trace : Recorded) where
       let start = gap.start in
       let order = gap.order in
       let inside = gap.inside in
-      record { order = omega (arith, start, order, inside); inside = omega (arith, start, order, inside); some = omega (arith, start, order, inside) }
+      record {
+        order = omega (arith, start, order, inside);
+        inside = omega (arith, start, order, inside);
+        some = omega (arith, start, order, inside);
+      }
 
   ends_late : (d : Delay) (taken : Option ℕ) → tick_of trace d.miss.missed ≤ miss_end trace d taken
   ends_late d None = omega arith
   ends_late d (Some r) = go (nat_lt (tick_of trace r - tick_of trace d.miss.missed) (max d.ticks 20)) where
-    go : (b : Bool) → tick_of trace d.miss.missed ≤ (if b then max (tick_of trace r) (tick_of trace d.miss.missed) else tick_of trace d.miss.missed)
+    go : (b : Bool)
+        → tick_of trace d.miss.missed ≤ (if b then max (tick_of trace r) (tick_of trace d.miss.missed) else tick_of trace d.miss.missed)
     go true = omega arith
     go false = omega arith
 
@@ -77,10 +83,11 @@ module _ (set : ℕ) (trace : Recorded) where
       let some = one.some in
       record { order = omega (arith, order); inside = omega (arith, inside); some = some }
 
-  joined-begins : (s : Stall) (o : Option Delay) (taken : Option ℕ) → IsTimed trace → IsGap set trace s.gap → IfSome o (λ d. IsMiss set trace d.miss)
-      → Begins trace.last (core_of trace (with_delay s o).stall (with_delay s o).delay taken)
+  joined-begins : (s : Stall) (o : Option Delay) (taken : Option ℕ) → IsTimed trace → IsGap set trace s.gap
+      → IfSome o (λ d. IsMiss set trace d.miss) → Begins trace.last (core_of trace (with_delay s o).stall (with_delay s o).delay taken)
   joined-begins s None taken time gap miss = gap-begins s gap
-  joined-begins s (Some d) taken time gap miss = both-begins (around_gap trace.last s) (around_miss trace d taken) (gap-begins s gap) (miss-begins d taken time miss)
+  joined-begins s (Some d) taken time gap miss = both-begins
+      (around_gap trace.last s) (around_miss trace d taken) (gap-begins s gap) (miss-begins d taken time miss)
 
   module _ (rows : List Row) (time : IsTimed trace) (report : IsReport set trace rows) where
     gap_of : (s : Stall) → IsStall rows s → IsGap set trace s.gap
@@ -94,20 +101,24 @@ module _ (set : ℕ) (trace : Recorded) where
     miss_of d is =
         let at = row_with (λ (r : Row). r.miss) rows d.first d.miss is.run.named in
         let r = at.0 in
-        let names : NamesMiss set trace r.gst r.delta (Some d.miss) = subst (NamesMiss set trace r.gst r.delta) at.2 (report.sound r at.1).miss in
+        let names : NamesMiss set trace r.gst r.delta (Some d.miss) =
+        subst (NamesMiss set trace r.gst r.delta) at.2 (report.sound r at.1).miss in
         names.1.miss
 
     -- each piece of evidence begins in the trace
-    evidence-begins : (list : List Evidence) → AreEvidence trace rows list → (e : Evidence) → Contains list e → (taken : Option ℕ) → Begins trace.last (core_of trace e.stall e.delay taken)
+    evidence-begins : (list : List Evidence) → AreEvidence trace rows list
+        → (e : Evidence) → Contains list e → (taken : Option ℕ) → Begins trace.last (core_of trace e.stall e.delay taken)
     evidence-begins list are e c taken =
         let all = all_evidence trace are.stalls are.delays in
         let here : Contains all e = Contains-permutation list all e (IsPermutation-sym all list are.each) c in
-        elim (Contains-append_cases (stall_evidence trace are.stalls are.delays) (other_evidence (stall_evidence trace are.stalls are.delays) are.delays) e here) [
+        elim (Contains-append_cases (stall_evidence trace are.stalls are.delays)
+        (other_evidence (stall_evidence trace are.stalls are.delays) are.delays) e here) [
           | inl one ↦ (
               let from = Contains-from_map (λ (s : Stall). with_delay s (explained trace are.delays s)) are.stalls e one in
               let s = from.0 in
               subst (λ (x : Evidence). Begins trace.last (core_of trace x.stall x.delay taken)) from.2
-              (joined-begins s (explained trace are.delays s) taken time (gap_of s (are.are_stalls.right s from.1)) (explained_miss are s (explained trace are.delays s) refl)))
+              (joined-begins s (explained trace are.delays s) taken time
+              (gap_of s (are.are_stalls.right s from.1)) (explained_miss are s (explained trace are.delays s) refl)))
           | inr other ↦ (
               let from = Contains-from_map alone _ e other in
               let d = from.0 in
@@ -116,7 +127,8 @@ module _ (set : ℕ) (trace : Recorded) where
               (miss-begins d taken time (miss_of d (are.are_delays.right d was))))
         ]
       where
-        explained_miss : (are : AreEvidence trace rows list) (s : Stall) (o : Option Delay) → explained trace are.delays s ≡ o → IfSome o (λ d. IsMiss set trace d.miss)
+        explained_miss : (are : AreEvidence trace rows list) (s : Stall) (o : Option Delay)
+            → explained trace are.delays s ≡ o → IfSome o (λ d. IsMiss set trace d.miss)
         explained_miss are s None e = tt
         explained_miss are s (Some d) e = miss_of d (are.are_delays.right d (found_in (explains trace s) are.delays d e))
 

@@ -11,8 +11,8 @@ use Rattle.run_page.specs.TickSteps.{IsStepIn}
 
 module _ (t : Recorded) (said : List Said) (s : Stall) where
   -- its time is that between the steps before and after it
-  pub time-between : (before after : ℕ) → ((k : ℕ) → IsStepIn t s.gap.proc (s.gap.from - 1) k ↔ (Some before ≡ Some k))
-      → ((k : ℕ) → IsStepIn t s.gap.proc (s.gap.to + 1) k ↔ (Some after ≡ Some k)) → (n : ℕ) → Lasts t said s n ↔ (passed said before after ≡ Some n)
+  pub time-between : (before after : ℕ) → ((k : ℕ) → IsStepIn t s.gap.proc (s.gap.from - 1) k ↔ (Some before ≡ Some k)) → ((k : ℕ)
+      → IsStepIn t s.gap.proc (s.gap.to + 1) k ↔ (Some after ≡ Some k)) → (n : ℕ) → Lasts t said s n ↔ (passed said before after ≡ Some n)
   time-between before after b a n = (to, from) where
     to : Lasts t said s n → passed said before after ≡ Some n
     to lasts =
@@ -24,6 +24,7 @@ module _ (t : Recorded) (said : List Said) (s : Stall) where
     from e = record { before = before; after = after; step_before = (b before).1 refl; step_after = (a after).1 refl; is = e }
 
 -- if evidence takes one time, a test of that time tells whether it takes a time that passes
-pub one-time : (L P : ℕ → Type 0) (o : Option ℕ) → ((n : ℕ) → L n ↔ (o ≡ Some n)) → (b : Bool) → MatchOption o (b ≡ false) (λ n. IsTrue b ↔ P n) → IsTrue b ↔ ((n : ℕ) × L n × P n)
+pub one-time : (L P : ℕ → Type 0) (o : Option ℕ) → ((n : ℕ) → L n ↔ (o ≡ Some n))
+    → (b : Bool) → MatchOption o (b ≡ false) (λ n. IsTrue b ↔ P n) → IsTrue b ↔ ((n : ℕ) × L n × P n)
 one-time L P None h b f = (λ t. absurd (let wrong : true ≡ false = sym t ∙ f in cc), λ x. absurd (none-some x.0 ((h x.0).0 x.1)))
 one-time L P (Some n) h b f = (λ t. (n, (h n).1 refl, f.0 t), λ x. f.1 (subst P (sym (same_Some n x.0 ((h x.0).0 x.1))) x.2))

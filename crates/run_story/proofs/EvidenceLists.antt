@@ -60,9 +60,11 @@ explained-none trace delays s k d order before after = sym (find_nothing (explai
       let first = slice_get-get_or delays k d here in
       let begins = after here in
       elim (cases_lt k j) [
-        | inl l ↦ (let both = order.each k (get_or delays k d) first in let next = order.ordered k j (get_or delays k d) o l first at in omega (arith, begins, both, next))
+        | inl l ↦ (let both = order.each k (get_or delays k d) first in
+            let next = order.ordered k j (get_or delays k d) o l first at in omega (arith, begins, both, next))
         | inr e ↦ (let same : k ≡ j = omega arith in
-            let own : get_or delays k d ≡ o = same_Some (get_or delays k d) o (sym first ∙ subst (λ (i : ℕ). slice_get delays i ≡ Some o) (sym same) at) in
+            let own : get_or delays k d ≡ o = same_Some
+            (get_or delays k d) o (sym first ∙ subst (λ (i : ℕ). slice_get delays i ≡ Some o) (sym same) at) in
             subst (λ (x : Delay). s.last < x.first) own begins)
       ]
 
@@ -81,21 +83,24 @@ pub unexplained-next : (trace : Recorded) (delays : List Delay) (s : Stall) (k :
 unexplained-next trace delays s k d before fails j o l at = elim (cases_lt j k) [
   | inl m ↦ before j o m at
   | inr m ↦ (let same : j ≡ k = omega arith in
-      subst (λ (x : Delay). explains trace s x ≡ false) (get_or_from_slice_get delays k o d (subst (λ (i : ℕ). slice_get delays i ≡ Some o) same at)) fails)
+      subst (λ (x : Delay). explains trace s x ≡ false)
+      (get_or_from_slice_get delays k o d (subst (λ (i : ℕ). slice_get delays i ≡ Some o) same at)) fails)
 ]
 
 -- the evidence of one stall more
 pub stall_evidence-next : (trace : Recorded) (stalls : List Stall) (delays : List Delay) (i : ℕ) (s : Stall) → i < length stalls
-    → stall_evidence trace (take i stalls) delays ++ with_delay (get_or stalls i s) (explained trace delays (get_or stalls i s)) ∷ [] ≡ stall_evidence trace (take (i + 1) stalls) delays
+    → stall_evidence trace (take i stalls) delays ++ with_delay (get_or stalls i s) (explained trace delays (get_or stalls i s)) ∷ []
+    ≡ stall_evidence trace (take (i + 1) stalls) delays
 stall_evidence-next trace stalls delays i s inside =
     sym (ap (map (λ x. with_delay x (explained trace delays x))) (take_more stalls i s inside)
     ∙ map-append (λ x. with_delay x (explained trace delays x)) (take i stalls) (get_or stalls i s ∷ []))
 
 -- delays that end before a stall end before each later one
-pub passed-next : (stalls : List Stall) (delays : List Delay) (rows : List Row) (from next i : ℕ) (s : Stall) → AreStalls rows stalls → i < length stalls
+pub passed-next : (stalls : List Stall) (delays : List Delay) (rows : List Row) (from next i : ℕ) (s : Stall)
+    → AreStalls rows stalls → i < length stalls
     → ((k j : ℕ) (d : Delay) (o : Stall) → k < from → slice_get delays k ≡ Some d → i ≤ j → slice_get stalls j ≡ Some o → d.last < o.first)
-    → ((k : ℕ) (d : Delay) → from ≤ k → k < next → slice_get delays k ≡ Some d → d.last < (get_or stalls i s).first)
-    → (k j : ℕ) (d : Delay) (o : Stall) → k < next → slice_get delays k ≡ Some d → i + 1 ≤ j → slice_get stalls j ≡ Some o → d.last < o.first
+    → ((k : ℕ) (d : Delay) → from ≤ k → k < next → slice_get delays k ≡ Some d → d.last < (get_or stalls i s).first) → (k j : ℕ)
+    (d : Delay) (o : Stall) → k < next → slice_get delays k ≡ Some d → i + 1 ≤ j → slice_get stalls j ≡ Some o → d.last < o.first
 passed-next stalls delays rows from next i s are inside old new k j d o below at later is = elim (cases_lt k from) [
   | inl l ↦ old k j d o l at (omega arith) is
   | inr m ↦ (
@@ -110,8 +115,8 @@ passed-next stalls delays rows from next i s are inside old new k j d o below at
 
 -- the evidence of one delay more, or of none
 pub other_evidence-next : (evidence : List Evidence) (delays : List Delay) (i : ℕ) (d : Delay) → i < length delays
-    → other_evidence evidence (take (i + 1) delays)
-    ≡ other_evidence evidence (take i delays) ++ map alone (filter (λ o. not (list_any (has_delay o.first) evidence)) (get_or delays i d ∷ []))
+    → other_evidence evidence (take (i + 1) delays) ≡ other_evidence evidence
+    (take i delays) ++ map alone (filter (λ o. not (list_any (has_delay o.first) evidence)) (get_or delays i d ∷ []))
 other_evidence-next evidence delays i d inside =
     let test = λ (o : Delay). not (list_any (has_delay o.first) evidence) in
     ap (λ ds. map alone (filter test ds)) (take_more delays i d inside)
@@ -128,7 +133,8 @@ AreInOrder-delays trace rows delays are = record {
       subst (λ (x : Delay). c.last < x.first) next (subst (λ (x : Delay). x.last < (get_or delays k d).first) own order);
 }
 
-pub begin_within : (trace : Recorded) (rows : List Row) (delays : List Delay) → AreDelays trace rows delays → (k : ℕ) (d : Delay) → slice_get delays k ≡ Some d → d.first < length rows
+pub begin_within : (trace : Recorded) (rows : List Row) (delays : List Delay)
+    → AreDelays trace rows delays → (k : ℕ) (d : Delay) → slice_get delays k ≡ Some d → d.first < length rows
 begin_within trace rows delays are k d at =
     let run = (are.right d (Contains-slice_get delays k d at)).run in
     let order = run.order in
@@ -138,19 +144,22 @@ begin_within trace rows delays are k d at =
 -- the first row first, and then the longer
 by_two : (a b x y : ℕ) → is_lt (ordering_then (nat_cmp b a) (nat_cmp y x)) ≡ false → (a < b) ⊎ ((a ≡ b) × (x ≤ y))
 by_two a b x y h = go (nat_lt b a) refl (b == a) refl (nat_lt y x) refl h where
-  go : (c : Bool) → nat_lt b a ≡ c → (e : Bool) → (b == a) ≡ e → (d : Bool) → nat_lt y x ≡ d
-      → is_lt (ordering_then (cond c Less (cond e Equal Greater)) (cond d Less (cond (y == x) Equal Greater))) ≡ false → (a < b) ⊎ ((a ≡ b) × (x ≤ y))
+  go : (c : Bool) → nat_lt b a ≡ c → (e : Bool) → (b == a) ≡ e → (d : Bool) → nat_lt y x ≡ d → is_lt (ordering_then
+      (cond c Less (cond e Equal Greater)) (cond d Less (cond (y == x) Equal Greater))) ≡ false → (a < b) ⊎ ((a ≡ b) × (x ≤ y))
   go true u e v d w f = absurd (cc)
   go false u true v true w f = absurd (cc)
   go false u true v false w f = inr (grind (arith, nat_tests), grind (arith, nat_tests))
   go false u false v d w f = inl (grind (arith, nat_tests))
 
-pub ordered-by_keys : (list : List Evidence) → IsSortedByKey {K = ℕ × ℕ} (λ e. (e.first, MAX_TICKS - ticks_of e)) (λ x y. ordering_then (nat_cmp x.0 y.0) (nat_cmp x.1 y.1)) list
-    → AllPairs IsBefore list
+pub ordered-by_keys : (list : List Evidence) → IsSortedByKey {K = ℕ × ℕ}
+    (λ e. (e.first, MAX_TICKS - ticks_of e)) (λ x y. ordering_then (nat_cmp x.0 y.0) (nat_cmp x.1 y.1)) list → AllPairs IsBefore list
 ordered-by_keys list up = λ i j d l inside.
-    let far = sorted_far (λ s t. is_lt (ordering_then (nat_cmp s.first t.first) (nat_cmp (MAX_TICKS - ticks_of s) (MAX_TICKS - ticks_of t))))
-    (ranks_by (then_total (on_total (λ (e : Evidence). e.first) nat_cmp_total) (on_total (λ (e : Evidence). MAX_TICKS - ticks_of e) nat_cmp_total)) (λ e. e)) list up i j d (omega arith) inside in
-    elim (by_two (get_or list i d).first (get_or list j d).first (MAX_TICKS - ticks_of (get_or list i d)) (MAX_TICKS - ticks_of (get_or list j d)) far) [
+    let far =
+    sorted_far (λ s t. is_lt (ordering_then (nat_cmp s.first t.first) (nat_cmp (MAX_TICKS - ticks_of s) (MAX_TICKS - ticks_of t))))
+    (ranks_by (then_total (on_total (λ (e : Evidence). e.first) nat_cmp_total)
+    (on_total (λ (e : Evidence). MAX_TICKS - ticks_of e) nat_cmp_total)) (λ e. e)) list up i j d (omega arith) inside in
+    elim (by_two (get_or list i d).first (get_or list j d).first
+    (MAX_TICKS - ticks_of (get_or list i d)) (MAX_TICKS - ticks_of (get_or list j d)) far) [
       | inl first ↦ inl first
       | inr same ↦ inr (same.0, (let second = same.1 in omega arith))
     ]
@@ -158,8 +167,8 @@ ordered-by_keys list up = λ i j d l inside.
 -- past the last delay there is none
 pub explained-nowhere : (trace : Recorded) (delays : List Delay) (s : Stall) (k : ℕ) → length delays ≤ k
     → ((j : ℕ) (o : Delay) → j < k → slice_get delays j ≡ Some o → explains trace s o ≡ false) → None ≡ explained trace delays s
-explained-nowhere trace delays s k all before =
-    sym (find_nothing (explains trace s) delays (λ j o at. let within = slice_get_within delays j o at in before j o (omega (arith, within, all)) at))
+explained-nowhere trace delays s k all before = sym (find_nothing (explains trace s) delays
+    (λ j o at. let within = slice_get_within delays j o at in before j o (omega (arith, within, all)) at))
 
 filter_one : {X : Type 0} (p : X → Bool) (x : X) (b : Bool) → p x ≡ b → filter p (x ∷ []) ≡ cond b (x ∷ []) []
 filter_one p x true e = rw e refl
@@ -174,7 +183,8 @@ others-pushed evidence delays i d list next inside known none pushed =
     let test = λ (o : Delay). not (list_any (has_delay o.first) evidence) in
     let kept : filter test (x ∷ []) ≡ x ∷ [] = filter_one test x true (ap not none) in
     let more = other_evidence-next evidence delays i d inside ∙ ap (λ ds. other_evidence evidence (take i delays) ++ map alone ds) kept in
-    pushed ∙ ap (λ l. l ++ alone x ∷ []) known ∙ append_assoc evidence (other_evidence evidence (take i delays)) (alone x ∷ []) ∙ ap (λ l. evidence ++ l) (sym more)
+    pushed ∙ ap (λ l. l ++ alone x ∷ []) known ∙ append_assoc evidence (other_evidence evidence (take i delays)) (alone x ∷ [])
+    ∙ ap (λ l. evidence ++ l) (sym more)
 
 -- one that it has isn't
 pub others-kept : (evidence : List Evidence) (delays : List Delay) (i : ℕ) (d : Delay) (list : List Evidence) → i < length delays
@@ -189,8 +199,8 @@ others-kept evidence delays i d list inside known some =
     known ∙ ap (λ l. evidence ++ l) (sym same)
 
 -- the flag of a delay's first row
-pub flag_of_delay : (rows : List Row) (delays : List Delay) (evidence kept : List Evidence) (flags read : List Bool) (i : ℕ) (d : Delay) (b : Bool)
-    → ((k : ℕ) (x : Delay) → slice_get delays k ≡ Some x → x.first < length rows)
+pub flag_of_delay : (rows : List Row) (delays : List Delay) (evidence kept : List Evidence)
+    (flags read : List Bool) (i : ℕ) (d : Delay) (b : Bool) → ((k : ℕ) (x : Delay) → slice_get delays k ≡ Some x → x.first < length rows)
     → ((k : ℕ) → k < length rows → flag_at flags k ≡ list_any (has_delay k) kept) → kept ≡ evidence → read ≡ flags
     → i < length delays → b ≡ flag_at read (get_or delays i d).first → list_any (has_delay (get_or delays i d).first) evidence ≡ b
 flag_of_delay rows delays evidence kept flags read i d b within known same own inside is =
@@ -199,8 +209,8 @@ flag_of_delay rows delays evidence kept flags read i d b within known same own i
     ap (list_any (has_delay k)) (sym same) ∙ sym (known k low) ∙ ap (λ f. flag_at f k) (sym own) ∙ sym is
 
 -- both lists make all evidence
-pub all_evidence-from : (trace : Recorded) (stalls s : List Stall) (delays d e : List Delay) (list all : List Evidence) → s ≡ stalls → d ≡ delays → e ≡ delays
-    → list ≡ stall_evidence trace s d → all ≡ list ++ other_evidence list e → all ≡ all_evidence trace stalls delays
+pub all_evidence-from : (trace : Recorded) (stalls s : List Stall) (delays d e : List Delay) (list all : List Evidence) → s ≡ stalls → d
+    ≡ delays → e ≡ delays → list ≡ stall_evidence trace s d → all ≡ list ++ other_evidence list e → all ≡ all_evidence trace stalls delays
 all_evidence-from trace stalls s delays d e list all same_stalls same_delays same_others begun whole =
     let one = ap (λ x. stall_evidence trace x d) same_stalls ∙ ap (λ x. stall_evidence trace stalls x) same_delays in
     whole ∙ ap (λ x. list ++ other_evidence list x) same_others ∙ ap (λ l. l ++ other_evidence l delays) (begun ∙ one)

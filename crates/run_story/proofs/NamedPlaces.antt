@@ -8,8 +8,8 @@ use Rattle.run_story.specs.declared.named.Named.{Named}
 use Rattle.run_story.specs.Named.{AreNamedBelow, IsNamedBelow, IsPlaceBelow, begins, brief_to, has_gap_of, has_miss_of, named_at, with_gap, with_miss}
 
 -- one piece of evidence more
-place-next : (test : Evidence → Bool) (list : List Evidence) (n : ℕ) (x : Evidence) (b : Bool) (o : Option ℕ) → test x ≡ b → slice_get list n ≡ Some x
-    → IsPlaceBelow test list n o → IsPlaceBelow test list (n + 1) (cond b (Some n) o)
+place-next : (test : Evidence → Bool) (list : List Evidence) (n : ℕ) (x : Evidence) (b : Bool) (o : Option ℕ)
+    → test x ≡ b → slice_get list n ≡ Some x → IsPlaceBelow test list n o → IsPlaceBelow test list (n + 1) (cond b (Some n) o)
 place-next test list n x true o passes at known = (x, omega arith, at, passes)
 place-next test list n x false None passes at known = λ j e l is. elim (cases_lt j n) [
   | inl before ↦ known j e before is
@@ -20,16 +20,24 @@ place-next test list n x false None passes at known = λ j e l is. elim (cases_l
 place-next test list n x false (Some j) passes at known = (known.0, (let before = known.1 in omega (arith, before)), known.2, known.3)
 
 -- what is noted of it at one place
-noted : (list : List Evidence) (n k : ℕ) (x : Evidence) (m : Named) (g h : Bool) → has_gap_of k x ≡ g → has_miss_of k x ≡ h → slice_get list n ≡ Some x → IsNamedBelow list n k m
-    → IsNamedBelow list (n + 1) k (with_miss (with_gap m x.stall k n) x.delay k n)
-noted list n k x m true true e f at known =
-    rw (e, f) (record { miss = place-next (has_miss_of k) list n x true m.miss f at known.miss; gap = place-next (has_gap_of k) list n x true m.gap e at known.gap })
-noted list n k x m true false e f at known =
-    rw (e, f) (record { miss = place-next (has_miss_of k) list n x false m.miss f at known.miss; gap = place-next (has_gap_of k) list n x true m.gap e at known.gap })
-noted list n k x m false true e f at known =
-    rw (e, f) (record { miss = place-next (has_miss_of k) list n x true m.miss f at known.miss; gap = place-next (has_gap_of k) list n x false m.gap e at known.gap })
-noted list n k x m false false e f at known =
-    rw (e, f) (record { miss = place-next (has_miss_of k) list n x false m.miss f at known.miss; gap = place-next (has_gap_of k) list n x false m.gap e at known.gap })
+noted : (list : List Evidence) (n k : ℕ) (x : Evidence) (m : Named) (g h : Bool) → has_gap_of k x ≡ g → has_miss_of k x ≡ h
+    → slice_get list n ≡ Some x → IsNamedBelow list n k m → IsNamedBelow list (n + 1) k (with_miss (with_gap m x.stall k n) x.delay k n)
+noted list n k x m true true e f at known = rw (e, f) (record {
+  miss = place-next (has_miss_of k) list n x true m.miss f at known.miss;
+  gap = place-next (has_gap_of k) list n x true m.gap e at known.gap;
+})
+noted list n k x m true false e f at known = rw (e, f) (record {
+  miss = place-next (has_miss_of k) list n x false m.miss f at known.miss;
+  gap = place-next (has_gap_of k) list n x true m.gap e at known.gap;
+})
+noted list n k x m false true e f at known = rw (e, f) (record {
+  miss = place-next (has_miss_of k) list n x true m.miss f at known.miss;
+  gap = place-next (has_gap_of k) list n x false m.gap e at known.gap;
+})
+noted list n k x m false false e f at known = rw (e, f) (record {
+  miss = place-next (has_miss_of k) list n x false m.miss f at known.miss;
+  gap = place-next (has_gap_of k) list n x false m.gap e at known.gap;
+})
 
 -- what is noted of it is named
 pub named-next : (rows n : ℕ) (list : List Evidence) (d : Evidence) (old middle new : List Named) → n < length list → length new ≡ rows
@@ -46,9 +54,12 @@ named-next rows n list d old middle new inside long are gaps misses = record {
 }
 
 -- one brief row more
-pub brief-pushed : (named : List Named) (k : ℕ) (rows next : List ℕ) → begins named k ≡ true → rows ≡ brief_to named k → next ≡ rows ++ k ∷ [] → next ≡ brief_to named (k + 1)
-brief-pushed named k rows next begin known pushed = let one : k + 1 ≡ suc k = omega arith in rw (one, begin) (pushed ∙ ap (λ l. l ++ k ∷ []) known)
+pub brief-pushed : (named : List Named) (k : ℕ) (rows next : List ℕ)
+    → begins named k ≡ true → rows ≡ brief_to named k → next ≡ rows ++ k ∷ [] → next ≡ brief_to named (k + 1)
+brief-pushed named k rows next begin known pushed =
+    let one : k + 1 ≡ suc k = omega arith in rw (one, begin) (pushed ∙ ap (λ l. l ++ k ∷ []) known)
 
 -- a row that isn't
-pub brief-kept : (named : List Named) (k : ℕ) (rows : List ℕ) → begins named k ≡ false → rows ≡ brief_to named k → rows ≡ brief_to named (k + 1)
+pub brief-kept : (named : List Named) (k : ℕ) (rows : List ℕ)
+    → begins named k ≡ false → rows ≡ brief_to named k → rows ≡ brief_to named (k + 1)
 brief-kept named k rows begin known = let one : k + 1 ≡ suc k = omega arith in rw (one, begin) known

@@ -66,7 +66,8 @@ module _ (members : ℕ) (trace : Recorded) where
   ]
 
   -- a gap with one more tick in which its processor takes no step
-  with_before : (w : Gap) → IsGap members trace w → 1 < w.from → ¬ StepsIn trace (w.from - 1) w.proc → IsGap members trace (record { proc = w.proc; from = w.from - 1; to = w.to })
+  with_before : (w : Gap) → IsGap members trace w → 1 < w.from
+      → ¬ StepsIn trace (w.from - 1) w.proc → IsGap members trace (record { proc = w.proc; from = w.from - 1; to = w.to })
   with_before w gap low silent = record {
     member = gap.member;
     start = omega arith;
@@ -78,7 +79,8 @@ module _ (members : ℕ) (trace : Recorded) where
     ];
   }
 
-  with_after : (w : Gap) → IsGap members trace w → w.to < trace.last → ¬ StepsIn trace (w.to + 1) w.proc → IsGap members trace (record { proc = w.proc; from = w.from; to = w.to + 1 })
+  with_after : (w : Gap) → IsGap members trace w → w.to < trace.last
+      → ¬ StepsIn trace (w.to + 1) w.proc → IsGap members trace (record { proc = w.proc; from = w.from; to = w.to + 1 })
   with_after w gap high silent = record {
     member = gap.member;
     start = gap.start;
@@ -91,7 +93,8 @@ module _ (members : ℕ) (trace : Recorded) where
   }
 
   -- the rest of a gap from a later tick on
-  later-gap : (w : Gap) (g : ℕ) → IsGap members trace w → w.from ≤ g → g ≤ w.to → IsGap members trace (record { proc = w.proc; from = g; to = w.to })
+  later-gap : (w : Gap) (g : ℕ) → IsGap members trace w
+      → w.from ≤ g → g ≤ w.to → IsGap members trace (record { proc = w.proc; from = g; to = w.to })
   later-gap w g gap low high = record {
     member = gap.member;
     start = (let start = gap.start in omega (arith, start));
@@ -110,11 +113,13 @@ module _ (members : ℕ) (trace : Recorded) where
     go (Some y) e b t more f =
         let same : y ≡ q = same_Some y q f in
         let found = more q (e ∙ ap (λ (z : Row). Some z) same) in (Contains-rest r q rest found.0, found.1)
-    go None e true t more f = subst (λ (z : Row). Contains (r ∷ rest) z × (z.gst ≤ g)) (same_Some r q f) (Contains-head r rest, grind (arith, nat_tests))
+    go None e true t more f = subst (λ (z : Row). Contains (r ∷ rest) z × (z.gst ≤ g))
+        (same_Some r q f) (Contains-head r rest, grind (arith, nat_tests))
     go None e false t more f = absurd (none-some q f)
 
   -- rows at later places begin later
-  rising-far : (rows : List Row) (j k : ℕ) (a b : Row) → IsStrictlyIncreasing (map (λ (r : Row). r.gst) rows) → j < k → slice_get rows j ≡ Some a → slice_get rows k ≡ Some b → a.gst < b.gst
+  rising-far : (rows : List Row) (j k : ℕ) (a b : Row)
+      → IsStrictlyIncreasing (map (λ (r : Row). r.gst) rows) → j < k → slice_get rows j ≡ Some a → slice_get rows k ≡ Some b → a.gst < b.gst
   rising-far rows j zero a b rising before at is = absurd (omega arith)
   rising-far rows j (suc k) a b rising before at is =
       let here = slice_get_within rows (suc k) b is in
@@ -129,7 +134,8 @@ module _ (members : ℕ) (trace : Recorded) where
       elim (cases_lt j k) [
         | inl l ↦ (let more = rising-far rows j k a (get_or rows k a) rising l at last in omega (arith, more, up))
         | inr m ↦ (let same : k ≡ j = omega arith in
-            let first : get_or rows k a ≡ a = same_Some (get_or rows k a) a (sym last ∙ subst (λ (i : ℕ). slice_get rows i ≡ Some a) (sym same) at) in
+            let first : get_or rows k a ≡ a = same_Some
+            (get_or rows k a) a (sym last ∙ subst (λ (i : ℕ). slice_get rows i ≡ Some a) (sym same) at) in
             subst (λ (r : Row). r.gst < b.gst) first up)
       ]
 
@@ -143,19 +149,23 @@ row_of_gap rows k w is = elim ((slice_get_cases rows k).1) [
 module _ (members : ℕ) (trace : Recorded) (rows : List Row) (time : IsTimed trace) (report : IsReport members trace rows) where
   -- some row has begun at each tick
   some_begun : (h : ℕ) → 1 ≤ h → h ≤ trace.last → (q : Row) × (last_begun rows h ≡ Some q)
-  some_begun h low high = go (last_begun rows h) refl (row_at-serves (record { len = trace.last; rows = rows }) h members trace time report refl low high) where
-    either : (b : Bool) (n : Option Row) → cond b n n ≡ n
-    either true n = refl
-    either false n = refl
+  some_begun h low high = go (last_begun rows h) refl
+      (row_at-serves (record { len = trace.last; rows = rows }) h members trace time report refl low high) where
+        either : (b : Bool) (n : Option Row) → cond b n n ≡ n
+        either true n = refl
+        either false n = refl
 
-    go : (o : Option Row) → last_begun rows h ≡ o → IsSomeAnd (row_at (record { len = trace.last; rows = rows }) h) (Serves members trace h) → (q : Row) × (last_begun rows h ≡ Some q)
-    go (Some q) e some = (q, e)
-    go None e some =
-        let none : row_at (record { len = trace.last; rows = rows }) h ≡ None = rw e (either (nat_le 1 h && nat_le h trace.last) None) in
-        absurd (subst (λ (o : Option Row). IsSomeAnd o (Serves members trace h)) none some)
+        go : (o : Option Row) → last_begun rows h ≡ o → IsSomeAnd
+            (row_at (record { len = trace.last; rows = rows }) h) (Serves members trace h) → (q : Row) × (last_begun rows h ≡ Some q)
+        go (Some q) e some = (q, e)
+        go None e some =
+            let none : row_at (record { len = trace.last; rows = rows }) h
+            ≡ None = rw e (either (nat_le 1 h && nat_le h trace.last) None) in
+            absurd (subst (λ (o : Option Row). IsSomeAnd o (Serves members trace h)) none some)
 
   -- the row before another applies to the tick before it
-  serving-before : (k : ℕ) (r : Row) → slice_get rows k ≡ Some r → 1 < r.gst → (j : ℕ) × (q : Row) × (k ≡ j + 1) × (slice_get rows j ≡ Some q) × Serves members trace (r.gst - 1) q
+  serving-before : (k : ℕ) (r : Row) → slice_get rows k ≡ Some r
+      → 1 < r.gst → (j : ℕ) × (q : Row) × (k ≡ j + 1) × (slice_get rows j ≡ Some q) × Serves members trace (r.gst - 1) q
   serving-before k r is low =
       let row = report.sound r (Contains-slice_get rows k r is) in
       let end : r.gst ≤ trace.last = row.front.feasible.end in
@@ -197,19 +207,20 @@ module _ (members : ℕ) (trace : Recorded) (rows : List Row) (time : IsTimed tr
 
   -- a row names the same silence if it applies to the tick before the one from which a gap is named, and its processor
   -- takes no step from there either
-  same_silence : (r q : Row) (w : Gap) → PhiHolds members trace r.gst r.phi → (1 < r.phi) × IsNamedGap members trace r.gst r.phi w → w.from ≡ r.gst
-      → IsGap members trace (record { proc = w.proc; from = r.gst - 1; to = w.to }) → Serves members trace (r.gst - 1) q → Contains rows q
-      → IsSomeAnd q.gap (λ v. (v.proc ≡ w.proc) × (v.to ≡ w.to))
+  same_silence : (r q : Row) (w : Gap) → PhiHolds members trace r.gst r.phi → (1 < r.phi) × IsNamedGap members trace r.gst r.phi w
+      → w.from ≡ r.gst → IsGap members trace (record { proc = w.proc; from = r.gst - 1; to = w.to })
+      → Serves members trace (r.gst - 1) q → Contains rows q → IsSomeAnd q.gap (λ v. (v.proc ≡ w.proc) × (v.to ≡ w.to))
   same_silence r q w holds named here gap serves member =
       let g = r.gst in
       let o : Gap = record { proc = w.proc; from = g - 1; to = w.to } in
       let long = named.1.long in
       let some : 1 ≤ g - 1 = gap.start in
-      let less : r.phi < q.phi = (let wide = shorter members trace (g - 1) q.phi o serves.phi.holds gap (omega arith) in omega (arith, wide, long, here, some)) in
+      let less : r.phi < q.phi = (let wide = shorter members trace (g - 1) q.phi o serves.phi.holds gap (omega arith) in
+      omega (arith, wide, long, here, some)) in
       go q.gap refl (serves.gap r.phi (let two = named.0 in omega (arith, two)) less) (report.sound q member).gap
     where
-      go : (e : Option Gap) → q.gap ≡ e → IsSomeAnd e (λ v. GapRefutes members trace (r.gst - 1) r.phi v) → NamesGap members trace q.gst q.phi e
-          → IsSomeAnd e (λ v. (v.proc ≡ w.proc) × (v.to ≡ w.to))
+      go : (e : Option Gap) → q.gap ≡ e → IsSomeAnd e (λ v. GapRefutes members trace (r.gst - 1) r.phi v)
+          → NamesGap members trace q.gst q.phi e → IsSomeAnd e (λ v. (v.proc ≡ w.proc) × (v.to ≡ w.to))
       go (Some v) e refutes names =
           let g = r.gst in
           let two = named.0 in
@@ -248,11 +259,14 @@ module _ (members : ℕ) (trace : Recorded) (rows : List Row) (time : IsTimed tr
           | inr silent ↦ (
               let wider = with_before members trace s.gap names.1.gap low silent in
               elim (cases_lt r.gst s.gap.from) [
-                | inl l ↦ absurd (let short = shorter members trace r.gst r.phi (record { proc = s.gap.proc; from = s.gap.from - 1; to = s.gap.to }) holds wider (omega arith) in omega (arith, short, long, low))
+                | inl l ↦ absurd (let short = shorter members trace r.gst r.phi
+                    (record { proc = s.gap.proc; from = s.gap.from - 1; to = s.gap.to }) holds wider (omega arith) in
+                    omega (arith, short, long, low))
                 | inr m ↦ (
                     let here : s.gap.from ≡ r.gst = omega (arith, from) in
                     let before = serving-before s.first r at.1 (omega (arith, here, low)) in
-                    let same = same_silence r before.1 s.gap holds names here (subst (λ (n : ℕ). IsGap members trace (record { proc = s.gap.proc; from = n - 1; to = s.gap.to })) here wider)
+                    let same = same_silence r before.1 s.gap holds names here
+                    (subst (λ (n : ℕ). IsGap members trace (record { proc = s.gap.proc; from = n - 1; to = s.gap.to })) here wider)
                     before.4 (Contains-slice_get rows before.0 before.1 before.3) in
                     absurd (no_earlier stalls are s c before.0 before.1 before.2 before.3 same))
               ])
@@ -261,14 +275,15 @@ module _ (members : ℕ) (trace : Recorded) (rows : List Row) (time : IsTimed tr
           | inl step ↦ step
           | inr silent ↦ absurd (
               let wider = with_after members trace s.gap names.1.gap high silent in
-              let short = shorter members trace r.gst r.phi (record { proc = s.gap.proc; from = s.gap.from; to = s.gap.to + 1 }) holds wider from in
+              let short = shorter members trace r.gst r.phi
+              (record { proc = s.gap.proc; from = s.gap.from; to = s.gap.to + 1 }) holds wider from in
               omega (arith, short, long))
         ];
       }
     where
       -- the row before a stall doesn't name its silence
-      no_earlier : (stalls : List Stall) → AreStalls rows stalls → (s : Stall) → Contains stalls s → (j : ℕ) (q : Row) → s.first ≡ j + 1 → slice_get rows j ≡ Some q
-          → IsSomeAnd q.gap (λ v. (v.proc ≡ s.gap.proc) × (v.to ≡ s.gap.to)) → ⊥
+      no_earlier : (stalls : List Stall) → AreStalls rows stalls → (s : Stall) → Contains stalls s → (j : ℕ) (q : Row)
+          → s.first ≡ j + 1 → slice_get rows j ≡ Some q → IsSomeAnd q.gap (λ v. (v.proc ≡ s.gap.proc) × (v.to ≡ s.gap.to)) → ⊥
       no_earlier stalls are s c j q next at same = go q.gap refl same where
         own : (y : ℕ) (o : Stall) → y < length stalls → get_or stalls y o ≡ o → get_or stalls y s ≡ o
         own y o inside is = get_or_from_slice_get stalls y o s (slice_get_read stalls (length stalls) y o refl inside (sym is))
@@ -281,10 +296,12 @@ module _ (members : ℕ) (trace : Recorded) (rows : List Row) (time : IsTimed tr
             let y = d.0 in
             elim (cases_lt y x) [
               | inl l ↦ (let before = are.ordered y x s l c.1 in
-                  subst (λ (z : Stall). o.last < z.first) (c.2) (subst (λ (z : Stall). z.last < (get_or stalls x s).first) (own y o d.1 d.2) before))
+                  subst (λ (z : Stall). o.last < z.first)
+                  (c.2) (subst (λ (z : Stall). z.last < (get_or stalls x s).first) (own y o d.1 d.2) before))
               | inr m ↦ elim (cases_lt x y) [
                 | inl l ↦ absurd (let after = are.ordered x y s l d.1 in
-                    let after_ = subst (λ (z : Stall). s.last < z.first) (own y o d.1 d.2) (subst (λ (z : Stall). z.last < (get_or stalls y s).first) c.2 after) in
+                    let after_ = subst (λ (z : Stall). s.last < z.first)
+                    (own y o d.1 d.2) (subst (λ (z : Stall). z.last < (get_or stalls y s).first) c.2 after) in
                     omega (arith, after_, order, low, next))
                 | inr n ↦ absurd (let same : y ≡ x = omega arith in
                     let equal : o ≡ s = sym (own y o d.1 d.2) ∙ subst (λ (i : ℕ). get_or stalls y s ≡ get_or stalls i s) same refl ∙ c.2 in
@@ -305,6 +322,7 @@ module _ (members : ℕ) (trace : Recorded) (rows : List Row) (time : IsTimed tr
             let last = found.3 in
             let one = are.right o found.1 in
             let ends : o.last < s.first = apart o found.1 first in
-            let names = subst (λ (x : Option Gap). IsSomeAnd x (λ z. (z.proc ≡ o.gap.proc) × (z.to ≡ o.gap.to))) here (one.named.each j first last) in
+            let names = subst (λ (x : Option Gap). IsSomeAnd x (λ z. (z.proc ≡ o.gap.proc) × (z.to ≡ o.gap.to))) here
+            (one.named.each j first last) in
             let place : o.last + 1 ≡ s.first = omega (arith, ends, last, next) in
             one.ends (rw (place, stall.named.named) (sym alike.0 ∙ names.0, sym alike.1 ∙ names.1))

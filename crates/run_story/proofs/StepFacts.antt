@@ -12,8 +12,8 @@ taken_suc : (steps : List Step) (i s : ℕ) → i < length steps
     → is_taken (take (suc i) steps) s ≡ (is_taken (take i steps) s || list_any (λ k. k == s) (ids_at steps (suc i)))
 taken_suc [] i s inside = absurd (let none : i < 0 = inside in omega arith)
 taken_suc (x ∷ rest) zero s inside = or-false (act_takes x.act s)
-taken_suc (x ∷ rest) (suc i) s inside =
-    ap (λ b. act_takes x.act s || b) (taken_suc rest i s (omega arith)) ∙ sym (or_assoc (act_takes x.act s) (is_taken (take i rest) s) (list_any (λ k. k == s) (ids_at rest (suc i))))
+taken_suc (x ∷ rest) (suc i) s inside = ap (λ b. act_takes x.act s || b) (taken_suc rest i s (omega arith))
+    ∙ sym (or_assoc (act_takes x.act s) (is_taken (take i rest) s) (list_any (λ k. k == s) (ids_at rest (suc i))))
 
 pub is_taken-next : (steps : List Step) (i s : ℕ) (flag taken : Bool) → i < length steps → taken ≡ is_taken (take i steps) s
     → flag ≡ (taken || list_any (λ k. k == s) (ids_at steps (i + 1))) → flag ≡ is_taken (take (i + 1) steps) s

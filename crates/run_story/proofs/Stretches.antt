@@ -7,7 +7,8 @@ use Rattle.run_story.specs.Stretches.{AreStretches}
 
 module _ (X : Type 0) (first last : X → ℕ) (IsOne : X → Type 0) (HasSome : ℕ → Type 0) where
   -- a place with nothing adds none
-  pub stretches-skip : (n : ℕ) (xs : List X) → ¬ HasSome n → AreStretches X first last IsOne HasSome n xs → AreStretches X first last IsOne HasSome (n + 1) xs
+  pub stretches-skip : (n : ℕ) (xs : List X) → ¬ HasSome n
+      → AreStretches X first last IsOne HasSome n xs → AreStretches X first last IsOne HasSome (n + 1) xs
   stretches-skip n xs nothing are = record {
     right = are.right;
     inside = λ x c. (let before = are.inside x c in omega (arith, before));
@@ -19,8 +20,8 @@ module _ (X : Type 0) (first last : X → ℕ) (IsOne : X → Type 0) (HasSome :
   }
 
   -- one stretch more
-  pub stretches-push : (n : ℕ) (xs : List X) (x : X) → IsOne x → first x ≡ n → first x ≤ last x → AreStretches X first last IsOne HasSome n xs
-      → AreStretches X first last IsOne HasSome (last x + 1) (xs ++ x ∷ [])
+  pub stretches-push : (n : ℕ) (xs : List X) (x : X) → IsOne x → first x ≡ n → first x ≤ last x
+      → AreStretches X first last IsOne HasSome n xs → AreStretches X first last IsOne HasSome (last x + 1) (xs ++ x ∷ [])
   stretches-push n xs x one begins order are = record {
     right = λ y c. elim (Contains-push_cases xs x y c) [
       | inl old ↦ are.right y old
@@ -34,5 +35,6 @@ module _ (X : Type 0) (first last : X → ℕ) (IsOne : X → Type 0) (HasSome :
       | inl before ↦ (let old = are.complete k before some in (old.0, Contains-append_left xs (x ∷ []) old.0 old.1, old.2, old.3))
       | inr after ↦ (x, Contains-push xs x, omega arith, omega arith)
     ];
-    ordered = all_pairs_push (λ a b. last a < first b) xs x are.ordered (λ k d l. let before = are.inside (get_or xs k d) (Contains-get_or xs k d l) in omega (arith, before));
+    ordered = all_pairs_push (λ a b. last a < first b) xs x are.ordered
+        (λ k d l. let before = are.inside (get_or xs k d) (Contains-get_or xs k d l) in omega (arith, before));
   }

@@ -41,5 +41,6 @@ pub log-limit : (e n p : ℕ) → 0 < e → e ≤ 21 → p ≡ 2 ^ (e - 1) → n
 log-limit e n p some high is below =
     let next : e ≡ (e - 1) + 1 = omega arith in
     let twice : 2 ^ e ≡ 2 ^ (e - 1) * 2 = ap (λ k. 2 ^ k) next ∙ pow_more 2 (e - 1) in
-    let share : (n - p) * 1000 / p ≤ 1000 = share-limit (n - p) p (omega (arith, below, twice, is, pow_pos (e - 1))) (omega (arith, below, twice, is)) in
+    let share : (n - p) * 1000 / p ≤ 1000 = share-limit
+    (n - p) p (omega (arith, below, twice, is, pow_pos (e - 1))) (omega (arith, below, twice, is)) in
     omega (arith, share, high, some)

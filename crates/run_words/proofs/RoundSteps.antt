@@ -5,8 +5,8 @@ use Rattle.std.proofs.lemmas.Bool.Decides.{nat_tests}
 use Rattle.run_words.specs.RoundNumbers.{first_step, round_numbers, round_step}
 
 -- the first of those from a place on: the one at that place, or the first of those after it
-pub first_step-at : (steps : List ℕ) (i limit most : ℕ) → i < length steps
-    → first_step (drop i steps) limit most ≡ (if nat_le (limit / slice_index_or steps i 0) most then slice_index_or steps i 0 else first_step (drop (suc i) steps) limit most)
+pub first_step-at : (steps : List ℕ) (i limit most : ℕ) → i < length steps → first_step (drop i steps) limit most
+    ≡ (if nat_le (limit / slice_index_or steps i 0) most then slice_index_or steps i 0 else first_step (drop (suc i) steps) limit most)
 first_step-at [] i limit most inside = absurd (omega arith)
 first_step-at (s ∷ rest) zero limit most inside = refl
 first_step-at (s ∷ rest) (suc i) limit most inside = first_step-at rest i limit most (omega arith)
@@ -38,14 +38,17 @@ divisor i r inside is = let some = some-at round_numbers i refl inside in omega 
 pub first-here : (i r limit most : ℕ) → i < 19 → r ≡ at i → limit / r ≤ most → r ≡ first_step (drop i round_numbers) limit most
 first-here i r limit most inside is small =
     let yes : nat_le (limit / at i) most ≡ true = grind (arith, nat_tests) in
-    is ∙ sym (first_step-at round_numbers i limit most inside ∙ ap (λ b. if b then at i else first_step (drop (suc i) round_numbers) limit most) yes)
+    is ∙ sym (first_step-at round_numbers i limit most inside
+    ∙ ap (λ b. if b then at i else first_step (drop (suc i) round_numbers) limit most) yes)
 
-pub first-later : (i r limit most : ℕ) → i < 19 → r ≡ at i → most < limit / r → first_step (drop (i + 1) round_numbers) limit most ≡ first_step (drop i round_numbers) limit most
+pub first-later : (i r limit most : ℕ) → i < 19 → r ≡ at i
+    → most < limit / r → first_step (drop (i + 1) round_numbers) limit most ≡ first_step (drop i round_numbers) limit most
 first-later i r limit most inside is large =
     let not : nat_le (limit / at i) most ≡ false = grind (arith, nat_tests) in
     let after : i + 1 ≡ suc i = omega arith in
     ap (λ k. first_step (drop k round_numbers) limit most) after
-    ∙ sym (first_step-at round_numbers i limit most inside ∙ ap (λ b. if b then at i else first_step (drop (suc i) round_numbers) limit most) not)
+    ∙ sym (first_step-at round_numbers i limit most inside
+    ∙ ap (λ b. if b then at i else first_step (drop (suc i) round_numbers) limit most) not)
 
 -- the first round number, from the first place on
 pub all-left : (limit most : ℕ) → first_step (drop 0 round_numbers) limit most ≡ round_step limit most

@@ -33,7 +33,8 @@ passed_over : {A : Type 0} (b : Bool) (r : Result A TextError) (e : TextError) (
 passed_over true r e x h = cc h
 passed_over false r e x h = (refl, h)
 
-narrow : (n : ℕ) (x : ℕ × Step) (l : Line) → narrow_line n x ≡ Ok l → ◌≡◌ {A = Result Line TextError} (Ok (record { no = n; tick = x.0; step = x.1 })) (Ok l)
+narrow : (n : ℕ) (x : ℕ × Step) (l : Line) → narrow_line n x ≡ Ok l
+    → ◌≡◌ {A = Result Line TextError} (Ok (record { no = n; tick = x.0; step = x.1 })) (Ok l)
 narrow n x l h = (passed (nat_lt x.0 (2 ^ 32)) _ (WrongNumber 0) l h).1
 
 -- what a record that encodes a step says
@@ -44,12 +45,13 @@ pub record Tells (v : Version) (fields : List (List ℕ)) (l : Line) : Type 0 wh
   pub step : judged_step_of v l.no fields ≡ Ok (l.tick, l.step)
 
 -- a step that is the one of these parts
-parts : (v : Version) (fields : List (List ℕ)) (n : ℕ) (x : ℕ × Step) (l : Line) → number_of (field_of fields 0) ≡ Some n → judged_step_of v n fields ≡ Ok x
-    → ◌≡◌ {A = Result Line TextError} (Ok (record { no = n; tick = x.0; step = x.1 })) (Ok l)
+parts : (v : Version) (fields : List (List ℕ)) (n : ℕ) (x : ℕ × Step) (l : Line) → number_of (field_of fields 0) ≡ Some n
+    → judged_step_of v n fields ≡ Ok x → ◌≡◌ {A = Result Line TextError} (Ok (record { no = n; tick = x.0; step = x.1 })) (Ok l)
     → (number_of (field_of fields 0) ≡ Some l.no) × (judged_step_of v l.no fields ≡ Ok (l.tick, l.step))
 parts v fields n x l number step h =
     let same : ◌≡◌ {A = Line} (record { no = n; tick = x.0; step = x.1 }) l = cc h in
-    subst (λ (k : Line). (number_of (field_of fields 0) ≡ Some k.no) × (judged_step_of v k.no fields ≡ Ok (k.tick, k.step))) same (number, step)
+    subst (λ (k : Line). (number_of (field_of fields 0) ≡ Some k.no) × (judged_step_of v k.no fields ≡ Ok (k.tick, k.step))) same
+    (number, step)
 
 pub tells : (v : Version) (fields : List (List ℕ)) (l : Line) → line_of v fields ≡ Ok l → Tells v fields l
 tells v fields l h =
@@ -68,13 +70,16 @@ told-next v t fields l h short =
     let same = bytes_eq-decimal (field_of fields 0) (length t.steps + 1) l.no (omega (arith, short)) k.number in
     go (l.no == length t.steps + 1) refl same k.not_end k.count k.step
   where
-    go : (b : Bool) → (l.no == length t.steps + 1) ≡ b → (l.no == length t.steps + 1) ≡ bytes_eq (field_of fields 0) (decimal (length t.steps + 1))
-        → bytes_eq (field_of fields 0) (codes "end") ≡ false → (length fields == step_fields v) ≡ true → judged_step_of v l.no fields ≡ Ok (l.tick, l.step)
-        → next_stage (Recording v t) fields ≡ cond (l.no == length t.steps + 1) (pushed v t l.tick l.step (refusal_in t l.tick l.step)) (Err (WrongNumber (length t.steps + 1)))
+    go : (b : Bool) → (l.no == length t.steps + 1) ≡ b → (l.no == length t.steps + 1)
+        ≡ bytes_eq (field_of fields 0) (decimal (length t.steps + 1)) → bytes_eq (field_of fields 0) (codes "end") ≡ false
+        → (length fields == step_fields v) ≡ true → judged_step_of v l.no fields ≡ Ok (l.tick, l.step) → next_stage (Recording v t) fields
+        ≡ cond (l.no == length t.steps + 1) (pushed v t l.tick l.step (refusal_in t l.tick l.step)) (Err (WrongNumber (length t.steps + 1)))
     go true e same n c s =
         let test : bytes_eq (field_of fields 0) (decimal (length t.steps + 1)) ≡ true = sym same ∙ e in
-        let at : judged_step_of v (length t.steps + 1) fields ≡ Ok (l.tick, l.step) = subst (λ m. judged_step_of v m fields ≡ Ok (l.tick, l.step)) (eqb-true l.no (length t.steps + 1) e) s in
-        ap (λ (s : Result Stage TextError). cond (bytes_eq (field_of fields 0) (codes "end")) (end_stage v t fields) s) (sym (step-judged v t fields)) ∙ rw (n, c, test, at, e) refl
+        let at : judged_step_of v (length t.steps + 1) fields
+        ≡ Ok (l.tick, l.step) = subst (λ m. judged_step_of v m fields ≡ Ok (l.tick, l.step)) (eqb-true l.no (length t.steps + 1) e) s in
+        ap (λ (s : Result Stage TextError). cond (bytes_eq (field_of fields 0) (codes "end")) (end_stage v t fields) s)
+        (sym (step-judged v t fields)) ∙ rw (n, c, test, at, e) refl
     go false e same n c s =
         let test : bytes_eq (field_of fields 0) (decimal (length t.steps + 1)) ≡ false = sym same ∙ e in
         rw (n, c, test, e) refl
@@ -94,15 +99,16 @@ unfolding TellLines after_lines
 told-all v [] [] t h short = refl
 told-all v [] (l ∷ ls) t h short = absurd h
 told-all v (r ∷ rs) [] t h short = absurd h
-told-all v (r ∷ rs) (l ∷ ls) t h short =
-    rw (told-next v t r l h.0 short) (go (λ s. told-all v rs ls (with_step t l.tick l.step) h.1 s) (l.no == length t.steps + 1) (refusal_in t l.tick l.step) refl) where
-      go : (length (with_step t l.tick l.step).steps ≤ MAX_STEPS → after_records next_stage (Recording v (with_step t l.tick l.step)) rs ≡ after_lines v (with_step t l.tick l.step) ls)
-          → (b : Bool) (o : Option PushError) → refusal_in t l.tick l.step ≡ o
+told-all v (r ∷ rs) (l ∷ ls) t h short = rw (told-next v t r l h.0 short)
+    (go (λ s. told-all v rs ls (with_step t l.tick l.step) h.1 s) (l.no == length t.steps + 1) (refusal_in t l.tick l.step) refl) where
+      go : (length (with_step t l.tick l.step).steps ≤ MAX_STEPS → after_records next_stage (Recording v (with_step t l.tick l.step)) rs
+          ≡ after_lines v (with_step t l.tick l.step) ls) → (b : Bool) (o : Option PushError) → refusal_in t l.tick l.step ≡ o
           → cond b (pushed v t l.tick l.step o) (Err (WrongNumber (length t.steps + 1))) >>= (λ s. after_records next_stage s rs)
           ≡ cond b (accepted o (length t.steps + 1) (after_lines v (with_step t l.tick l.step) ls)) (Err (WrongNumber (length t.steps + 1)))
       go more false o e = refl
       go more true (Some why) e = refl
-      go more true None e = let less = room t l.tick l.step e in let sum = length-append t.steps (l.step ∷ []) in more (omega (arith, less, sum))
+      go more true None e = let less = room t l.tick l.step e in
+          let sum = length-append t.steps (l.step ∷ []) in more (omega (arith, less, sum))
 
 -- what was read of records are the steps that they encode
 read-from : (r s : Read) (rs : List (List (List ℕ))) → after_records next_read r rs ≡ Ok s
@@ -115,11 +121,13 @@ read-from r s (x ∷ rs) h =
     let next = passed (is_next r.lines line.0.no) (Ok (with_line r line.0)) (WrongNumber 0) part.0 line.2 in
     let same : with_line r line.0 ≡ part.0 = cc (next.1) in
     let more = read-from (with_line r line.0) s rs (rw same part.2) in
-    let whole : s ≡ record { version = r.version; lines = r.lines ++ (line.0 ∷ more.0) } = rw (← append_assoc r.lines (line.0 ∷ []) more.0) more.1 in
+    let whole : s ≡ record { version = r.version; lines = r.lines ++ (line.0 ∷ more.0) } =
+    rw (← append_assoc r.lines (line.0 ∷ []) more.0) more.1 in
     (line.0 ∷ more.0, whole, (line.1, more.2))
 
 -- The steps that were read of the records lead a trace where the records lead it.
-pub read-all : (v : Version) (s : Read) (rs : List (List (List ℕ))) (t : Recorded) → after_records next_read (record { version = v; lines = [] }) rs ≡ Ok s → length t.steps ≤ MAX_STEPS
+pub read-all : (v : Version) (s : Read) (rs : List (List (List ℕ))) (t : Recorded)
+    → after_records next_read (record { version = v; lines = [] }) rs ≡ Ok s → length t.steps ≤ MAX_STEPS
     → after_records next_stage (Recording v t) rs ≡ after_lines v t s.lines
 read-all v s rs t h short =
     let all = read-from (record { version = v; lines = [] }) s rs h in

@@ -23,7 +23,8 @@ use Rattle.shared_reading.specs.PagedSteps.{IsPaired}
 use Rattle.shared_reading.specs.Lines.{numbered, is_next, with_next, accepted, after_lines, refused_for}
 
 -- one list of steps behind another
-numbered-append : (n : ℕ) (xs ys : List Step) (ts us : List ℕ) → length ts ≡ length xs → numbered n (xs ++ ys) (ts ++ us) ≡ numbered n xs ts ++ numbered (n + length xs) ys us
+numbered-append : (n : ℕ) (xs ys : List Step) (ts us : List ℕ)
+    → length ts ≡ length xs → numbered n (xs ++ ys) (ts ++ us) ≡ numbered n xs ts ++ numbered (n + length xs) ys us
 numbered-append n [] ys [] us h = let e : n + 0 ≡ n = omega arith in rw e refl
 numbered-append n [] ys (t ∷ ts) us h = absurd (omega (arith, h))
 numbered-append n (x ∷ xs) ys [] us h = absurd (omega (arith, h))
@@ -44,14 +45,16 @@ next-first first n [] ts h = refl
 next-first first n (x ∷ xs) ts h = absurd (omega (arith, h))
 
 -- the number of a later one is known
-pub next-later : (first n : ℕ) (xs : List Step) (ts : List ℕ) → length ts ≡ length xs → 0 < length xs → is_next (numbered first xs ts) n ≡ (n == first + length xs)
+pub next-later : (first n : ℕ) (xs : List Step) (ts : List ℕ)
+    → length ts ≡ length xs → 0 < length xs → is_next (numbered first xs ts) n ≡ (n == first + length xs)
 unfolding is_next
 next-later first n [] ts h some = absurd (omega (arith, some))
 next-later first n (x ∷ xs) [] h some = absurd (omega (arith, h))
 next-later first n (x ∷ xs) (t ∷ ts) h some = rw (numbered-length (first + 1) xs ts (omega (arith, h))) refl
 
 -- a number that may come next is that of the first step and as many more
-pub next-above : (first n : ℕ) (xs : List Step) (ts : List ℕ) → length ts ≡ length xs → is_next (numbered first xs ts) n ≡ true → length xs ≤ n
+pub next-above : (first n : ℕ) (xs : List Step) (ts : List ℕ)
+    → length ts ≡ length xs → is_next (numbered first xs ts) n ≡ true → length xs ≤ n
 next-above first n [] ts h next = omega arith
 next-above first n (x ∷ xs) ts h next =
     let e : (n == first + suc (length xs)) ≡ true = sym (next-later first n (x ∷ xs) ts h (omega arith)) ∙ next in
@@ -59,22 +62,24 @@ next-above first n (x ∷ xs) ts h next =
     omega (arith, at)
 
 -- one step more
-pub numbered-push : (first n : ℕ) (xs : List Step) (ts : List ℕ) (x : Step) (t : ℕ) → length ts ≡ length xs → is_next (numbered first xs ts) n ≡ true
-    → numbered (n - length xs) (xs ++ x ∷ []) (ts ++ t ∷ []) ≡ numbered first xs ts ++ record { no = n; tick = t; step = x } ∷ []
+pub numbered-push : (first n : ℕ) (xs : List Step) (ts : List ℕ) (x : Step) (t : ℕ) → length ts ≡ length xs → is_next (numbered first xs ts)
+    n ≡ true → numbered (n - length xs) (xs ++ x ∷ []) (ts ++ t ∷ []) ≡ numbered first xs ts ++ record { no = n; tick = t; step = x } ∷ []
 numbered-push first n [] [] x t h next = let e : n - 0 ≡ n = omega arith in rw e refl
 numbered-push first n [] (u ∷ ts) x t h next = absurd (omega (arith, h))
 numbered-push first n (y ∷ xs) ts x t h next =
     let e : (n == first + suc (length xs)) ≡ true = sym (next-later first n (y ∷ xs) ts h (omega arith)) ∙ next in
     let at : n ≡ first + suc (length xs) = eqb-true n (first + suc (length xs)) e in
     let begin : n - suc (length xs) ≡ first = omega (arith, at) in
-    rw begin (numbered-append first (y ∷ xs) (x ∷ []) ts (t ∷ []) h ∙ ap (λ k. numbered first (y ∷ xs) ts ++ record { no = k; tick = t; step = x } ∷ []) (sym at))
+    rw begin (numbered-append first (y ∷ xs) (x ∷ []) ts (t ∷ []) h
+    ∙ ap (λ k. numbered first (y ∷ xs) ts ++ record { no = k; tick = t; step = x } ∷ []) (sym at))
 
 -- one step more of those that were read
-pub line-pushed : (v : Version) (first count : ℕ) (old new : Ticked) (l : Line) → IsPaired old → count ≡ length old.steps → is_next (numbered first old.steps old.ticks) l.no ≡ true
-    → new ≡ record { steps = old.steps ++ l.step ∷ []; ticks = old.ticks ++ l.tick ∷ [] }
-    → with_next (record { version = v; lines = numbered first old.steps old.ticks }) l ≡ Ok (record { version = v; lines = numbered (l.no - count) new.steps new.ticks })
-line-pushed v first count old new l paired sum next pushed =
-    rw (next, pushed, sum) (ap (λ (ls : List Line). Ok (record { version = v; lines = ls })) (sym (numbered-push first l.no old.steps old.ticks l.step l.tick paired next)))
+pub line-pushed : (v : Version) (first count : ℕ) (old new : Ticked) (l : Line) → IsPaired old → count ≡ length old.steps → is_next
+    (numbered first old.steps old.ticks) l.no ≡ true → new ≡ record { steps = old.steps ++ l.step ∷ []; ticks = old.ticks ++ l.tick ∷ [] }
+    → with_next (record { version = v; lines = numbered first old.steps old.ticks }) l
+    ≡ Ok (record { version = v; lines = numbered (l.no - count) new.steps new.ticks })
+line-pushed v first count old new l paired sum next pushed = rw (next, pushed, sum) (ap (λ (ls : List Line).
+    Ok (record { version = v; lines = ls })) (sym (numbered-push first l.no old.steps old.ticks l.step l.tick paired next)))
 
 -- where steps lead that are appended together
 abbrev led : Version → Result Recorded StepRefused → Result Stage TextError
@@ -85,24 +90,27 @@ same-test : (n m : ℕ) → n ≡ m → (n == m) ≡ true
 same-test n m h = grind (arith, nat_tests)
 
 -- steps that are appended together lead the trace where their lines lead it
-numbered-led : (v : Version) (t : Recorded) (n : ℕ) (xs : List Step) (ts : List ℕ) → n ≡ length t.steps + 1 → length ts ≡ length xs → after_lines v t (numbered n xs ts) ≡ led v (appended t xs ts)
+numbered-led : (v : Version) (t : Recorded) (n : ℕ) (xs : List Step) (ts : List ℕ)
+    → n ≡ length t.steps + 1 → length ts ≡ length xs → after_lines v t (numbered n xs ts) ≡ led v (appended t xs ts)
 unfolding after_lines appended
 numbered-led v t n [] ts at h = refl
 numbered-led v t n (x ∷ xs) [] at h = absurd (omega (arith, h))
-numbered-led v t n (x ∷ xs) (tick ∷ ts) at h =
-    rw (same-test n (length t.steps + 1) at) (go (refusal_in t tick x) _ _ (numbered-led v (with_step t tick x) (n + 1) xs ts (omega (arith, at, length-append t.steps (x ∷ []))) (omega (arith, h))))
+numbered-led v t n (x ∷ xs) (tick ∷ ts) at h = rw (same-test n (length t.steps + 1) at) (go (refusal_in t tick x) _ _
+    (numbered-led v (with_step t tick x) (n + 1) xs ts (omega (arith, at, length-append t.steps (x ∷ []))) (omega (arith, h))))
   where
-    go : (o : Option PushError) (a : Result Stage TextError) (b : Result Recorded StepRefused) → a ≡ led v b → accepted o (length t.steps + 1) a ≡ led v (unless_refused o (length t.steps + 1) b)
+    go : (o : Option PushError) (a : Result Stage TextError) (b : Result Recorded StepRefused)
+        → a ≡ led v b → accepted o (length t.steps + 1) a ≡ led v (unless_refused o (length t.steps + 1) b)
     go None a b k = k
     go (Some why) a b k = refl
 
 -- the trace takes these steps
-pub numbered-taken : (v : Version) (t u : Recorded) (n : ℕ) (xs : List Step) (ts : List ℕ) → n ≡ length t.steps + 1 → length ts ≡ length xs → appended t xs ts ≡ Ok u
-    → after_lines v t (numbered n xs ts) ≡ Ok (Recording v u)
+pub numbered-taken : (v : Version) (t u : Recorded) (n : ℕ) (xs : List Step) (ts : List ℕ)
+    → n ≡ length t.steps + 1 → length ts ≡ length xs → appended t xs ts ≡ Ok u → after_lines v t (numbered n xs ts) ≡ Ok (Recording v u)
 numbered-taken v t u n xs ts at h taken = numbered-led v t n xs ts at h ∙ ap (led v) taken
 
 -- the trace refuses one of them
-pub numbered-refused : (v : Version) (t : Recorded) (n : ℕ) (xs : List Step) (ts : List ℕ) (e : StepRefused) → n ≡ length t.steps + 1 → length ts ≡ length xs → IsStepRefusal (appended t xs ts) e
+pub numbered-refused : (v : Version) (t : Recorded) (n : ℕ) (xs : List Step) (ts : List ℕ) (e : StepRefused)
+    → n ≡ length t.steps + 1 → length ts ≡ length xs → IsStepRefusal (appended t xs ts) e
     → MatchBool (is_memory (refused_for e.why e.no)) ⊤ (after_lines v t (numbered n xs ts) ≡ Err (refused_for e.why e.no))
 numbered-refused v t n xs ts e at h refused = go e.why (λ other. numbered-led v t n xs ts at h ∙ ap (led v) (refused other)) where
   go : (why : PushError) → ((why ≡ Memory → ⊥) → after_lines v t (numbered n xs ts) ≡ Err (BadStep e.no why))
@@ -111,14 +119,15 @@ numbered-refused v t n xs ts e at h refused = go e.why (λ other. numbered-led v
   go why k = k (λ same. cc same)
 
 -- if there is no step, the trace is unchanged
-pub numbered-none : (v : Version) (t : Recorded) (n : ℕ) (xs : List Step) (ts : List ℕ) → length xs ≡ 0 → after_lines v t (numbered n xs ts) ≡ Ok (Recording v t)
+pub numbered-none : (v : Version) (t : Recorded) (n : ℕ) (xs : List Step) (ts : List ℕ)
+    → length xs ≡ 0 → after_lines v t (numbered n xs ts) ≡ Ok (Recording v t)
 unfolding after_lines
 numbered-none v t n [] ts h = refl
 numbered-none v t n (x ∷ xs) ts h = absurd (omega (arith, h))
 
 -- another number is due than that of the first of these steps
-pub numbered-apart : (v : Version) (t : Recorded) (n : ℕ) (xs : List Step) (ts : List ℕ) → n ≢ length t.steps + 1 → length ts ≡ length xs → 0 < length xs
-    → after_lines v t (numbered n xs ts) ≡ Err (WrongNumber (length t.steps + 1))
+pub numbered-apart : (v : Version) (t : Recorded) (n : ℕ) (xs : List Step) (ts : List ℕ) → n ≢ length t.steps + 1
+    → length ts ≡ length xs → 0 < length xs → after_lines v t (numbered n xs ts) ≡ Err (WrongNumber (length t.steps + 1))
 unfolding after_lines
 numbered-apart v t n [] ts other h some = absurd (omega (arith, some))
 numbered-apart v t n (x ∷ xs) [] other h some = absurd (omega (arith, h))

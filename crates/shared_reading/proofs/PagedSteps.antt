@@ -14,25 +14,30 @@ use Rattle.trace_text.specs.Records.{◌>>=◌}
 use Rattle.shared_reading.specs.PagedSteps.{IsPaired, steps_of, ticks_of}
 
 -- one list of steps behind another
-appended-append : (t : Recorded) (xs ys : List Step) (ts us : List ℕ) → length ts ≡ length xs → appended t (xs ++ ys) (ts ++ us) ≡ (appended t xs ts >>= λ u. appended u ys us)
+appended-append : (t : Recorded) (xs ys : List Step) (ts us : List ℕ)
+    → length ts ≡ length xs → appended t (xs ++ ys) (ts ++ us) ≡ (appended t xs ts >>= λ u. appended u ys us)
 unfolding appended
 appended-append t [] ys [] us h = refl
 appended-append t [] ys (tick ∷ ts) us h = absurd (omega (arith, h))
 appended-append t (x ∷ xs) ys [] us h = absurd (omega (arith, h))
-appended-append t (x ∷ xs) ys (tick ∷ ts) us h = go (refusal_in t tick x) _ _ (appended-append (with_step t tick x) xs ys ts us (omega (arith, h))) where
-  go : (o : Option PushError) (a b : Result Recorded StepRefused) → a ≡ (b >>= λ u. appended u ys us)
-      → unless_refused o (length t.steps + 1) a ≡ (unless_refused o (length t.steps + 1) b >>= λ u. appended u ys us)
-  go None a b k = k
-  go (Some why) a b k = refl
+appended-append t (x ∷ xs) ys (tick ∷ ts) us h = go
+    (refusal_in t tick x) _ _ (appended-append (with_step t tick x) xs ys ts us (omega (arith, h))) where
+      go : (o : Option PushError) (a b : Result Recorded StepRefused) → a ≡ (b >>= λ u. appended u ys us)
+          → unless_refused o (length t.steps + 1) a ≡ (unless_refused o (length t.steps + 1) b >>= λ u. appended u ys us)
+      go None a b k = k
+      go (Some why) a b k = refl
 
 -- if the trace takes the first of them, the others are appended to what it is then
-pub appended-ok : (t u : Recorded) (xs ys : List Step) (ts us : List ℕ) → length ts ≡ length xs → appended t xs ts ≡ Ok u → appended t (xs ++ ys) (ts ++ us) ≡ appended u ys us
-appended-ok t u xs ys ts us h taken = appended-append t xs ys ts us h ∙ ap (λ (r : Result Recorded StepRefused). r >>= λ w. appended w ys us) taken
+pub appended-ok : (t u : Recorded) (xs ys : List Step) (ts us : List ℕ)
+    → length ts ≡ length xs → appended t xs ts ≡ Ok u → appended t (xs ++ ys) (ts ++ us) ≡ appended u ys us
+appended-ok t u xs ys ts us h taken = appended-append t xs ys ts us h
+    ∙ ap (λ (r : Result Recorded StepRefused). r >>= λ w. appended w ys us) taken
 
 -- if it refuses one of the first, the others make no difference
 pub appended-err : (t : Recorded) (xs ys : List Step) (ts us : List ℕ) (e : StepRefused) → length ts ≡ length xs
     → IsStepRefusal (appended t xs ts) e → IsStepRefusal (appended t (xs ++ ys) (ts ++ us)) e
-appended-err t xs ys ts us e h refused other = appended-append t xs ys ts us h ∙ ap (λ (r : Result Recorded StepRefused). r >>= λ w. appended w ys us) (refused other)
+appended-err t xs ys ts us e h refused other = appended-append t xs ys ts us h
+    ∙ ap (λ (r : Result Recorded StepRefused). r >>= λ w. appended w ys us) (refused other)
 
 -- each step of the pages has a tick
 pub paired-all : (pages : List Ticked) → All IsPaired pages → length (ticks_of pages) ≡ length (steps_of pages)

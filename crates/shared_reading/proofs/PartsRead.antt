@@ -30,16 +30,20 @@ pub front-rest : (rest more : List ℕ) (cut : ℕ) → rest ++ more ≡ take cu
 front-rest rest more cut = ap (λ xs. xs ++ more) (sym (take-append-drop cut rest)) ∙ append_assoc (take cut rest) (drop cut rest) more
 
 -- a front that may be cut off is taken
-pub front-taken : (s t : Stage) (rest : List ℕ) (cut : ℕ) → cut ≤ length rest → has_quote (take cut rest) ≡ false → ends_line (take cut rest) ≡ true
-    → IsUnmarked (drop cut rest) → read_on s (take cut rest) ≡ Ok t → IsTaken s t rest (Ok cut)
-front-taken s t rest cut within quoteless line unmarked h =
-    (within, λ more. ap (λ xs. read_on s xs) (front-rest rest more cut) ∙ read_on-ok s t (take cut rest) (drop cut rest ++ more) (seam (take cut rest) (drop cut rest ++ more) quoteless line (unmarked more)) h)
+pub front-taken : (s t : Stage) (rest : List ℕ) (cut : ℕ) → cut ≤ length rest → has_quote (take cut rest) ≡ false
+    → ends_line (take cut rest) ≡ true → IsUnmarked (drop cut rest) → read_on s (take cut rest) ≡ Ok t → IsTaken s t rest (Ok cut)
+front-taken s t rest cut within quoteless line unmarked h = (
+  within,
+  λ more. ap (λ xs. read_on s xs) (front-rest rest more cut) ∙ read_on-ok
+      s t (take cut rest) (drop cut rest ++ more) (seam (take cut rest) (drop cut rest ++ more) quoteless line (unmarked more)) h,
+)
 
 -- or refused
-pub front-refused : (s t : Stage) (rest : List ℕ) (cut : ℕ) (e : TextError) → has_quote (take cut rest) ≡ false → ends_line (take cut rest) ≡ true
-    → IsUnmarked (drop cut rest) → MatchBool (is_memory e) ⊤ (read_on s (take cut rest) ≡ Err e) → IsTaken s t rest (Err e)
+pub front-refused : (s t : Stage) (rest : List ℕ) (cut : ℕ) (e : TextError) → has_quote (take cut rest) ≡ false → ends_line (take cut rest)
+    ≡ true → IsUnmarked (drop cut rest) → MatchBool (is_memory e) ⊤ (read_on s (take cut rest) ≡ Err e) → IsTaken s t rest (Err e)
 front-refused s t rest cut e quoteless line unmarked = unless (is_memory e) _ _
-    (λ h more. ap (λ xs. read_on s xs) (front-rest rest more cut) ∙ read_on-err s e (take cut rest) (drop cut rest ++ more) (seam (take cut rest) (drop cut rest ++ more) quoteless line (unmarked more)) h)
+    (λ h more. ap (λ xs. read_on s xs) (front-rest rest more cut) ∙ read_on-err s e
+    (take cut rest) (drop cut rest ++ more) (seam (take cut rest) (drop cut rest ++ more) quoteless line (unmarked more)) h)
 
 -- ---- how far a text was read
 
@@ -58,23 +62,28 @@ pub more-read : (known left after : Option (List ℕ)) (before bytes : List ℕ)
     → IsReadTo known left before p → IsReadTo known after before q
 more-read known left after before bytes p q stage total rest read h =
     let whole : h.gone ++ (before ++ q.rest.items) ≡ (h.gone ++ (before ++ p.rest.items)) ++ bytes =
-    ap (λ xs. h.gone ++ (before ++ xs)) rest ∙ ap (λ xs. h.gone ++ xs) (sym (append_assoc before p.rest.items bytes)) ∙ sym (append_assoc h.gone (before ++ p.rest.items) bytes) in
-    let behind : (more : List ℕ) → q.rest.items ++ more ≡ p.rest.items ++ (bytes ++ more) = (λ more. ap (λ xs. xs ++ more) rest ∙ append_assoc p.rest.items bytes more) in
+    ap (λ xs. h.gone ++ (before ++ xs)) rest ∙ ap (λ xs. h.gone ++ xs) (sym (append_assoc before p.rest.items bytes))
+    ∙ sym (append_assoc h.gone (before ++ p.rest.items) bytes) in
+    let behind : (more : List ℕ) → q.rest.items ++ more
+    ≡ p.rest.items ++ (bytes ++ more) = (λ more. ap (λ xs. xs ++ more) rest ∙ append_assoc p.rest.items bytes more) in
     record {
       gone = h.gone;
       count = omega (arith, total, h.count, ap length whole, length-append (h.gone ++ (before ++ p.rest.items)) bytes);
-      read = subst (Consumes known after) (sym whole) (Consumes-trans known left after (h.gone ++ (before ++ p.rest.items)) bytes h.read read);
+      read = subst (Consumes known after) (sym whole)
+          (Consumes-trans known left after (h.gone ++ (before ++ p.rest.items)) bytes h.read read);
       leads = λ more. rw (stage, behind more) (h.leads (bytes ++ more));
     }
 
 -- the front of the rest was taken
-pub part-taken : (known left : Option (List ℕ)) (p q : Progress) (cut : ℕ) → q.total ≡ p.total → q.rest.items ≡ drop cut p.rest.items → IsTaken p.stage q.stage p.rest.items (Ok cut)
-    → IsReadTo known left [] p → IsReadTo known left [] q
+pub part-taken : (known left : Option (List ℕ)) (p q : Progress) (cut : ℕ) → q.total ≡ p.total → q.rest.items ≡ drop cut p.rest.items
+    → IsTaken p.stage q.stage p.rest.items (Ok cut) → IsReadTo known left [] p → IsReadTo known left [] q
 part-taken known left p q cut total rest front h =
     let whole : (h.gone ++ take cut p.rest.items) ++ q.rest.items ≡ h.gone ++ p.rest.items =
-    ap (λ xs. (h.gone ++ take cut p.rest.items) ++ xs) rest ∙ append_assoc h.gone (take cut p.rest.items) (drop cut p.rest.items) ∙ ap (λ xs. h.gone ++ xs) (take-append-drop cut p.rest.items) in
+    ap (λ xs. (h.gone ++ take cut p.rest.items) ++ xs) rest ∙ append_assoc h.gone (take cut p.rest.items) (drop cut p.rest.items)
+    ∙ ap (λ xs. h.gone ++ xs) (take-append-drop cut p.rest.items) in
     let behind : (more : List ℕ) → (h.gone ++ take cut p.rest.items) ++ (drop cut p.rest.items ++ more) ≡ h.gone ++ (p.rest.items ++ more) =
-    (λ more. append_assoc h.gone (take cut p.rest.items) (drop cut p.rest.items ++ more) ∙ ap (λ xs. h.gone ++ xs) (sym (front-rest p.rest.items more cut))) in
+    (λ more. append_assoc h.gone (take cut p.rest.items) (drop cut p.rest.items ++ more)
+    ∙ ap (λ xs. h.gone ++ xs) (sym (front-rest p.rest.items more cut))) in
     record {
       gone = h.gone ++ take cut p.rest.items;
       count = total ∙ h.count ∙ sym (ap length whole);
@@ -89,11 +98,14 @@ too-large : (known left after : Option (List ℕ)) (taken bytes : List ℕ) (tot
 too-large None left after taken bytes total h k t more = tt
 too-large (Some xs) None after taken bytes total h k t more = absurd h
 too-large (Some xs) (Some ys) None taken bytes total h k t more = absurd k
-too-large (Some xs) (Some ys) (Some zs) taken bytes total h k t more = omega (arith, t, more, simp length-append at (ap length h), simp length-append at (ap length k))
+too-large (Some xs) (Some ys) (Some zs) taken bytes total h k t more =
+    omega (arith, t, more, simp length-append at (ap length h), simp length-append at (ap length k))
 
-pub unread : (known left after : Option (List ℕ)) (before : List ℕ) (p : Progress) (e : TextError) → IsReadTo known left before p → IsUnread p.total left after e → IsRefused known e
+pub unread : (known left after : Option (List ℕ)) (before : List ℕ) (p : Progress) (e : TextError)
+    → IsReadTo known left before p → IsUnread p.total left after e → IsRefused known e
 unread known left after before p why.Read h k = tt
-unread known left after before p why.TooLarge h k = too-large known left after (h.gone ++ (before ++ p.rest.items)) k.bytes p.total h.read k.read h.count k.size
+unread known left after before p why.TooLarge h k =
+    too-large known left after (h.gone ++ (before ++ p.rest.items)) k.bytes p.total h.read k.read h.count k.size
 unread known left after before p e h k = absurd k
 
 -- records that give a refusal are a reason for it
@@ -107,26 +119,31 @@ err-stays : (e : TextError) (r : Result Stage TextError) → r ≡ Err e → r >
 err-stays e r h = rw h refl
 
 -- what was read is refused, and the text is within the limit
-pub part-refused : (known left after : Option (List ℕ)) (before : List ℕ) (p : Progress) (t : Stage) (e : TextError) → IsTaken p.stage t (before ++ p.rest.items) (Err e) → IsReadOut p.total left after
-    → IsReadTo known left before p → IsRefused known e
+pub part-refused : (known left after : Option (List ℕ)) (before : List ℕ) (p : Progress) (t : Stage) (e : TextError)
+    → IsTaken p.stage t (before ++ p.rest.items) (Err e) → IsReadOut p.total left after → IsReadTo known left before p → IsRefused known e
 part-refused known left after before p t e front out h =
-    let behind : (before ++ p.rest.items) ++ out.bytes ≡ before ++ (p.rest.items ++ out.bytes) = append_assoc before p.rest.items out.bytes in
+    let behind : (before ++ p.rest.items) ++ out.bytes
+    ≡ before ++ (p.rest.items ++ out.bytes) = append_assoc before p.rest.items out.bytes in
     let text : List ℕ = h.gone ++ (before ++ (p.rest.items ++ out.bytes)) in
-    let whole : (h.gone ++ (before ++ p.rest.items)) ++ out.bytes ≡ text = append_assoc h.gone (before ++ p.rest.items) out.bytes ∙ ap (λ xs. h.gone ++ xs) behind in
-    let all : Consumes known after text = subst (Consumes known after) whole (Consumes-trans known left after (h.gone ++ (before ++ p.rest.items)) out.bytes h.read out.read) in
+    let whole : (h.gone ++ (before ++ p.rest.items)) ++ out.bytes ≡ text = append_assoc h.gone (before ++ p.rest.items) out.bytes
+    ∙ ap (λ xs. h.gone ++ xs) behind in
+    let all : Consumes known after text = subst (Consumes known after) whole
+    (Consumes-trans known left after (h.gone ++ (before ++ p.rest.items)) out.bytes h.read out.read) in
     given-refused known e (record {
       text = text;
       is = Consumes-whole known after text (λ xs. text ≡ xs) all out.end refl;
       size = omega (arith, out.size, h.count, ap length whole, length-append (h.gone ++ (before ++ p.rest.items)) out.bytes);
-      gives = unless (is_memory e) _ _ (λ refuses. err-stays e (read_on Opening text) (h.leads out.bytes ∙ ap (λ xs. read_on p.stage xs) (sym behind) ∙ refuses out.bytes)) front;
+      gives = unless (is_memory e) _ _ (λ refuses.
+          err-stays e (read_on Opening text) (h.leads out.bytes ∙ ap (λ xs. read_on p.stage xs) (sym behind) ∙ refuses out.bytes)) front;
     })
 
 -- the text ends
-pub ended : (known left : Option (List ℕ)) (p : Progress) (r : Result Recorded TextError) → IsAtEnd left → p.total ≤ MAX_TEXT_BYTES → Gives r (read_on p.stage p.rest.items >>= trace_at_end)
-    → IsReadTo known left [] p → IsGiven known r
+pub ended : (known left : Option (List ℕ)) (p : Progress) (r : Result Recorded TextError) → IsAtEnd left
+    → p.total ≤ MAX_TEXT_BYTES → Gives r (read_on p.stage p.rest.items >>= trace_at_end) → IsReadTo known left [] p → IsGiven known r
 ended known left p r end limit gives h =
     let text : List ℕ = h.gone ++ p.rest.items in
-    let leads : read_on Opening text ≡ read_on p.stage p.rest.items = subst (λ xs. read_on Opening (h.gone ++ xs) ≡ read_on p.stage xs) (append-nil p.rest.items) (h.leads []) in
+    let leads : read_on Opening text ≡ read_on p.stage p.rest.items =
+    subst (λ xs. read_on Opening (h.gone ++ xs) ≡ read_on p.stage xs) (append-nil p.rest.items) (h.leads []) in
     record {
       text = text;
       is = Consumes-whole known left text (λ xs. text ≡ xs) h.read end refl;
@@ -149,7 +166,8 @@ unread-after before total old mid new bytes e t h k = absurd k
 
 -- records never report a failed read
 pub no-fault : (s t : Stage) (rest : List ℕ) (e : TextError) → IsTaken s t rest (Err e) → e ≢ why.Read
-no-fault s t rest e front = never-reached s (records_of_text (rest ++ [])) e why.Read refl refl (unless (is_memory e) _ _ (λ refuses. refuses []) front)
+no-fault s t rest e front = never-reached s (records_of_text (rest ++ [])) e why.Read refl refl
+    (unless (is_memory e) _ _ (λ refuses. refuses []) front)
 
 pub faults-kept : (A : Type 0) (e : TextError) (n : ℕ) → e ≢ why.Read → faults_after_reading {A = A} (Err e) n ≡ n
 faults-kept A why.Read n other = absurd (other refl)
@@ -160,7 +178,8 @@ given-faults known (Ok t) n h = refl
 given-faults known (Err e) n h = faults-kept Recorded e n (never-answered (records_of_text h.text) e why.Read refl refl h.gives)
 
 -- what the rest gives
-pub gives-refusal : (e : TextError) (table : Result Stage TextError) → MatchBool (is_memory e) ⊤ (table ≡ Err e) → Gives (Err e) (table >>= trace_at_end)
+pub gives-refusal : (e : TextError) (table : Result Stage TextError)
+    → MatchBool (is_memory e) ⊤ (table ≡ Err e) → Gives (Err e) (table >>= trace_at_end)
 gives-refusal e table = unless (is_memory e) _ _ (err-stays e table)
 
 pub may-be : (m : Bool) (P : Type 0) → P → MatchBool m ⊤ P
@@ -176,14 +195,21 @@ gives-end s table h = rw h (gives-itself (trace_at_end s))
 
 -- a trace that is given is that of the text
 pub given-read : (known : Option (List ℕ)) (r : Result Recorded TextError) → IsGiven known r → IfOk r (IsTraceRead known)
-given-read known (Ok t) h = record { text = h.text; is = h.is; trace = gives-sound h.text (Ok t) h.gives; stands = gives-stands h.text (Ok t) h.gives; size = h.size }
+given-read known (Ok t) h = record {
+  text = h.text;
+  is = h.is;
+  trace = gives-sound h.text (Ok t) h.gives;
+  stands = gives-stands h.text (Ok t) h.gives;
+  size = h.size;
+}
 given-read known (Err e) h = tt
 
 -- a refusal is the first of the table
 refuses-large : (text : List ℕ) → MAX_TEXT_BYTES < length text → trace_of_text text ≡ Err why.TooLarge
 refuses-large text h = let e : nat_le (length text) MAX_TEXT_BYTES ≡ false = grind (arith, nat_tests) in rw e refl
 
-refuses-records : (text given : List ℕ) (e : TextError) → given ≡ text → length given ≤ MAX_TEXT_BYTES → trace_of_records (records_of_text given) ≡ Err e → trace_of_text text ≡ Err e
+refuses-records : (text given : List ℕ) (e : TextError)
+    → given ≡ text → length given ≤ MAX_TEXT_BYTES → trace_of_records (records_of_text given) ≡ Err e → trace_of_text text ≡ Err e
 refuses-records text given e same short h =
     let fits : nat_le (length given) MAX_TEXT_BYTES ≡ true = grind (arith, nat_tests) in
     subst (λ xs. trace_of_text xs ≡ Err e) same (rw fits h)
@@ -195,7 +221,8 @@ refused-known (Some text) why.Memory h = tt
 refused-known (Some text) why.TooLarge h = refuses-large text h
 refused-known (Some text) e h = refuses-records text h.text e h.is h.size h.gives
 
-pub given-refusal : (known : Option (List ℕ)) (r : Result Recorded TextError) → IsGiven known r → IfErr r (λ e. IfSome known (IsRefusalOf e))
+pub given-refusal : (known : Option (List ℕ)) (r : Result Recorded TextError)
+    → IsGiven known r → IfErr r (λ e. IfSome known (IsRefusalOf e))
 given-refusal known (Ok t) h = tt
 given-refusal known (Err e) h = refused-known known e (given-refused known e h)
 

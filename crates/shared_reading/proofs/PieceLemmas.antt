@@ -21,7 +21,10 @@ use Rattle.shared_reading.specs.Pieces.{part, read_on, IsFound, IsUnmarked, Lead
 -- no byte is a quote
 quoteless : (xs : List ℕ) → Nowhere (Passes (is_byte 34) xs) 0 (length xs) → has_quote xs ≡ false
 quoteless [] h = refl
-quoteless (x ∷ xs) h = rw (false_from_ne_true (x == 34) (λ e. h 0 (omega arith) (omega arith) e), quoteless xs (λ k low high e. h (suc k) (omega arith) (omega (arith, high)) e)) refl
+quoteless (x ∷ xs) h = rw (
+  false_from_ne_true (x == 34) (λ e. h 0 (omega arith) (omega arith) e),
+  quoteless xs (λ k low high e. h (suc k) (omega arith) (omega (arith, high)) e),
+) refl
 
 -- the search for one found none
 pub quoteless-by : (xs : List ℕ) (place : Option ℕ) → IsFirstByte (is_byte 34) xs place → is_some place ≡ false → has_quote xs ≡ false
@@ -56,7 +59,8 @@ unmarked-before [] some h more = absurd (some refl)
 unmarked-before (x ∷ xs) some h more = unmarked (x ∷ (xs ++ more)) (not-true _ h)
 
 -- records after those of which one is refused make no difference
-pub append-stops : {S E : Type 0} (next : S → List (List ℕ) → Result S E) (a : S) (e : E) (xs ys : List (List (List ℕ))) → after_records next a xs ≡ Err e → after_records next a (xs ++ ys) ≡ Err e
+pub append-stops : {S E : Type 0} (next : S → List (List ℕ) → Result S E) (a : S) (e : E) (xs ys : List (List (List ℕ)))
+    → after_records next a xs ≡ Err e → after_records next a (xs ++ ys) ≡ Err e
 append-stops {S = S} next a e [] ys h = cc h
 append-stops {S = S} {E = E} next a e (x ∷ xs) ys h = go (λ s k. append-stops next s e xs ys k) (next a x) h where
   go : ((s : S) → after_records next s xs ≡ Err e → after_records next s (xs ++ ys) ≡ Err e) → (r : Result S E)
@@ -75,10 +79,12 @@ read_on-err s e a b seam h = rw seam (append-stops next_stage s e (records_of_te
 pub part-rest : (text : List ℕ) (from end : ℕ) → from ≤ end → drop from text ≡ part text from end ++ drop end text
 part-rest text from end order =
     let e : from + (end - from) ≡ end = omega (arith, order) in
-    sym (take-append-drop (end - from) (drop from text)) ∙ ap (λ (xs : List ℕ). part text from end ++ xs) (drop-drop (end - from) from text ∙ ap (λ k. drop k text) e)
+    sym (take-append-drop (end - from) (drop from text))
+    ∙ ap (λ (xs : List ℕ). part text from end ++ xs) (drop-drop (end - from) from text ∙ ap (λ k. drop k text) e)
 
 -- a part of a text, which may be cut off behind it, was read
-pub part-read : (s t : Stage) (text : List ℕ) (from end : ℕ) → from ≤ end → has_quote (part text from end) ≡ false → ends_line (part text from end) ≡ true → strip_bom (drop end text) ≡ drop end text
+pub part-read : (s t : Stage) (text : List ℕ) (from end : ℕ) → from ≤ end
+    → has_quote (part text from end) ≡ false → ends_line (part text from end) ≡ true → strip_bom (drop end text) ≡ drop end text
     → read_on s (part text from end) ≡ Ok t → read_on s (drop from text) ≡ read_on t (drop end text)
 part-read s t text from end order quoteless line mark h =
     ap (λ (xs : List ℕ). read_on s xs) (part-rest text from end order)
@@ -94,7 +100,8 @@ part-refused s e text from end order quoteless line mark = unless (is_memory e) 
     ∙ read_on-err s e (part text from end) (drop end text) (seam (part text from end) (drop end text) quoteless line mark) h)
 
 -- the steps that were found in a piece were taken
-pub piece-taken : (v : Version) (found : Found) (s t : Stage) (text : List ℕ) (from end : ℕ) → from ≤ end → strip_bom (drop end text) ≡ drop end text → IsFound v (part text from end) found
+pub piece-taken : (v : Version) (found : Found) (s t : Stage) (text : List ℕ) (from end : ℕ)
+    → from ≤ end → strip_bom (drop end text) ≡ drop end text → IsFound v (part text from end) found
     → ((bytes : List ℕ) → IsFound v bytes found → LeadsAlone s bytes (Ok t)) → read_on s (drop from text) ≡ read_on t (drop end text)
 piece-taken v found s t text from end order mark is takes =
     let alone = takes (part text from end) is in
@@ -108,4 +115,5 @@ pub piece-refused : (v : Version) (found : Found) (s : Stage) (e : TextError) (t
 piece-refused v found s e text from end order mark is = unless (is_memory e) _ _ (λ takes.
     let alone = takes (part text from end) is in
     ap (λ (xs : List ℕ). read_on s xs) (part-rest text from end order)
-    ∙ read_on-err s e (part text from end) (drop end text) (seam (part text from end) (drop end text) alone.quoteless alone.line mark) alone.leads)
+    ∙ read_on-err s e (part text from end) (drop end text)
+    (seam (part text from end) (drop end text) alone.quoteless alone.line mark) alone.leads)

@@ -9,13 +9,15 @@ use Rattle.trace_text.proofs.LinesRead.{line-read}
 use Rattle.shared_reading.proofs.Splits.{same-fuel}
 
 line-from : (n m : ℕ) (fields : List (List ℕ)) (rest : List ℕ) → 2 ≤ length fields → ArePlain fields → length rest < n → length rest < m
-    → records_from default_config (suc n) st.StartRecord (record_line fields ++ rest) ≡ fields ∷ records_from default_config m st.StartRecord rest
+    → records_from default_config (suc n) st.StartRecord (record_line fields ++ rest)
+    ≡ fields ∷ records_from default_config m st.StartRecord rest
 unfolding records_from
 line-from n m fields rest two plain l k =
     rw (line-read fields rest two plain) (ap (λ (rs : List (List (List ℕ))). fields ∷ rs) (same-fuel n m st.StartRecord rest refl l k))
 
 -- the first record of a text that begins with the line of plain fields
-pub records-line : (fields : List (List ℕ)) (rest : List ℕ) → 2 ≤ length fields → ArePlain fields → records default_config (record_line fields ++ rest) ≡ fields ∷ records default_config rest
+pub records-line : (fields : List (List ℕ)) (rest : List ℕ)
+    → 2 ≤ length fields → ArePlain fields → records default_config (record_line fields ++ rest) ≡ fields ∷ records default_config rest
 records-line fields rest two plain =
     let whole = length-append (record_line fields) rest in
     let line = length-append (join_with_byte 44 fields) (10 ∷ []) in

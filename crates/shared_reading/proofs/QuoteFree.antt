@@ -41,7 +41,8 @@ plain-start_field : (c : ℕ) → (c == 34) ≡ false → IsPlain (start_field d
 plain-start_field c q = rw q (plain-in_field c)
 
 plain-start_record : (c : ℕ) → (c == 34) ≡ false → IsPlain (start_record default_config c)
-plain-start_record c q = plain-cond ((c == 13) || (c == 10)) (st.StartRecord, act.Skip) (start_field default_config c) refl (plain-start_field c q)
+plain-start_record c q = plain-cond ((c == 13) || (c == 10))
+    (st.StartRecord, act.Skip) (start_field default_config c) refl (plain-start_field c q)
 
 plain-step : (s : State) (c : ℕ) → plain s ≡ true → (c == 34) ≡ false → IsPlain (step default_config s c)
 plain-step st.StartRecord c h q = plain-start_record c q
@@ -68,7 +69,8 @@ closed-from : (s : State) (a : List ℕ) → plain s ≡ true → has_quote a �
 unfolding state_after ends_line
 closed-from s [] h q e = cc e
 closed-from s (c ∷ []) h q e = subst (λ d. (step default_config s d).0 ≡ st.StartRecord) (sym (eqb-true c 10 e)) (plain-line s h)
-closed-from s (c ∷ d ∷ rest) h q e = let none = or_parts (c == 34) _ q in closed-from (step default_config s c).0 (d ∷ rest) (plain-step s c h none.0) none.1 e
+closed-from s (c ∷ d ∷ rest) h q e = let none = or_parts (c == 34) _ q in
+    closed-from (step default_config s c).0 (d ∷ rest) (plain-step s c h none.0) none.1 e
 
 -- Bytes without a quote that end in a line feed leave the reader between two records.
 pub closed : (a : List ℕ) → has_quote a ≡ false → ends_line a ≡ true → IsClosed a
@@ -117,8 +119,8 @@ strip-closed [] q e = closed [] q e
 strip-closed (x ∷ []) q e = closed (x ∷ []) q e
 strip-closed (x ∷ y ∷ []) q e = closed (x ∷ y ∷ []) q e
 strip-closed (x ∷ y ∷ z ∷ []) q e = rw (bom-third x y z e) (closed (x ∷ y ∷ z ∷ []) q e)
-strip-closed (x ∷ y ∷ z ∷ w ∷ r) q e =
-    go (closed (w ∷ r) (or_parts (z == 34) _ (or_parts (y == 34) _ (or_parts (x == 34) _ q).1).1).1 e) (closed (x ∷ y ∷ z ∷ w ∷ r) q e) (is_bom x y z) where
+strip-closed (x ∷ y ∷ z ∷ w ∷ r) q e = go (closed (w ∷ r) (or_parts (z == 34) _ (or_parts (y == 34) _ (or_parts (x == 34) _ q).1).1).1 e)
+    (closed (x ∷ y ∷ z ∷ w ∷ r) q e) (is_bom x y z) where
       go : IsClosed (w ∷ r) → IsClosed (x ∷ y ∷ z ∷ w ∷ r) → (t : Bool) → IsClosed (cond t (w ∷ r) (x ∷ y ∷ z ∷ w ∷ r))
       go without all true = without
       go without all false = all

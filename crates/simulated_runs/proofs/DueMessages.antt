@@ -7,7 +7,8 @@ use Rattle.simulated_runs.proofs.Filters.{filter-all, filter-none}
 
 before-earliest : (x earliest : ℕ) (posted : List Posted) → All (λ m. earliest ≤ m.due) posted → x < earliest
     → (m : Posted) → Contains posted m → is_due x m ≡ false
-before-earliest x earliest posted late before m c = lt-leb m.due x (let l = All-contains (λ m. earliest ≤ m.due) posted m late c in omega arith)
+before-earliest x earliest posted late before m c =
+    lt-leb m.due x (let l = All-contains (λ m. earliest ≤ m.due) posted m late c in omega arith)
 
 pub none-due : (x earliest : ℕ) (posted : List Posted) → All (λ m. earliest ≤ m.due) posted → x < earliest → due_ids x posted ≡ []
 none-due x earliest posted late before = ap ids_of (filter-none (is_due x) posted (before-earliest x earliest posted late before))

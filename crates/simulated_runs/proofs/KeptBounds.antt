@@ -12,15 +12,16 @@ within-ticks trace p x f one w = record {
   step = record { place = w.place; step = w.step; tick = one.each w.place (step_at_within trace.steps w.place _ w.step.1).1 };
 }
 
-pub PhiHolds-kept : (c : Setup) (crashes : List Crash) (bounds : Option StatedBounds) (queue : List Turn) (trace : Recorded) → IsOnePerTick trace
-    → IfSome bounds (λ b. KeepsPhi c crashes b.gst b.phi queue trace.steps)
+pub PhiHolds-kept : (c : Setup) (crashes : List Crash) (bounds : Option StatedBounds) (queue : List Turn) (trace : Recorded)
+    → IsOnePerTick trace → IfSome bounds (λ b. KeepsPhi c crashes b.gst b.phi queue trace.steps)
     → IfSome bounds (λ b. (set : ℕ) → AreLive set c crashes → PhiHolds set trace (b.gst + 1) b.phi)
 PhiHolds-kept c crashes None queue trace one w = w
 PhiHolds-kept c crashes (Some b) queue trace one w = λ set live. record {
   each = λ x low high p member. within-ticks trace p x b.phi one (w.kept x low (let e = one.end in omega arith) p (live p member));
 }
 
-delivered : (trace : Recorded) (s r y : ℕ) → IsOnePerTick trace → s ≤ length trace.steps → r ≤ y → IsTakenBy trace.steps s r → IsDelivered trace s y
+delivered : (trace : Recorded) (s r y : ℕ) → IsOnePerTick trace
+    → s ≤ length trace.steps → r ≤ y → IsTakenBy trace.steps s r → IsDelivered trace s y
 delivered trace s r y one early late w =
     let inside = (step_at_within trace.steps w.place _ w.takes.1).1 in
     let a = one.each s early in
@@ -39,6 +40,7 @@ DeltaHolds-kept (Some b) trays trace one w = λ set. record {
         let inside = (step_at_within trace.steps r _ receive.step).1 in
         let x = one.each s early in
         let y = one.each r inside in
-        delivered trace s r (tick_of trace r) one early (omega arith) (w.kept s p r (omega arith) (message.from, message.sent) receive (omega arith));
+        delivered trace s r (tick_of trace r) one early
+        (omega arith) (w.kept s p r (omega arith) (message.from, message.sent) receive (omega arith));
   };
 }

@@ -14,8 +14,8 @@ step-last steps x =
     let e : suc (length steps) ≡ length steps + 1 = omega arith in
     (x.act, subst (λ (k : ℕ). step_at (steps ++ x ∷ []) k ≡ Some x) e (step_at_last steps x))
 
-pub KeepsPhi-stepped : (c : Setup) (crashes : List Crash) (gst phi : ℕ) (old new : List Turn) (steps : List Step) (x : Step) (p : ℕ) → x.proc ≡ p
-    → MayStep old (length steps + 1) p → ArePassed gst phi old new (length steps + 1) p → KeepsPhi c crashes gst phi old steps
+pub KeepsPhi-stepped : (c : Setup) (crashes : List Crash) (gst phi : ℕ) (old new : List Turn) (steps : List Step) (x : Step) (p : ℕ)
+    → x.proc ≡ p → MayStep old (length steps + 1) p → ArePassed gst phi old new (length steps + 1) p → KeepsPhi c crashes gst phi old steps
     → KeepsPhi c crashes gst phi new (steps ++ x ∷ [])
 KeepsPhi-stepped c crashes gst phi old new steps x p own may passed k = record {
   few = let a = passed.count in let b = k.few in omega arith;
@@ -40,7 +40,8 @@ KeepsPhi-stepped c crashes gst phi old new steps x p own may passed k = record {
       | inr moved ↦ of (cases_lt gst (length steps + 1)) moved.1
     ]
       where
-        of : (gst < length steps + 1) ⊎ (length steps + 1 ≤ gst) → t ≡ next_turn gst phi (length steps + 1) p → IsSinceStep gst phi (steps ++ x ∷ []) t
+        of : (gst < length steps + 1) ⊎ (length steps + 1 ≤ gst)
+            → t ≡ next_turn gst phi (length steps + 1) p → IsSinceStep gst phi (steps ++ x ∷ []) t
         of (inl late) e =
             let due : t.deadline ≡ max (length steps + 1) gst + phi = ap (λ (z : Turn). z.deadline) e in
             let same : x.proc ≡ t.proc = own ∙ sym (ap (λ (z : Turn). z.proc) e) in
@@ -49,8 +50,8 @@ KeepsPhi-stepped c crashes gst phi old new steps x p own may passed k = record {
             let due : t.deadline ≡ max (length steps + 1) gst + phi = ap (λ (z : Turn). z.deadline) e in
             inl (omega arith)
 
-    kept : (y : ℕ) → gst + 1 ≤ y → y + phi ≤ length (steps ++ x ∷ []) + 1 → (q : ℕ) → IsLive c crashes q → (length steps + 1 < y + phi) ⊎ (y + phi ≤ length steps + 1)
-        → StepsFrom (steps ++ x ∷ []) q y phi
+    kept : (y : ℕ) → gst + 1 ≤ y → y + phi ≤ length (steps ++ x ∷ []) + 1
+        → (q : ℕ) → IsLive c crashes q → (length steps + 1 < y + phi) ⊎ (y + phi ≤ length steps + 1) → StepsFrom (steps ++ x ∷ []) q y phi
     kept y low high q live (inr before) =
         let w = k.kept y low before q live in
         record { place = w.place; from = w.from; until = w.until; step = step-old steps x w.place q w.step }
@@ -58,8 +59,10 @@ KeepsPhi-stepped c crashes gst phi old new steps x p own may passed k = record {
         let turn = passed.kept q (k.each q live) in
         at turn.0 turn.1.0 turn.1.1 turn.2 (since turn.0 turn.1)
       where
-        at : (t : Turn) (place : ℕ) → slice_get new place ≡ Some t → t.proc ≡ q → IsSinceStep gst phi (steps ++ x ∷ []) t → StepsFrom (steps ++ x ∷ []) q y phi
-        at t place h same (inl early) = let l = timed place t h in let n : length (steps ++ x ∷ []) ≡ length steps + 1 = long in absurd (omega arith)
+        at : (t : Turn) (place : ℕ) → slice_get new place ≡ Some t
+            → t.proc ≡ q → IsSinceStep gst phi (steps ++ x ∷ []) t → StepsFrom (steps ++ x ∷ []) q y phi
+        at t place h same (inl early) = let l = timed place t h in
+            let n : length (steps ++ x ∷ []) ≡ length steps + 1 = long in absurd (omega arith)
         at t place h same (inr step) =
             let l = timed place t h in
             let e : t.deadline ≡ step.0 + phi = step.1 in

@@ -33,7 +33,8 @@ sent-old steps x s p early h = elim (step_at-push_cases steps x _ s h.1) [
 ]
 
 -- what was sent is taken, or waits
-taken-or-waits : (c : Setup) (steps : List Step) (s p : ℕ) → IsWellFormed c steps → IsSentTo steps s p → IsTakenBy steps s (length steps) ⊎ Contains (buffer steps p) s
+taken-or-waits : (c : Setup) (steps : List Step) (s p : ℕ)
+    → IsWellFormed c steps → IsSentTo steps s p → IsTakenBy steps s (length steps) ⊎ Contains (buffer steps p) s
 taken-or-waits c steps s p w h = of (is_taken steps s) refl
   where
     within : (0 < s) × (s ≤ length steps)
@@ -48,25 +49,27 @@ taken-or-waits c steps s p w h = of (is_taken steps s) refl
         let early = w.earlier t.0 s t.1.0 t.1.1 t.1.2 in
         let inside = step_at_within steps t.0 _ t.1.1 in
         inl (record { place = t.0; after = early.0; until = inside.1; takes = t.1 })
-    of false e = inr (Contains-filter (waits_for steps p) (numbers steps) s (Contains-numbers steps s (let l = within.0 in omega arith) within.1)
-        (and_from (is_sent_to steps s p) (not (is_taken steps s)) sent (ap not e)))
+    of false e = inr (Contains-filter (waits_for steps p) (numbers steps) s (Contains-numbers steps s
+        (let l = within.0 in omega arith) within.1) (and_from (is_sent_to steps s p) (not (is_taken steps s)) sent (ap not e)))
 
 -- the bound is still kept for Receives before the last step
-kept-old : (gst delta : ℕ) (steps : List Step) (x : Step) (s p r : ℕ) → 1 ≤ delta → ((s p r : ℕ) → gst < s → IsSentTo steps s p → IsReceiveOf steps r p → s + delta ≤ r → IsTakenBy steps s r)
+kept-old : (gst delta : ℕ) (steps : List Step) (x : Step) (s p r : ℕ)
+    → 1 ≤ delta → ((s p r : ℕ) → gst < s → IsSentTo steps s p → IsReceiveOf steps r p → s + delta ≤ r → IsTakenBy steps s r)
     → gst < s → IsSentTo (steps ++ x ∷ []) s p → s + delta ≤ r → IsReceiveOf steps r p → IsTakenBy (steps ++ x ∷ []) s r
 kept-old gst delta steps x s p r some kept late sent by received =
     let inside = (step_at_within steps r _ received.step).1 in
     taken-old steps x s r (kept s p r late (sent-old steps x s p (omega arith) sent) received by)
 
 -- a Send keeps it, if its message is due in time
-pub KeepsDelta-sent : (c : Setup) (gst delta p to due x : ℕ) (steps : List Step) (old new : List (List Posted)) → IsWellFormed c steps → 1 ≤ delta → 1 ≤ to → to ≤ length old
-    → length new ≡ length old → x ≡ length steps + 1
-    → ((x ≤ gst) × (new ≡ old)) ⊎ ((due ≤ max x gst + delta) × (new ≡ with_tray old to (tray_of old to ++ record { id = x; due = due } ∷ [])))
+pub KeepsDelta-sent : (c : Setup) (gst delta p to due x : ℕ) (steps : List Step) (old new : List (List Posted)) → IsWellFormed c steps
+    → 1 ≤ delta → 1 ≤ to → to ≤ length old → length new ≡ length old → x ≡ length steps + 1 → ((x ≤ gst) × (new ≡ old))
+    ⊎ ((due ≤ max x gst + delta) × (new ≡ with_tray old to (tray_of old to ++ record { id = x; due = due } ∷ [])))
     → KeepsDelta gst delta steps old → KeepsDelta gst delta (steps ++ sending p to ∷ []) new
 KeepsDelta-sent c gst delta p to due x steps old new w some low high long e posted k = record {
   on_time = λ q s low2 high2 late waits. on_time q s low2 (omega arith) late waits (cases_eq to q);
   kept = λ s q r late sent received by. elim (step_at-push_cases steps (sending p to) _ r received.step) [
-    | inl before ↦ kept-old gst delta steps (sending p to) s q r some k.kept late sent by (record { ids = received.ids; ends = received.ends; step = before })
+    | inl before ↦ kept-old gst delta steps (sending p to) s q r some k.kept late sent by
+        (record { ids = received.ids; ends = received.ends; step = before })
     | inr last ↦ absurd (send-no-receive q received.ends received.ids last.1)
   ];
 }
@@ -89,7 +92,8 @@ KeepsDelta-sent c gst delta p to due x steps old new w some low high long e post
         in_tray (inl same) = subst (λ (r : ℕ). Contains (tray_of (with_tray old to (tray_of old to ++ added ∷ [])) r) m.0) same
             (subst (λ (xs : List Posted). Contains xs m.0) (sym (tray-same old to (tray_of old to ++ added ∷ []) low high))
             (Contains-append_left (tray_of old to) (added ∷ []) m.0 (subst (λ (r : ℕ). Contains (tray_of old r) m.0) (sym same) m.1)))
-        in_tray (inr other) = subst (λ (xs : List Posted). Contains xs m.0) (sym (tray-other old to q (tray_of old to ++ added ∷ []) low low2 other)) m.1
+        in_tray (inr other) = subst (λ (xs : List Posted). Contains xs m.0)
+            (sym (tray-other old to q (tray_of old to ++ added ∷ []) low low2 other)) m.1
 
     -- the message that is sent is on time
     fresh : (s : ℕ) → x ≡ s → gst < s → (m : Posted) × Contains (tray_of new to) m × (m.id ≡ s) × (m.due ≤ s + delta)
@@ -108,26 +112,33 @@ KeepsDelta-sent c gst delta p to due x steps old new w some low high long e post
     on_time : (q s : ℕ) → 1 ≤ q → q ≤ length old → gst < s → Contains (buffer (steps ++ sending p to ∷ []) q) s → (to ≡ q) ⊎ (to ≢ q)
         → (m : Posted) × Contains (tray_of new q) m × (m.id ≡ s) × (m.due ≤ s + delta)
     on_time q s low2 high2 late waits (inr other) =
-        let before : Contains (buffer steps q) s = subst (λ (xs : List ℕ). Contains xs s) (buffer-sent_elsewhere c steps p to q w other) waits in
+        let before : Contains (buffer steps q) s =
+        subst (λ (xs : List ℕ). Contains xs s) (buffer-sent_elsewhere c steps p to q w other) waits in
         still q s low2 high2 (k.on_time q s low2 high2 late before) (inr other)
     on_time q s low2 high2 late waits (inl same) =
-        let mine : Contains (buffer (steps ++ sending p to ∷ []) to) s = subst (λ (r : ℕ). Contains (buffer (steps ++ sending p to ∷ []) r) s) (sym same) waits in
-        elim (Contains-append_cases (buffer steps to) (suc (length steps) ∷ []) s (subst (λ (xs : List ℕ). Contains xs s) (buffer-sent_to c steps p to w) mine)) [
-          | inl before ↦ still q s low2 high2 (k.on_time q s low2 high2 late (subst (λ (r : ℕ). Contains (buffer steps r) s) same before)) (inl same)
+        let mine : Contains (buffer (steps ++ sending p to ∷ []) to) s =
+        subst (λ (r : ℕ). Contains (buffer (steps ++ sending p to ∷ []) r) s) (sym same) waits in
+        elim (Contains-append_cases (buffer steps to)
+        (suc (length steps) ∷ []) s (subst (λ (xs : List ℕ). Contains xs s) (buffer-sent_to c steps p to w) mine)) [
+          | inl before ↦ still q s low2 high2
+              (k.on_time q s low2 high2 late (subst (λ (r : ℕ). Contains (buffer steps r) s) same before)) (inl same)
           | inr last ↦ elim (Contains-cons_cases (suc (length steps)) s [] last) [
-            | inl is ↦ subst (λ (r : ℕ). (m : Posted) × Contains (tray_of new r) m × (m.id ≡ s) × (m.due ≤ s + delta)) same (fresh s (let f : suc (length steps) ≡ s = is in omega arith) late)
+            | inl is ↦ subst (λ (r : ℕ). (m : Posted) × Contains (tray_of new r) m × (m.id ≡ s) × (m.due ≤ s + delta)) same
+                (fresh s (let f : suc (length steps) ≡ s = is in omega arith) late)
             | inr none ↦ absurd (Contains-nil s none)
           ]
         ]
 
 -- a Receive of what is due keeps it
-pub KeepsDelta-received : (c : Setup) (gst delta p x : ℕ) (ends : Bool) (steps : List Step) (old new : List (List Posted)) → IsWellFormed c steps → 1 ≤ delta → 1 ≤ p → p ≤ length old
+pub KeepsDelta-received : (c : Setup) (gst delta p x : ℕ) (ends : Bool) (steps : List Step) (old new : List (List Posted))
+    → IsWellFormed c steps → 1 ≤ delta → 1 ≤ p → p ≤ length old
     → length new ≡ length old → x ≡ length steps + 1 → new ≡ with_tray old p (not_due x (tray_of old p))
     → KeepsDelta gst delta steps old → KeepsDelta gst delta (steps ++ receiving p ends (due_ids x (tray_of old p)) ∷ []) new
 KeepsDelta-received c gst delta p x ends steps old new w some low high long e made k = record {
   on_time = λ q s low2 high2 late waits. on_time q s low2 (omega arith) late (split q s waits) (cases_eq p q);
   kept = λ s q r late sent received by. elim (step_at-push_cases steps step _ r received.step) [
-    | inl before ↦ kept-old gst delta steps step s q r some k.kept late sent by (record { ids = received.ids; ends = received.ends; step = before })
+    | inl before ↦ kept-old gst delta steps step s q r some k.kept late sent by
+        (record { ids = received.ids; ends = received.ends; step = before })
     | inr last ↦ now s q r late sent by last.0 (ap (λ (z : Step). z.proc) last.1)
   ];
 }
@@ -148,15 +159,17 @@ KeepsDelta-received c gst delta p x ends steps old new w some low high long e ma
     due-id : (m : Posted) → Contains taken m → is_due x m ≡ true → Contains (due_ids x taken) m.id
     due-id m d due = Contains-map (λ (z : Posted). z.id) (filter (is_due x) taken) m (Contains-filter (is_due x) taken m d due)
 
-    left : (m : Posted) (s : ℕ) → m.id ≡ s → Contains taken m → not (list_any (λ i. i == s) (due_ids x taken)) ≡ true → (b : Bool) → is_due x m ≡ b → Contains (not_due x taken) m
+    left : (m : Posted) (s : ℕ) → m.id ≡ s → Contains taken m
+        → not (list_any (λ i. i == s) (due_ids x taken)) ≡ true → (b : Bool) → is_due x m ≡ b → Contains (not_due x taken) m
     left m s is d none true due =
         let in_ids : Contains (due_ids x taken) s = subst (λ (i : ℕ). Contains (due_ids x taken) i) is (due-id m d due) in
-        let found : list_any (λ i. i == s) (due_ids x taken) ≡ true = list_any-at (λ i. i == s) (due_ids x taken) s in_ids (eq-eqb s s refl) in
+        let found : list_any (λ i. i == s) (due_ids x taken)
+        ≡ true = list_any-at (λ i. i == s) (due_ids x taken) s in_ids (eq-eqb s s refl) in
         cc
     left m s is d none false due = Contains-filter (λ (z : Posted). not (is_due x z)) taken m d (ap not due)
 
-    on_time : (q s : ℕ) → 1 ≤ q → q ≤ length old → gst < s → Contains (buffer steps q) s × (not (list_any (λ i. i == s) (due_ids x taken)) ≡ true)
-        → (p ≡ q) ⊎ (p ≢ q) → (m : Posted) × Contains (tray_of new q) m × (m.id ≡ s) × (m.due ≤ s + delta)
+    on_time : (q s : ℕ) → 1 ≤ q → q ≤ length old → gst < s → Contains (buffer steps q) s × (not (list_any (λ i. i == s) (due_ids x taken))
+        ≡ true) → (p ≡ q) ⊎ (p ≢ q) → (m : Posted) × Contains (tray_of new q) m × (m.id ≡ s) × (m.due ≤ s + delta)
     on_time q s low2 high2 late waits (inr other) =
         let m = k.on_time q s low2 high2 late waits.0 in (
           m.0,
@@ -177,8 +190,8 @@ KeepsDelta-received c gst delta p x ends steps old new w some low high long e ma
         )
 
     now : (s q r : ℕ) → gst < s → IsSentTo all s q → s + delta ≤ r → r ≡ length steps + 1 → p ≡ q → IsTakenBy all s r
-    now s q r late sent by at same =
-        elim (taken-or-waits c steps s p w (subst (λ (i : ℕ). IsSentTo steps s i) (sym same) (sent-old steps step s q (omega arith) sent))) [
+    now s q r late sent by at same = elim
+        (taken-or-waits c steps s p w (subst (λ (i : ℕ). IsSentTo steps s i) (sym same) (sent-old steps step s q (omega arith) sent))) [
           | inl t ↦
               let o = taken-old steps step s (length steps) t in
               record { place = o.place; after = o.after; until = (let u = o.until in omega arith); takes = o.takes }
@@ -186,24 +199,27 @@ KeepsDelta-received c gst delta p x ends steps old new w some low high long e ma
               let m = k.on_time p s low high late waits in
               let due : is_due x m.0 ≡ true = le-leb m.0.due x (let d = m.3 in omega arith) in
               let takes : Contains (due_ids x taken) s = subst (λ (i : ℕ). Contains (due_ids x taken) i) m.2 (due-id m.0 m.1 due) in
-              let last : step_at all (length steps + 1) ≡ Some step = let f : suc (length steps) ≡ length steps + 1 = omega arith in subst (λ (i : ℕ). step_at all i ≡ Some step) f (step_at_last steps step) in
+              let last : step_at all (length steps + 1) ≡ Some step = let f : suc (length steps) ≡ length steps + 1 = omega arith in
+              subst (λ (i : ℕ). step_at all i ≡ Some step) f (step_at_last steps step) in
               record { place = length steps + 1; after = omega arith; until = omega arith; takes = (step, last, takes) }
         ]
 
 -- if bounds are stated
-pub goes-on-sent : (c : Setup) (bounds : Option StatedBounds) (p to x : ℕ) (steps : List Step) (old new : List (List Posted)) → IsWellFormed c steps → 1 ≤ to → to ≤ length old
-    → length new ≡ length old → x ≡ length steps + 1 → IsPosted bounds old new to x → DeltaGoesOn bounds steps old (steps ++ sending p to ∷ []) new
+pub goes-on-sent : (c : Setup) (bounds : Option StatedBounds) (p to x : ℕ) (steps : List Step) (old new : List (List Posted))
+    → IsWellFormed c steps → 1 ≤ to → to ≤ length old → length new ≡ length old
+    → x ≡ length steps + 1 → IsPosted bounds old new to x → DeltaGoesOn bounds steps old (steps ++ sending p to ∷ []) new
 goes-on-sent c None p to x steps old new w low high long e posted = tt
 goes-on-sent c (Some b) p to x steps old new w low high long e (inl lost) =
     λ k. KeepsDelta-sent c b.gst b.delta p to 0 x steps old new w b.some low high long e (inl lost) k
 goes-on-sent c (Some b) p to x steps old new w low high long e (inr made) =
     λ k. KeepsDelta-sent c b.gst b.delta p to made.0 x steps old new w b.some low high long e (inr (made.1.within, made.2)) k
 
-pub goes-on-received : (c : Setup) (bounds : Option StatedBounds) (p x : ℕ) (ends : Bool) (steps : List Step) (old new : List (List Posted)) → IsWellFormed c steps → 1 ≤ p → p ≤ length old
-    → length new ≡ length old → x ≡ length steps + 1 → new ≡ with_tray old p (not_due x (tray_of old p))
-    → DeltaGoesOn bounds steps old (steps ++ receiving p ends (due_ids x (tray_of old p)) ∷ []) new
+pub goes-on-received : (c : Setup) (bounds : Option StatedBounds) (p x : ℕ) (ends : Bool) (steps : List Step) (old new : List (List Posted))
+    → IsWellFormed c steps → 1 ≤ p → p ≤ length old → length new ≡ length old → x ≡ length steps + 1 → new ≡ with_tray old p
+    (not_due x (tray_of old p)) → DeltaGoesOn bounds steps old (steps ++ receiving p ends (due_ids x (tray_of old p)) ∷ []) new
 goes-on-received c None p x ends steps old new w low high long e made = tt
-goes-on-received c (Some b) p x ends steps old new w low high long e made = λ k. KeepsDelta-received c b.gst b.delta p x ends steps old new w b.some low high long e made k
+goes-on-received c (Some b) p x ends steps old new w low high long e made =
+    λ k. KeepsDelta-received c b.gst b.delta p x ends steps old new w b.some low high long e made k
 
 -- before the first step
 pub KeepsDelta-opening : (gst delta : ℕ) (trays : List (List Posted)) → KeepsDelta gst delta [] trays

@@ -67,8 +67,10 @@ IsUp-in n crashes p x u =
 pub IsUpIn-live : (c : Setup) (crashes : List Crash) (p x : ℕ) → x ≤ 1000000 → IsLive c crashes p → IsUpIn (lasts_of c.n crashes) p x
 IsUpIn-live c crashes p x early w = record {
   low = w.0.0;
-  high = let long : length (lasts_of c.n crashes) ≡ c.n = length-map-range_with_len (last_tick crashes) 1 c.n in let h = w.0.1 in omega arith;
-  up = subst (λ (k : ℕ). x ≤ k) (sym (last-at c.n crashes p w.0.0 w.0.1 ∙ fold-live p (2 ^ 64 - 1) crashes (no (list_any (is_crash_of p) crashes) w.1))) (omega arith);
+  high = let long : length (lasts_of c.n crashes) ≡ c.n = length-map-range_with_len (last_tick crashes) 1 c.n in
+      let h = w.0.1 in omega arith;
+  up = subst (λ (k : ℕ). x ≤ k) (sym (last-at c.n crashes p w.0.0 w.0.1
+      ∙ fold-live p (2 ^ 64 - 1) crashes (no (list_any (is_crash_of p) crashes) w.1))) (omega arith);
 }
   where
     no : (b : Bool) → not b ≡ true → b ≡ false
@@ -80,15 +82,16 @@ pub live-some : (c : Setup) (crashes : List Crash) → IsSetup c → c.n ≤ len
 live-some c crashes setup most = first (live c.n crashes) refl
   where
     first : (ps : List ℕ) → live c.n crashes ≡ ps → (p : ℕ) × IsLive c crashes p
-    first [] e = let none : length (live c.n crashes) ≡ 0 = ap length e in let f = setup.faults in let l = setup.least in absurd (omega arith)
+    first [] e = let none : length (live c.n crashes) ≡ 0 = ap length e in
+        let f = setup.faults in let l = setup.least in absurd (omega arith)
     first (p ∷ ps) e =
         let d : Contains (live c.n crashes) p = subst (λ (xs : List ℕ). Contains xs p) (sym e) (Contains-head p ps) in
         let w = Contains-from_filter (is_live crashes) (range_with_len 1 c.n) p d in
         (p, (IsProc-from_processors c p w.0, w.1))
 
 -- one step more of one that is up
-pub StepBeforeCrashes-stepped : (n : ℕ) (crashes : List Crash) (steps : List Step) (x : Step) → IsUpIn (lasts_of n crashes) x.proc (length steps + 1)
-    → StepBeforeCrashes crashes steps → StepBeforeCrashes crashes (steps ++ x ∷ [])
+pub StepBeforeCrashes-stepped : (n : ℕ) (crashes : List Crash) (steps : List Step) (x : Step)
+    → IsUpIn (lasts_of n crashes) x.proc (length steps + 1) → StepBeforeCrashes crashes steps → StepBeforeCrashes crashes (steps ++ x ∷ [])
 StepBeforeCrashes-stepped n crashes steps x up before k y h = elim (step_at-push_cases steps x y k h) [
   | inl old ↦ before k y old
   | inr last ↦

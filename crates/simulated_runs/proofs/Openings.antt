@@ -19,7 +19,8 @@ use Rattle.simulated_runs.specs.Nominations.{IsNominating}
 use Rattle.simulated_runs.proofs.KeptDues.{KeepsDelta-opening}
 
 -- what was mapped
-mapped-at : {X Y : Type 0} (f : X → Y) (xs : List X) (k : ℕ) (y : Y) → slice_get (map f xs) k ≡ Some y → (x : X) × (slice_get xs k ≡ Some x) × (f x ≡ y)
+mapped-at : {X Y : Type 0} (f : X → Y) (xs : List X) (k : ℕ) (y : Y)
+    → slice_get (map f xs) k ≡ Some y → (x : X) × (slice_get xs k ≡ Some x) × (f x ≡ y)
 mapped-at f [] k y h = absurd (none-some y h)
 mapped-at f (x ∷ xs) zero y h = (x, refl, same_Some (f x) y h)
 mapped-at f (x ∷ xs) (suc k) y h = mapped-at f xs k y h
@@ -56,8 +57,15 @@ KeepsPhi-opening c crashes gst phi few = record {
       let due : gst + phi ≡ t.deadline = ap (λ (z : Turn). z.deadline) w.2 in
       inl (omega arith);
   each = λ p live_p.
-      let d = in-live c crashes p live_p in
-      (turn_of (gst + phi) p, (d.0, mapped (turn_of (gst + phi)) (live c.n crashes) d.0 p (slice_get-get_or (live c.n crashes) d.0 p d.1 ∙ ap (λ y. Some y) d.2)), refl);
+      let d = in-live c crashes p live_p in (
+        turn_of (gst + phi) p,
+        (
+          d.0,
+          mapped (turn_of (gst + phi))
+              (live c.n crashes) d.0 p (slice_get-get_or (live c.n crashes) d.0 p d.1 ∙ ap (λ y. Some y) d.2),
+        ),
+        refl,
+      );
   kept = λ x low high p live_p. let d = in-live c crashes p live_p in let l = d.1 in absurd (omega arith);
 }
 
@@ -74,12 +82,15 @@ tray-none n p low high = get_or-replicate n (p - 1) [] [] (omega arith)
 under-all : (steps : List Step) (n : ℕ) (trays : List (List Posted)) → trays ≡ replicate n [] → AreUnderWay steps trays
 under-all steps n trays e p low high =
     let long : length trays ≡ n = ap length e ∙ length-replicate n [] in
-    subst (λ (xs : List Posted). IsUnderWay steps p xs) (sym (ap (λ (all : List (List Posted)). tray_of all p) e ∙ tray-none n p low (omega arith))) (under-none steps p)
+    subst (λ (xs : List Posted). IsUnderWay steps p xs)
+    (sym (ap (λ (all : List (List Posted)). tray_of all p) e ∙ tray-none n p low (omega arith))) (under-none steps p)
 
-live-turn : (c : Setup) (crashes : List Crash) (deadline : ℕ) (t : Turn) → IsTurnIn (map (turn_of deadline) (live c.n crashes)) t → IsLive c crashes t.proc
+live-turn : (c : Setup) (crashes : List Crash) (deadline : ℕ) (t : Turn)
+    → IsTurnIn (map (turn_of deadline) (live c.n crashes)) t → IsLive c crashes t.proc
 live-turn c crashes deadline t h =
     let w = mapped-at (turn_of deadline) (live c.n crashes) h.0 t h.1 in
-    subst (λ (q : ℕ). IsLive c crashes q) (ap (λ (z : Turn). z.proc) w.2) (live-in c crashes w.0 (Contains-slice_get (live c.n crashes) h.0 w.0 w.1))
+    subst (λ (q : ℕ). IsLive c crashes q) (ap (λ (z : Turn). z.proc) w.2)
+    (live-in c crashes w.0 (Contains-slice_get (live c.n crashes) h.0 w.0 w.1))
 
 -- what the turns are
 record AreFit (c : Setup) (crashes : List Crash) (bounds : Option StatedBounds) (s : Turns) : Type 0 where
@@ -90,7 +101,8 @@ record AreFit (c : Setup) (crashes : List Crash) (bounds : Option StatedBounds) 
   gst_same : IfSome bounds (λ b. s.gst ≡ b.gst)
   phi_same : IfSome bounds (λ b. s.phi ≡ b.phi)
 
-AreFit-opening : (c : Setup) (crashes : List Crash) (bounds : Option StatedBounds) (s : Turns) → IfSome bounds (λ b. length (live c.n crashes) ≤ b.phi)
+AreFit-opening : (c : Setup) (crashes : List Crash) (bounds : Option StatedBounds) (s : Turns)
+    → IfSome bounds (λ b. length (live c.n crashes) ≤ b.phi)
     → IfSome bounds (λ b. (b.gst ≤ MAX_BOUND) × (b.phi ≤ MAX_BOUND)) → AreOpeningTurns c.n crashes bounds s → AreFit c crashes bounds s
 AreFit-opening c crashes None s few low w = record {
   count = let e : length s.queue.items ≡ 0 = ap length w.0 in omega arith;
@@ -101,7 +113,8 @@ AreFit-opening c crashes None s few low w = record {
   phi_same = tt;
 }
 AreFit-opening c crashes (Some b) s few low w = record {
-  count = let e : length s.queue.items ≡ length (live c.n crashes) = ap length w.0 ∙ length-map (live c.n crashes) (turn_of (b.gst + b.phi)) in let f = low.1 in omega arith;
+  count = let e : length s.queue.items ≡ length (live c.n crashes) = ap length w.0
+      ∙ length-map (live c.n crashes) (turn_of (b.gst + b.phi)) in let f = low.1 in omega arith;
   small = let e = w.1 in let f = w.2 in let g = low.0 in let h = low.1 in omega arith;
   live_ones = λ t h. live-turn c crashes (b.gst + b.phi) t (h.0, subst (λ (xs : List Turn). slice_get xs h.0 ≡ Some t) w.0 h.1);
   phi_kept = subst (λ (xs : List Turn). KeepsPhi c crashes b.gst b.phi xs []) (sym w.0) (KeepsPhi-opening c crashes b.gst b.phi few);
@@ -109,17 +122,18 @@ AreFit-opening c crashes (Some b) s few low w = record {
   phi_same = w.2;
 }
 
-pub HasRun-opening : (c : Setup) (crashes : List Crash) (bounds : Option StatedBounds) (s : Simulation) (patience : ℕ) → IsSetup c → s.world.trace.config ≡ c → s.world.trace.steps ≡ []
+pub HasRun-opening : (c : Setup) (crashes : List Crash) (bounds : Option StatedBounds) (s : Simulation) (patience : ℕ)
+    → IsSetup c → s.world.trace.config ≡ c → s.world.trace.steps ≡ []
     → s.paces.items ≡ replicate c.n (opening_pace c patience) → s.lasts.items ≡ lasts_of c.n crashes → s.post.trays.items ≡ replicate c.n []
-    → s.post.bounds ≡ bounds → IsNominating 0 s.nominator → AreOpeningTurns c.n crashes bounds s.turns
-    → IfSome bounds (λ b. length (live c.n crashes) ≤ b.phi) → IfSome bounds (λ b. (b.gst ≤ MAX_BOUND) × (b.phi ≤ MAX_BOUND))
-    → HasRun c crashes bounds s 0
+    → s.post.bounds ≡ bounds → IsNominating 0 s.nominator → AreOpeningTurns c.n crashes bounds s.turns → IfSome bounds
+    (λ b. length (live c.n crashes) ≤ b.phi) → IfSome bounds (λ b. (b.gst ≤ MAX_BOUND) × (b.phi ≤ MAX_BOUND)) → HasRun c crashes bounds s 0
 HasRun-opening c crashes bounds s patience setup config none paces lasts trays stated nominating turns few low = record {
   ready = record {
     setup = subst (λ (d : Setup). IsSetup d) (sym config) setup;
     paces = ap length paces ∙ length-replicate c.n (opening_pace c patience) ∙ sym size;
     peers = subst (λ (xs : List Paced). All (λ pace. length pace.peers ≡ s.world.trace.config.n) xs) (sym paces)
-        (λ k d l. ap (λ (x : Paced). length x.peers) (get_or-replicate c.n k (opening_pace c patience) d (let e = length-replicate c.n (opening_pace c patience) in omega arith)) ∙ length-replicate c.n _ ∙ sym size);
+        (λ k d l. ap (λ (x : Paced). length x.peers) (get_or-replicate c.n k (opening_pace c patience) d
+        (let e = length-replicate c.n (opening_pace c patience) in omega arith)) ∙ length-replicate c.n _ ∙ sym size);
     lasts = ap length lasts ∙ lasts-long ∙ sym size;
     trays = ap length trays ∙ length-replicate c.n [] ∙ sym size;
     under_way = under-all s.world.trace.steps c.n s.post.trays.items trays;
@@ -147,7 +161,8 @@ HasRun-opening c crashes bounds s patience setup config none paces lasts trays s
 
     on_time : (b : Option StatedBounds) → IfSome b (λ b. KeepsDelta b.gst b.delta s.world.trace.steps s.post.trays.items)
     on_time None = tt
-    on_time (Some b) = subst (λ (xs : List Step). KeepsDelta b.gst b.delta xs s.post.trays.items) (sym none) (KeepsDelta-opening b.gst b.delta s.post.trays.items)
+    on_time (Some b) = subst (λ (xs : List Step). KeepsDelta b.gst b.delta xs s.post.trays.items)
+        (sym none) (KeepsDelta-opening b.gst b.delta s.post.trays.items)
 
     lasts-long : length (lasts_of c.n crashes) ≡ c.n
     lasts-long = length-map-range_with_len (last_tick crashes) 1 c.n
@@ -156,7 +171,8 @@ HasRun-opening c crashes bounds s patience setup config none paces lasts trays s
     step-none zero x h = none-some x h
     step-none (suc k) x h = none-some x h
 
-    kept : (b : Option StatedBounds) → IfSome b (λ b. KeepsPhi c crashes b.gst b.phi s.turns.queue.items []) → IfSome b (λ b. KeepsPhi c crashes b.gst b.phi s.turns.queue.items s.world.trace.steps)
+    kept : (b : Option StatedBounds) → IfSome b (λ b. KeepsPhi c crashes b.gst b.phi s.turns.queue.items [])
+        → IfSome b (λ b. KeepsPhi c crashes b.gst b.phi s.turns.queue.items s.world.trace.steps)
     kept None w = w
     kept (Some b) w = subst (λ (xs : List Step). KeepsPhi c crashes b.gst b.phi s.turns.queue.items xs) (sym none) w
 

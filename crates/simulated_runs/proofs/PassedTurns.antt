@@ -60,7 +60,8 @@ ArePassed-moved gst phi x p place old within found = record {
     last : HasTurn (remove old place ++ turn ∷ []) p
     last = (turn, (length (remove old place), slice_get-last (remove old place) turn), refl)
 
-    moved : (q : ℕ) (t : Turn) → (i : ℕ) × (slice_get (remove old place) i ≡ Some t) → t.proc ≡ q → HasTurn (remove old place ++ turn ∷ []) q
+    moved : (q : ℕ) (t : Turn) → (i : ℕ) × (slice_get (remove old place) i ≡ Some t)
+        → t.proc ≡ q → HasTurn (remove old place ++ turn ∷ []) q
     moved q t w e = (t, (w.0, slice_get-push_old (remove old place) turn t w.0 w.1), e)
 
     kept : (q : ℕ) (t : Turn) (k : ℕ) → slice_get old k ≡ Some t → t.proc ≡ q → (k < place) ⊎ (place ≤ k) → (place < k) ⊎ (k ≤ place)
@@ -86,8 +87,8 @@ ArePassed-moved gst phi x p place old within found = record {
         omega arith
 
 -- the same of what a call left
-pub ArePassed-made : {R E : Type 0} (gst phi x p place : ℕ) (old new : List Turn) (result : Result R E) → place < length old → IsFirstTurn old p place
-    → OnOk result (new ≡ remove old place ++ next_turn gst phi x p ∷ []) → OnOk result (ArePassed gst phi old new x p)
+pub ArePassed-made : {R E : Type 0} (gst phi x p place : ℕ) (old new : List Turn) (result : Result R E) → place < length old → IsFirstTurn
+    old p place → OnOk result (new ≡ remove old place ++ next_turn gst phi x p ∷ []) → OnOk result (ArePassed gst phi old new x p)
 ArePassed-made gst phi x p place old new (Ok v) within found e =
     subst (λ queue. ArePassed gst phi old queue x p) (sym e) (ArePassed-moved gst phi x p place old within found)
 ArePassed-made gst phi x p place old new (Err v) within found e = tt

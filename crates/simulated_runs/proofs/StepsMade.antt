@@ -7,23 +7,27 @@ use Rattle.simulated_runs.proofs.LastTicks.{IsUpIn-live, StepBeforeCrashes-stepp
 use Rattle.simulated_runs.proofs.KeptDeadlines.{KeepsPhi-stepped}
 
 -- each turn is of one who may step in the next tick
-pub turns-up : (c : Setup) (crashes : List Crash) (bounds : Option StatedBounds) (s : Simulation) (ticks : ℕ) → HasRun c crashes bounds s ticks → ticks < 1000000
-    → (t : Turn) → IsTurnIn s.turns.queue.items t → IsUpIn s.lasts.items t.proc (length s.world.trace.steps + 1)
+pub turns-up : (c : Setup) (crashes : List Crash) (bounds : Option StatedBounds) (s : Simulation) (ticks : ℕ) → HasRun c crashes bounds
+    s ticks → ticks < 1000000 → (t : Turn) → IsTurnIn s.turns.queue.items t → IsUpIn s.lasts.items t.proc (length s.world.trace.steps + 1)
 turns-up c crashes bounds s ticks r early t h =
     let n = r.count in
-    subst (λ (lasts : List ℕ). IsUpIn lasts t.proc (length s.world.trace.steps + 1)) (sym r.lasts) (IsUpIn-live c crashes t.proc (length s.world.trace.steps + 1) (omega arith) (r.turns t h))
+    subst (λ (lasts : List ℕ). IsUpIn lasts t.proc (length s.world.trace.steps + 1))
+    (sym r.lasts) (IsUpIn-live c crashes t.proc (length s.world.trace.steps + 1) (omega arith) (r.turns t h))
 
 -- somebody may
-pub some-up : (c : Setup) (crashes : List Crash) (bounds : Option StatedBounds) (s : Simulation) (ticks : ℕ) → HasRun c crashes bounds s ticks → ticks < 1000000
-    → (p : ℕ) × IsLive c crashes p → IsSomeUp s.lasts.items (length s.world.trace.steps + 1)
+pub some-up : (c : Setup) (crashes : List Crash) (bounds : Option StatedBounds) (s : Simulation) (ticks : ℕ) → HasRun
+    c crashes bounds s ticks → ticks < 1000000 → (p : ℕ) × IsLive c crashes p → IsSomeUp s.lasts.items (length s.world.trace.steps + 1)
 some-up c crashes bounds s ticks r early p =
-    let n = r.count in
-    (p.0, subst (λ (lasts : List ℕ). IsUpIn lasts p.0 (length s.world.trace.steps + 1)) (sym r.lasts) (IsUpIn-live c crashes p.0 (length s.world.trace.steps + 1) (omega arith) p.1))
+    let n = r.count in (
+      p.0,
+      subst (λ (lasts : List ℕ). IsUpIn lasts p.0 (length s.world.trace.steps + 1))
+          (sym r.lasts) (IsUpIn-live c crashes p.0 (length s.world.trace.steps + 1) (omega arith) p.1),
+    )
 
-pub HasRun-stepped : (c : Setup) (crashes : List Crash) (bounds : Option StatedBounds) (old new : Simulation) (ticks : ℕ) → HasRun c crashes bounds old ticks
-    → IsStepped old new → IsReady new → new.lasts ≡ old.lasts → new.turns.gst ≡ old.turns.gst → new.turns.phi ≡ old.turns.phi → new.post.bounds ≡ old.post.bounds
-    → DeltaGoesOn old.post.bounds old.world.trace.steps old.post.trays.items new.world.trace.steps new.post.trays.items
-    → HasRun c crashes bounds new (ticks + 1)
+pub HasRun-stepped : (c : Setup) (crashes : List Crash) (bounds : Option StatedBounds) (old new : Simulation) (ticks : ℕ)
+    → HasRun c crashes bounds old ticks → IsStepped old new → IsReady new → new.lasts ≡ old.lasts
+    → new.turns.gst ≡ old.turns.gst → new.turns.phi ≡ old.turns.phi → new.post.bounds ≡ old.post.bounds → DeltaGoesOn old.post.bounds
+    old.world.trace.steps old.post.trays.items new.world.trace.steps new.post.trays.items → HasRun c crashes bounds new (ticks + 1)
 HasRun-stepped c crashes bounds old new ticks r stepped ready lasts gst phi same goes_on = record {
   ready = ready;
   config = stepped.made.config ∙ r.config;
@@ -34,7 +38,8 @@ HasRun-stepped c crashes bounds old new ticks r stepped ready lasts gst phi same
   crashed = subst (λ (xs : List Step). StepBeforeCrashes crashes xs) (sym stepped.made.steps)
       (StepBeforeCrashes-stepped c.n crashes old.world.trace.steps step up r.crashed);
   phi = kept bounds r.phi r.gst_is r.phi_is;
-  delta = delta_of bounds r.delta (subst (λ (b : Option StatedBounds). DeltaGoesOn b old.world.trace.steps old.post.trays.items new.world.trace.steps new.post.trays.items) r.bounds_are goes_on);
+  delta = delta_of bounds r.delta (subst (λ (b : Option StatedBounds).
+      DeltaGoesOn b old.world.trace.steps old.post.trays.items new.world.trace.steps new.post.trays.items) r.bounds_are goes_on);
   gst_is = gst_of bounds r.gst_is;
   phi_is = phi_of bounds r.phi_is;
 }
@@ -68,12 +73,15 @@ HasRun-stepped c crashes bounds old new ticks r stepped ready lasts gst phi same
     phi_of (Some b) e = phi ∙ e
     phi_of None e = e
 
-    kept : (b : Option StatedBounds) → IfSome b (λ b. KeepsPhi c crashes b.gst b.phi old.turns.queue.items old.world.trace.steps) → IfSome b (λ b. old.turns.gst ≡ b.gst)
+    kept : (b : Option StatedBounds)
+        → IfSome b (λ b. KeepsPhi c crashes b.gst b.phi old.turns.queue.items old.world.trace.steps) → IfSome b (λ b. old.turns.gst ≡ b.gst)
         → IfSome b (λ b. old.turns.phi ≡ b.phi) → IfSome b (λ b. KeepsPhi c crashes b.gst b.phi new.turns.queue.items new.world.trace.steps)
     kept None k g f = k
     kept (Some b) k g f =
         let passed : ArePassed b.gst b.phi old.turns.queue.items new.turns.queue.items (length old.world.trace.steps + 1) stepped.proc =
         subst (λ (x : ℕ). ArePassed x b.phi old.turns.queue.items new.turns.queue.items (length old.world.trace.steps + 1) stepped.proc) g
-        (subst (λ (x : ℕ). ArePassed old.turns.gst x old.turns.queue.items new.turns.queue.items (length old.world.trace.steps + 1) stepped.proc) f stepped.passed) in
+        (subst (λ (x : ℕ). ArePassed old.turns.gst x old.turns.queue.items new.turns.queue.items
+        (length old.world.trace.steps + 1) stepped.proc) f stepped.passed) in
         subst (λ (xs : List Step). KeepsPhi c crashes b.gst b.phi new.turns.queue.items xs) (sym stepped.made.steps)
-        (KeepsPhi-stepped c crashes b.gst b.phi old.turns.queue.items new.turns.queue.items old.world.trace.steps step stepped.proc stepped.made.own stepped.may passed k)
+        (KeepsPhi-stepped c crashes b.gst b.phi old.turns.queue.items
+        new.turns.queue.items old.world.trace.steps step stepped.proc stepped.made.own stepped.may passed k)

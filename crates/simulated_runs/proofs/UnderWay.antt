@@ -16,10 +16,12 @@ use Rattle.step_trace.specs.Steps.{act_dest}
 use Rattle.step_buffers.proofs.RemovedIds.{Contains-from_is_in}
 
 -- a tray that was put in its place, and the others
-pub tray-same : (trays : List (List Posted)) (p : ℕ) (tray : List Posted) → 1 ≤ p → p ≤ length trays → tray_of (with_tray trays p tray) p ≡ tray
+pub tray-same : (trays : List (List Posted)) (p : ℕ) (tray : List Posted)
+    → 1 ≤ p → p ≤ length trays → tray_of (with_tray trays p tray) p ≡ tray
 tray-same trays p tray low high = get_or-set_same trays (p - 1) tray [] (omega arith)
 
-pub tray-other : (trays : List (List Posted)) (p q : ℕ) (tray : List Posted) → 1 ≤ p → 1 ≤ q → p ≢ q → tray_of (with_tray trays p tray) q ≡ tray_of trays q
+pub tray-other : (trays : List (List Posted)) (p q : ℕ) (tray : List Posted)
+    → 1 ≤ p → 1 ≤ q → p ≢ q → tray_of (with_tray trays p tray) q ≡ tray_of trays q
 tray-other trays p q tray low low2 other = get_or-set_other trays (p - 1) (q - 1) tray [] (λ e. other (omega arith))
 
 -- what waits was sent before
@@ -45,11 +47,12 @@ IsUnderWay-sent c steps p to q posted w u = record {
 }
 
 -- with the message that is sent
-IsUnderWay-added : (c : Setup) (steps : List Step) (p to due : ℕ) (posted : List Posted) (x : ℕ) → IsWellFormed c steps → x ≡ length steps + 1 → IsUnderWay steps to posted
-    → IsUnderWay (steps ++ sending p to ∷ []) to (posted ++ record { id = x; due = due } ∷ [])
+IsUnderWay-added : (c : Setup) (steps : List Step) (p to due : ℕ) (posted : List Posted) (x : ℕ) → IsWellFormed c steps → x ≡
+    length steps + 1 → IsUnderWay steps to posted → IsUnderWay (steps ++ sending p to ∷ []) to (posted ++ record { id = x; due = due } ∷ [])
 IsUnderWay-added c steps p to due posted x w e u = record {
   waits = λ m d. waits m (Contains-append_cases posted (added ∷ []) m d);
-  distinct = λ m other d f. distinct m other (Contains-append_cases posted (added ∷ []) m d) (Contains-append_cases posted (added ∷ []) other f);
+  distinct = λ m other d f. distinct m other (Contains-append_cases posted (added ∷ []) m d)
+      (Contains-append_cases posted (added ∷ []) other f);
 }
   where
     added : Posted
@@ -63,20 +66,25 @@ IsUnderWay-added c steps p to due posted x w e u = record {
     waits m (inr d) =
         let last : suc (length steps) ≡ m.id = let f : x ≡ m.id = ap (λ (z : Posted). z.id) (one m d) in omega arith in
         subst (λ (xs : List ℕ). Contains xs m.id) (sym (buffer-sent_to c steps p to w))
-        (Contains-append_right (buffer steps to) (suc (length steps) ∷ []) m.id (subst (λ (s : ℕ). Contains (s ∷ []) m.id) (sym last) (Contains-head m.id [])))
+        (Contains-append_right (buffer steps to) (suc (length steps) ∷ []) m.id
+        (subst (λ (s : ℕ). Contains (s ∷ []) m.id) (sym last) (Contains-head m.id [])))
 
     old : (m : Posted) → Contains posted m → m.id < x
     old m d = let l = waits-old steps to m.id (u.waits m d) in omega arith
 
-    distinct : (m other : Posted) → Contains posted m ⊎ Contains (added ∷ []) m → Contains posted other ⊎ Contains (added ∷ []) other → m.id ≡ other.id → m ≡ other
+    distinct : (m other : Posted) → Contains posted m ⊎ Contains (added ∷ []) m
+        → Contains posted other ⊎ Contains (added ∷ []) other → m.id ≡ other.id → m ≡ other
     distinct m other (inl d) (inl f) same = u.distinct m other d f same
-    distinct m other (inl d) (inr f) same = let l = old m d in let k : x ≡ other.id = ap (λ (z : Posted). z.id) (one other f) in absurd (omega arith)
-    distinct m other (inr d) (inl f) same = let l = old other f in let k : x ≡ m.id = ap (λ (z : Posted). z.id) (one m d) in absurd (omega arith)
+    distinct m other (inl d) (inr f) same = let l = old m d in
+        let k : x ≡ other.id = ap (λ (z : Posted). z.id) (one other f) in absurd (omega arith)
+    distinct m other (inr d) (inl f) same = let l = old other f in
+        let k : x ≡ m.id = ap (λ (z : Posted). z.id) (one m d) in absurd (omega arith)
     distinct m other (inr d) (inr f) same = sym (one m d) ∙ one other f
 
 -- all that is under way, after a Send
-pub AreUnderWay-sent : (c : Setup) (steps : List Step) (p to x : ℕ) (bounds : Option StatedBounds) (old new : List (List Posted)) → IsWellFormed c steps → x ≡ length steps + 1
-    → 1 ≤ to → to ≤ length old → length new ≡ length old → IsPosted bounds old new to x → AreUnderWay steps old → AreUnderWay (steps ++ sending p to ∷ []) new
+pub AreUnderWay-sent : (c : Setup) (steps : List Step) (p to x : ℕ) (bounds : Option StatedBounds) (old new : List (List Posted))
+    → IsWellFormed c steps → x ≡ length steps + 1 → 1 ≤ to → to ≤ length old
+    → length new ≡ length old → IsPosted bounds old new to x → AreUnderWay steps old → AreUnderWay (steps ++ sending p to ∷ []) new
 AreUnderWay-sent c steps p to x bounds old new w e low high long (inl lost) u q low2 high2 =
     subst (λ (trays : List (List Posted)). IsUnderWay (steps ++ sending p to ∷ []) q (tray_of trays q)) (sym lost.1)
     (IsUnderWay-sent c steps p to q (tray_of old q) w (u q low2 (omega arith)))
@@ -90,11 +98,12 @@ AreUnderWay-sent c steps p to x bounds old new w e low high long (inr made) u q 
     go (inl same) = subst (λ (r : ℕ). IsUnderWay (steps ++ sending p to ∷ []) r (tray_of (with_tray old to tray) r)) same
         (subst (λ (xs : List Posted). IsUnderWay (steps ++ sending p to ∷ []) to xs) (sym (tray-same old to tray low high))
         (IsUnderWay-added c steps p to made.0 (tray_of old to) x w e (u to low high)))
-    go (inr other) = subst (λ (xs : List Posted). IsUnderWay (steps ++ sending p to ∷ []) q xs) (sym (tray-other old to q tray low low2 other))
-        (IsUnderWay-sent c steps p to q (tray_of old q) w (u q low2 (omega arith)))
+    go (inr other) = subst (λ (xs : List Posted). IsUnderWay (steps ++ sending p to ∷ []) q xs)
+        (sym (tray-other old to q tray low low2 other)) (IsUnderWay-sent c steps p to q (tray_of old q) w (u q low2 (omega arith)))
 
 -- the ids that are due are of messages under way that are
-pub due-found : (x s : ℕ) (posted : List Posted) → Contains (due_ids x posted) s → (m : Posted) × Contains posted m × (is_due x m ≡ true) × (m.id ≡ s)
+pub due-found : (x s : ℕ) (posted : List Posted) → Contains (due_ids x posted) s
+    → (m : Posted) × Contains posted m × (is_due x m ≡ true) × (m.id ≡ s)
 due-found x s posted d =
     let w = Contains-from_map (λ (m : Posted). m.id) (filter (is_due x) posted) s d in
     let f = Contains-from_filter (is_due x) posted w.0 w.1 in
@@ -107,8 +116,8 @@ IsUnderWay-left : (c : Setup) (steps : List Step) (p q x : ℕ) (ends : Bool) (t
     → IsUnderWay (steps ++ receiving p ends (due_ids x taken) ∷ []) q posted
 IsUnderWay-left c steps p q x ends taken posted w t u none = record {
   waits = λ m d. subst (λ (xs : List ℕ). Contains xs m.id) (sym (buffer-received c steps p q ends (due_ids x taken) w))
-      (Contains-filter (λ s. not (list_any (λ i. i == s) (due_ids x taken))) (buffer steps q) m.id (u.waits m d)
-      (ap not (false_from_ne_true (list_any (λ i. i == m.id) (due_ids x taken)) (λ e. none m d (Contains-from_is_in (due_ids x taken) m.id e)))));
+      (Contains-filter (λ s. not (list_any (λ i. i == s) (due_ids x taken))) (buffer steps q) m.id (u.waits m d) (ap not
+      (false_from_ne_true (list_any (λ i. i == m.id) (due_ids x taken)) (λ e. none m d (Contains-from_is_in (due_ids x taken) m.id e)))));
   distinct = u.distinct;
 }
 
@@ -122,10 +131,11 @@ not-elsewhere steps p q s other a b =
     other (same_Some p q (ap (λ (z : Step). act_dest z.act) (same_Some first second (sym one.sent ∙ two.sent))))
 
 -- all that is under way, after a Receive of what is due
-pub AreUnderWay-received : (c : Setup) (steps : List Step) (p x : ℕ) (ends : Bool) (old new : List (List Posted)) → IsWellFormed c steps → 1 ≤ p → p ≤ length old → length new ≡ length old
-    → new ≡ with_tray old p (not_due x (tray_of old p)) → AreUnderWay steps old → AreUnderWay (steps ++ receiving p ends (due_ids x (tray_of old p)) ∷ []) new
-AreUnderWay-received c steps p x ends old new w low high long made u q low2 high2 =
-    subst (λ (trays : List (List Posted)). IsUnderWay (steps ++ receiving p ends (due_ids x taken) ∷ []) q (tray_of trays q)) (sym made) (go (cases_eq p q))
+pub AreUnderWay-received : (c : Setup) (steps : List Step) (p x : ℕ) (ends : Bool) (old new : List (List Posted))
+    → IsWellFormed c steps → 1 ≤ p → p ≤ length old → length new ≡ length old → new ≡ with_tray old p (not_due x (tray_of old p))
+    → AreUnderWay steps old → AreUnderWay (steps ++ receiving p ends (due_ids x (tray_of old p)) ∷ []) new
+AreUnderWay-received c steps p x ends old new w low high long made u q low2 high2 = subst (λ (trays : List (List Posted)).
+    IsUnderWay (steps ++ receiving p ends (due_ids x taken) ∷ []) q (tray_of trays q)) (sym made) (go (cases_eq p q))
   where
     taken : List Posted
     taken = tray_of old p
@@ -153,17 +163,20 @@ AreUnderWay-received c steps p x ends old new w low high long made u q low2 high
     elsewhere : p ≢ q → (m : Posted) → Contains (tray_of old q) m → Contains (due_ids x taken) m.id → ⊥
     elsewhere other m d f =
         let found = due-found x m.id taken f in
-        not-elsewhere steps p q m.id other (subst (λ (s : ℕ). Contains (buffer steps p) s) found.3 (own.waits found.0 found.1)) ((u q low2 (omega arith)).waits m d)
+        not-elsewhere steps p q m.id other (subst (λ (s : ℕ). Contains (buffer steps p) s) found.3 (own.waits found.0 found.1))
+        ((u q low2 (omega arith)).waits m d)
 
     go : (p ≡ q) ⊎ (p ≢ q) → IsUnderWay (steps ++ receiving p ends (due_ids x taken) ∷ []) q (tray_of (with_tray old p (not_due x taken)) q)
-    go (inl same) = subst (λ (r : ℕ). IsUnderWay (steps ++ receiving p ends (due_ids x taken) ∷ []) r (tray_of (with_tray old p (not_due x taken)) r)) same
-        (subst (λ (xs : List Posted). IsUnderWay (steps ++ receiving p ends (due_ids x taken) ∷ []) p xs) (sym (tray-same old p (not_due x taken) low high))
-        (IsUnderWay-left c steps p p x ends taken (not_due x taken) w own kept clash))
-    go (inr other) = subst (λ (xs : List Posted). IsUnderWay (steps ++ receiving p ends (due_ids x taken) ∷ []) q xs) (sym (tray-other old p q (not_due x taken) low low2 other))
+    go (inl same) = subst (λ (r : ℕ). IsUnderWay (steps ++ receiving p ends (due_ids x taken) ∷ []) r (tray_of (with_tray old p
+        (not_due x taken)) r)) same (subst (λ (xs : List Posted). IsUnderWay (steps ++ receiving p ends (due_ids x taken) ∷ []) p xs)
+        (sym (tray-same old p (not_due x taken) low high)) (IsUnderWay-left c steps p p x ends taken (not_due x taken) w own kept clash))
+    go (inr other) = subst (λ (xs : List Posted). IsUnderWay (steps ++ receiving p ends (due_ids x taken) ∷ []) q xs)
+        (sym (tray-other old p q (not_due x taken) low low2 other))
         (IsUnderWay-left c steps p q x ends taken (tray_of old q) w own (u q low2 (omega arith)) (elsewhere other))
 
 -- what is due waits
-pub due-waits : (steps : List Step) (p x : ℕ) (posted : List Posted) → IsUnderWay steps p posted → (s : ℕ) → Contains (due_ids x posted) s → Contains (buffer steps p) s
+pub due-waits : (steps : List Step) (p x : ℕ) (posted : List Posted)
+    → IsUnderWay steps p posted → (s : ℕ) → Contains (due_ids x posted) s → Contains (buffer steps p) s
 due-waits steps p x posted u s d =
     let found = due-found x s posted d in
     subst (λ (k : ℕ). Contains (buffer steps p) k) found.3 (u.waits found.0 found.1)

@@ -46,7 +46,8 @@ numbers-push steps x =
 
 -- a message is taken by the steps so far or by the next one
 pub is_taken-push : (steps : List Step) (x : Step) (s : ℕ) → is_taken (steps ++ x ∷ []) s ≡ (is_taken steps s || act_takes x.act s)
-is_taken-push steps x s = list_any-append (λ y. act_takes y.act s) steps (x ∷ []) ∙ ap (λ b. is_taken steps s || b) (or-false (act_takes x.act s))
+is_taken-push steps x s = list_any-append (λ y. act_takes y.act s) steps (x ∷ [])
+    ∙ ap (λ b. is_taken steps s || b) (or-false (act_takes x.act s))
 
 -- no later number is taken
 not_taken-later : (c : Setup) (steps : List Step) (s : ℕ) → IsWellFormed c steps → length steps < s → is_taken steps s ≡ false
@@ -56,7 +57,8 @@ not_taken-later c steps s w late = false_from_ne_true (is_taken steps s) (λ e.
     let earlier = w.earlier t.0 s t.1.0 t.1.1 t.1.2 in
     omega (arith, within.1, earlier.0))
 
-waits_for-old : (steps : List Step) (x : Step) (p s : ℕ) → s ≤ length steps → waits_for (steps ++ x ∷ []) p s ≡ (waits_for steps p s && not (act_takes x.act s))
+waits_for-old : (steps : List Step) (x : Step) (p s : ℕ)
+    → s ≤ length steps → waits_for (steps ++ x ∷ []) p s ≡ (waits_for steps p s && not (act_takes x.act s))
 waits_for-old steps x p s l =
     rw (step_at-prefix steps (x ∷ []) s l, is_taken-push steps x s) (go (is_sent_to steps s p) (is_taken steps s) (act_takes x.act s))
   where
@@ -65,17 +67,21 @@ waits_for-old steps x p s l =
     go true false d = refl
     go false b d = refl
 
-waits_for-new : (c : Setup) (steps : List Step) (x : Step) (p : ℕ) → IsWellFormed c steps → waits_for (steps ++ x ∷ []) p (suc (length steps)) ≡ act_sends_to x.act p
-waits_for-new c steps x p w =
-    rw (step_at_last steps x, is_taken-push steps x (suc (length steps)), not_taken-later c steps (suc (length steps)) w (omega arith)) (go x.act)
+waits_for-new : (c : Setup) (steps : List Step) (x : Step) (p : ℕ)
+    → IsWellFormed c steps → waits_for (steps ++ x ∷ []) p (suc (length steps)) ≡ act_sends_to x.act p
+waits_for-new c steps x p w = rw (
+  step_at_last steps x,
+  is_taken-push steps x (suc (length steps)),
+  not_taken-later c steps (suc (length steps)) w (omega arith),
+) (go x.act)
   where
     go : (a : Act) → (act_sends_to a p && not (act_takes a (suc (length steps)))) ≡ act_sends_to a p
     go (Send to) = and-true (to == p)
     go (Receive ends ids) = refl
 
 -- what a buffer becomes
-pub buffer-push : (c : Setup) (steps : List Step) (x : Step) (p : ℕ) → IsWellFormed c steps
-    → buffer (steps ++ x ∷ []) p ≡ filter (λ s. not (act_takes x.act s)) (buffer steps p) ++ cond (act_sends_to x.act p) (suc (length steps) ∷ []) []
+pub buffer-push : (c : Setup) (steps : List Step) (x : Step) (p : ℕ) → IsWellFormed c steps → buffer (steps ++ x ∷ []) p
+    ≡ filter (λ s. not (act_takes x.act s)) (buffer steps p) ++ cond (act_sends_to x.act p) (suc (length steps) ∷ []) []
 buffer-push c steps x p w =
     ap (filter (λ s. waits_for (steps ++ x ∷ []) p s)) (numbers-push steps x)
     ∙ filter-append (λ s. waits_for (steps ++ x ∷ []) p s) (numbers steps) (suc (length steps) ∷ [])
@@ -103,7 +109,8 @@ buffer-sent_elsewhere c steps p to q w other =
 -- a Receive
 pub buffer-received : (c : Setup) (steps : List Step) (p q : ℕ) (ends : Bool) (ids : List ℕ) → IsWellFormed c steps
     → buffer (steps ++ receiving p ends ids ∷ []) q ≡ filter (λ s. not (list_any (λ i. i == s) ids)) (buffer steps q)
-buffer-received c steps p q ends ids w = buffer-push c steps (receiving p ends ids) q w ∙ append-nil (filter (λ s. not (list_any (λ i. i == s) ids)) (buffer steps q))
+buffer-received c steps p q ends ids w = buffer-push c steps (receiving p ends ids) q w
+    ∙ append-nil (filter (λ s. not (list_any (λ i. i == s) ids)) (buffer steps q))
 
 -- what waits was sent to its processor and was not taken
 pub record IsWaiting (steps : List Step) (p s : ℕ) : Type 0 where
@@ -112,16 +119,16 @@ pub record IsWaiting (steps : List Step) (p s : ℕ) : Type 0 where
   pub fresh : is_taken steps s ≡ false
 
 pub IsWaiting-from_buffer : (steps : List Step) (p s : ℕ) → Contains (buffer steps p) s → IsWaiting steps p s
-IsWaiting-from_buffer steps p s d = go (is_sent_to steps s p) (is_taken steps s) refl refl (Contains-from_filter (λ i. waits_for steps p i) (numbers steps) s d).1
-  where
-    go : (a b : Bool) → is_sent_to steps s p ≡ a → is_taken steps s ≡ b → (a && not b) ≡ true → IsWaiting steps p s
-    go true false e f h = let sent = sent_from (step_at steps s) p e in record { sender = sent.0; sent = sent.1; fresh = f }
-    go true true e f h = cc
-    go false b e f h = cc
+IsWaiting-from_buffer steps p s d = go (is_sent_to steps s p)
+    (is_taken steps s) refl refl (Contains-from_filter (λ i. waits_for steps p i) (numbers steps) s d).1 where
+      go : (a b : Bool) → is_sent_to steps s p ≡ a → is_taken steps s ≡ b → (a && not b) ≡ true → IsWaiting steps p s
+      go true false e f h = let sent = sent_from (step_at steps s) p e in record { sender = sent.0; sent = sent.1; fresh = f }
+      go true true e f h = cc
+      go false b e f h = cc
 
 -- what a Receive of another takes doesn't wait for p
-pub buffer-received_elsewhere : (c : Setup) (steps : List Step) (p q : ℕ) (ends : Bool) (ids : List ℕ) → IsWellFormed c (steps ++ receiving p ends ids ∷ []) → p ≢ q
-    → buffer (steps ++ receiving p ends ids ∷ []) q ≡ buffer steps q
+pub buffer-received_elsewhere : (c : Setup) (steps : List Step) (p q : ℕ) (ends : Bool) (ids : List ℕ)
+    → IsWellFormed c (steps ++ receiving p ends ids ∷ []) → p ≢ q → buffer (steps ++ receiving p ends ids ∷ []) q ≡ buffer steps q
 buffer-received_elsewhere c steps p q ends ids w other =
     buffer-received c steps p q ends ids (IsWellFormed-prefix c steps (receiving p ends ids ∷ []) w)
     ∙ filter-all (λ s. not (list_any (λ i. i == s) ids)) (buffer steps q)
@@ -137,4 +144,5 @@ buffer-received_elsewhere c steps p q ends ids w other =
 
 -- a buffer rises
 pub buffer-rises : (steps : List Step) (p : ℕ) → IsStrictlyIncreasing (buffer steps p)
-buffer-rises steps p = IsStrictlyIncreasing-filter (λ s. waits_for steps p s) (numbers steps) (IsStrictlyIncreasing-range_with_len 1 (length steps))
+buffer-rises steps p = IsStrictlyIncreasing-filter
+    (λ s. waits_for steps p s) (numbers steps) (IsStrictlyIncreasing-range_with_len 1 (length steps))

@@ -15,7 +15,8 @@ use Rattle.step_buffers.proofs.GrownNodes.{passed-ends, passed-stays}
 pub Agree-node_at : (c : Setup) (steps : List Step) (p q : ℕ) → IsSetup c → Agree (node_at c steps p) (node_at c steps q)
 Agree-node_at c steps p q setup = Agree-state_after c (heard_table steps) (passed steps p) (passed steps q) p q setup
 
-pub DecidesInitialValue-node_at : (c : Setup) (steps : List Step) (p : ℕ) → IsSetup c → IsProc c p → DecidesInitialValue c (node_at c steps p)
+pub DecidesInitialValue-node_at : (c : Setup) (steps : List Step) (p : ℕ)
+    → IsSetup c → IsProc c p → DecidesInitialValue c (node_at c steps p)
 DecidesInitialValue-node_at c steps p setup is = DecidesInitialValue-state_after c (heard_table steps) (passed steps p) p setup is
 
 -- a decision stays in each longer trace
@@ -47,7 +48,8 @@ IsDecidedSince-opening c p node is = record {
     go (suc r) l = absurd (let none : passed [] p ≡ 0 = refl in omega arith)
 
 -- a processor that stays in its round
-pub IsDecidedSince-stays : (c : Setup) (steps : List Step) (x : Step) (p : ℕ) (decision : Option ℕ) (since : ℕ) → IsWellFormed c steps → (x.proc == p && act_ends x.act) ≡ false
+pub IsDecidedSince-stays : (c : Setup) (steps : List Step) (x : Step) (p : ℕ) (decision : Option ℕ) (since : ℕ)
+    → IsWellFormed c steps → (x.proc == p && act_ends x.act) ≡ false
     → IsDecidedSince c steps p decision since → IsDecidedSince c (steps ++ x ∷ []) p decision since
 IsDecidedSince-stays c steps x p decision since w quiet is =
     let same = passed-stays steps x p quiet in
@@ -59,7 +61,8 @@ IsDecidedSince-stays c steps x p decision since w quiet is =
     }
 
 -- a processor whose round ends, and that has the decision that it had
-kept : (c : Setup) (steps : List Step) (x : Step) (old new : Option ℕ) (since : ℕ) → IsWellFormed c steps → act_ends x.act ≡ true → IsDecidedSince c steps x.proc old since
+kept : (c : Setup) (steps : List Step) (x : Step) (old new : Option ℕ) (since : ℕ)
+    → IsWellFormed c steps → act_ends x.act ≡ true → IsDecidedSince c steps x.proc old since
     → new ≡ (node_at c (steps ++ x ∷ []) x.proc).decision → new ≡ old → IsDecidedSince c (steps ++ x ∷ []) x.proc new since
 kept c steps x old new since w ends is now same =
     let more = passed-ends steps x ends in
@@ -78,7 +81,8 @@ kept c steps x old new since w ends is now same =
     go r l high (inr before) = decision-prefix c steps (x ∷ []) r x.proc w before ∙ is.after r before high ∙ sym same
 
 -- and one that had none
-begun : (c : Setup) (steps : List Step) (x : Step) (new : Option ℕ) (since : ℕ) → IsWellFormed c steps → act_ends x.act ≡ true → IsDecidedSince c steps x.proc None since
+begun : (c : Setup) (steps : List Step) (x : Step) (new : Option ℕ) (since : ℕ)
+    → IsWellFormed c steps → act_ends x.act ≡ true → IsDecidedSince c steps x.proc None since
     → new ≡ (node_at c (steps ++ x ∷ []) x.proc).decision → IsDecidedSince c (steps ++ x ∷ []) x.proc new (passed steps x.proc + 2)
 begun c steps x new since w ends is now =
     let more = passed-ends steps x ends in
@@ -90,17 +94,20 @@ begun c steps x new since w ends is now =
           ap (λ n. (state_after c (heard_table (steps ++ x ∷ [])) n x.proc).decision) last ∙ sym now;
     }
   where
-    none : (r : ℕ) → r ≤ passed steps x.proc → (r + 1 < since) ⊎ (since ≤ r + 1) → (state_after c (heard_table steps) r x.proc).decision ≡ None
+    none : (r : ℕ) → r ≤ passed steps x.proc → (r + 1 < since) ⊎ (since ≤ r + 1)
+        → (state_after c (heard_table steps) r x.proc).decision ≡ None
     none r l (inl low) = is.before r l low
     none r l (inr high) = is.after r l high
 
 -- a processor whose round ends: it has its decision since then, if it had another one before
-pub IsDecidedSince-ended : (c : Setup) (steps : List Step) (x : Step) (old new : Option ℕ) (since next : ℕ) → IsWellFormed c steps → act_ends x.act ≡ true
-    → IsDecidedSince c steps x.proc old since → old ≡ (node_at c steps x.proc).decision → new ≡ (node_at c (steps ++ x ∷ []) x.proc).decision
+pub IsDecidedSince-ended : (c : Setup) (steps : List Step) (x : Step) (old new : Option ℕ) (since next : ℕ)
+    → IsWellFormed c steps → act_ends x.act ≡ true → IsDecidedSince c steps x.proc old since
+    → old ≡ (node_at c steps x.proc).decision → new ≡ (node_at c (steps ++ x ∷ []) x.proc).decision
     → (new ≡ old → next ≡ since) → (new ≢ old → next ≡ passed steps x.proc + 2) → IsDecidedSince c (steps ++ x ∷ []) x.proc new next
 IsDecidedSince-ended c steps x (Some v) new since next w ends is was now same other =
     let stays : new ≡ Some v = now ∙ decision-stays_longer c steps (x ∷ []) x.proc v w (sym was) in
     rw (same stays) (kept c steps x (Some v) new since w ends is now stays)
-IsDecidedSince-ended c steps x None None since next w ends is was now same other = rw (same refl) (kept c steps x None None since w ends is now refl)
+IsDecidedSince-ended c steps x None None since next w ends is was now same other =
+    rw (same refl) (kept c steps x None None since w ends is now refl)
 IsDecidedSince-ended c steps x None (Some v) since next w ends is was now same other =
     rw (other (λ e. none-some v (sym e))) (begun c steps x (Some v) since w ends is now)

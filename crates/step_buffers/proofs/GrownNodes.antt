@@ -18,27 +18,32 @@ use Rattle.lock_phases.specs.NodeFunctions.{out, next}
 use Rattle.round_model.specs.RoundStates.{messages_heard, state_after}
 
 -- a count over a range with one more number
-pub count_by-more : (test : ℕ → Bool) (n : ℕ) → count_by test (range_with_len 1 (suc n)) ≡ count_by test (range_with_len 1 n) + cond (test (suc n)) 1 0
+pub count_by-more : (test : ℕ → Bool) (n : ℕ) → count_by test (range_with_len 1 (suc n))
+    ≡ count_by test (range_with_len 1 n) + cond (test (suc n)) 1 0
 count_by-more test n =
     let one : ℕ → ℕ = λ x. cond (test x) 1 0 in
-    let longer : range_with_len 1 (suc n) ≡ range_with_len 1 n ++ suc n ∷ [] = let e : suc n ≡ n + 1 = omega arith in ap (range_with_len 1) e ∙ range_with_len-more 1 n (suc n) (omega arith) in
+    let longer : range_with_len 1 (suc n) ≡ range_with_len 1 n ++ suc n ∷ [] =
+    let e : suc n ≡ n + 1 = omega arith in ap (range_with_len 1) e ∙ range_with_len-more 1 n (suc n) (omega arith) in
     let last : count_by test (suc n ∷ []) ≡ one (suc n) + count_by test [] = sum_by-cons one (suc n) [] in
     let none : count_by test [] ≡ 0 = refl in
     let parts = ap (count_by test) longer ∙ sum_by-append one (range_with_len 1 n) (suc n ∷ []) in
     omega arith
 
 -- tests that agree on a range count the same
-pub count_by-agree : (f g : ℕ → Bool) (n : ℕ) → ((k : ℕ) → k ≤ n → f k ≡ g k) → count_by f (range_with_len 1 n) ≡ count_by g (range_with_len 1 n)
+pub count_by-agree : (f g : ℕ → Bool) (n : ℕ) → ((k : ℕ) → k ≤ n → f k ≡ g k)
+    → count_by f (range_with_len 1 n) ≡ count_by g (range_with_len 1 n)
 count_by-agree f g zero same = refl
 count_by-agree f g (suc n) same =
     let less = count_by-agree f g n (λ k l. same k (omega arith)) in
     let last : cond {A = ℕ} (f (suc n)) 1 0 ≡ cond (g (suc n)) 1 0 = ap (λ b. cond b 1 0) (same (suc n) (omega arith)) in
-    count_by-more f n ∙ (let e : count_by f (range_with_len 1 n) + cond (f (suc n)) 1 0 ≡ count_by g (range_with_len 1 n) + cond (g (suc n)) 1 0 = omega arith in e) ∙ sym (count_by-more g n)
+    count_by-more f n ∙ (let e : count_by f (range_with_len 1 n) + cond (f (suc n)) 1 0
+    ≡ count_by g (range_with_len 1 n) + cond (g (suc n)) 1 0 = omega arith in e) ∙ sym (count_by-more g n)
 
 -- the count is the same in each longer trace
-pub sent_before-prefix : (steps more : List Step) (p r k : ℕ) → k ≤ length steps + 1 → sent_before steps p r k ≡ sent_before (steps ++ more) p r k
-sent_before-prefix steps more p r k l = count_by-agree (λ s. is_sent_in steps p r s) (λ s. is_sent_in (steps ++ more) p r s) (k - 1) (λ s within.
-    same_tests (is_sent_in steps p r s) (is_sent_in (steps ++ more) p r s)
+pub sent_before-prefix : (steps more : List Step) (p r k : ℕ)
+    → k ≤ length steps + 1 → sent_before steps p r k ≡ sent_before (steps ++ more) p r k
+sent_before-prefix steps more p r k l = count_by-agree (λ s. is_sent_in steps p r s)
+    (λ s. is_sent_in (steps ++ more) p r s) (k - 1) (λ s within. same_tests (is_sent_in steps p r s) (is_sent_in (steps ++ more) p r s)
     (λ h. is_sent_in-from_send (steps ++ more) p r s (IsSentIn-longer steps more p r s (omega arith) (IsSentIn-from_test steps p r s h)))
     (λ h. is_sent_in-from_send steps p r s (IsSentIn-prefix steps more p r s (omega arith) (IsSentIn-from_test (steps ++ more) p r s h))))
 
@@ -60,7 +65,8 @@ IsRun-prefix c steps more run = record {
   each = λ k x h.
       let b = step_at_within steps k x h in
       let within = b.1 in
-      subst (λ next. IsDue next x.act) (sym (next_destination-prefix c steps more x.proc k w (omega arith))) (run.each k x (step_at-prefix_old steps more k x h));
+      subst (λ next. IsDue next x.act) (sym (next_destination-prefix c steps more x.proc k w (omega arith)))
+      (run.each k x (step_at-prefix_old steps more k x h));
 }
   where
     w : IsWellFormed c steps
@@ -74,10 +80,12 @@ IsRun-push c steps x run w due = record {
   each = λ k y h. go k y (step_at-push_cases steps x y k h);
 }
   where
-    longer : (y : Step) (k : ℕ) → k ≤ length steps + 1 → IsDue (next_destination c steps y.proc k) y.act → IsDue (next_destination c (steps ++ x ∷ []) y.proc k) y.act
+    longer : (y : Step) (k : ℕ) → k ≤ length steps + 1
+        → IsDue (next_destination c steps y.proc k) y.act → IsDue (next_destination c (steps ++ x ∷ []) y.proc k) y.act
     longer y k l d = subst (λ next. IsDue next y.act) (next_destination-prefix c steps (x ∷ []) y.proc k run.well_formed l) d
 
-    go : (k : ℕ) (y : Step) → (step_at steps k ≡ Some y) ⊎ ((k ≡ length steps + 1) × (x ≡ y)) → IsDue (next_destination c (steps ++ x ∷ []) y.proc k) y.act
+    go : (k : ℕ) (y : Step) → (step_at steps k ≡ Some y) ⊎ ((k ≡ length steps + 1) × (x ≡ y))
+        → IsDue (next_destination c (steps ++ x ∷ []) y.proc k) y.act
     go k y (inl old) = let b = step_at_within steps k y old in let within = b.1 in longer y k (omega arith) (run.each k y old)
     go k y (inr new) =
         longer y k (omega (arith, new.0))
@@ -86,7 +94,8 @@ IsRun-push c steps x run w due = record {
 
 passed-one : (x : Step) (p : ℕ) → passed (x ∷ []) p ≡ cond (x.proc == p && act_ends x.act) 1 0
 passed-one x p =
-    let one : passed (x ∷ []) p ≡ cond {A = ℕ} (x.proc == p && act_ends x.act) 1 0 + passed [] p = sum_by-cons (λ (y : Step). cond (y.proc == p && act_ends y.act) 1 0) x [] in
+    let one : passed (x ∷ []) p ≡ cond {A = ℕ} (x.proc == p && act_ends x.act) 1 0 + passed [] p =
+    sum_by-cons (λ (y : Step). cond (y.proc == p && act_ends y.act) 1 0) x [] in
     let none : passed [] p ≡ 0 = refl in
     omega arith
 
@@ -98,11 +107,13 @@ passed-within steps p = count_by-le-length (λ (x : Step). x.proc == p && act_en
 pub passed-ends : (steps : List Step) (x : Step) → act_ends x.act ≡ true → passed (steps ++ x ∷ []) x.proc ≡ suc (passed steps x.proc)
 passed-ends steps x ends =
     let all = passed-append steps (x ∷ []) x.proc in
-    let one : passed (x ∷ []) x.proc ≡ 1 = passed-one x x.proc ∙ ap (λ b. cond {A = ℕ} b 1 0) (and_from (x.proc == x.proc) (act_ends x.act) (eq-eqb x.proc x.proc refl) ends) in
+    let one : passed (x ∷ []) x.proc ≡ 1 = passed-one x x.proc
+    ∙ ap (λ b. cond {A = ℕ} b 1 0) (and_from (x.proc == x.proc) (act_ends x.act) (eq-eqb x.proc x.proc refl) ends) in
     omega arith
 
 -- any other step, and the step of another
-pub passed-stays : (steps : List Step) (x : Step) (p : ℕ) → (x.proc == p && act_ends x.act) ≡ false → passed (steps ++ x ∷ []) p ≡ passed steps p
+pub passed-stays : (steps : List Step) (x : Step) (p : ℕ)
+    → (x.proc == p && act_ends x.act) ≡ false → passed (steps ++ x ∷ []) p ≡ passed steps p
 passed-stays steps x p other =
     let all = passed-append steps (x ∷ []) p in
     let one : passed (x ∷ []) p ≡ 0 = passed-one x p ∙ ap (λ b. cond {A = ℕ} b 1 0) other in
@@ -116,8 +127,8 @@ node_at-stays c steps x p w other =
     ∙ sym (state_after-prefix c steps (x ∷ []) (passed steps p) p w (omega arith))
 
 -- who is heard by then sent in the shorter trace, and so had passed the rounds before
-pub sender-passed : (c : Setup) (steps : List Step) (x : Step) (p rounds q : ℕ) → IsWellFormed c (steps ++ x ∷ []) → heard_table (steps ++ x ∷ []) p (suc rounds) q ≡ true
-    → rounds ≤ passed steps q
+pub sender-passed : (c : Setup) (steps : List Step) (x : Step) (p rounds q : ℕ)
+    → IsWellFormed c (steps ++ x ∷ []) → heard_table (steps ++ x ∷ []) p (suc rounds) q ≡ true → rounds ≤ passed steps q
 sender-passed c steps x p rounds q w h =
     let is = IsHeard-from_table (steps ++ x ∷ []) p (suc rounds) q h in
     let t = is.take in
@@ -130,9 +141,8 @@ sender-passed c steps x p rounds q w h =
 -- The node of a processor whose round ends: it computes from its node and from what it heard, of the nodes that the
 -- others had after so many rounds. It depends on no row of the longer trace but the new one.
 pub node_at-ends : (c : Setup) (steps : List Step) (x : Step) → IsWellFormed c (steps ++ x ∷ []) → act_ends x.act ≡ true
-    → node_at c (steps ++ x ∷ []) x.proc
-    ≡ next c (node_at c steps x.proc) x.proc (suc (passed steps x.proc))
-    (messages_heard c (heard_table (steps ++ x ∷ [])) (state_after c (heard_table steps) (passed steps x.proc)) x.proc (suc (passed steps x.proc)))
+    → node_at c (steps ++ x ∷ []) x.proc ≡ next c (node_at c steps x.proc) x.proc (suc (passed steps x.proc)) (messages_heard c
+    (heard_table (steps ++ x ∷ [])) (state_after c (heard_table steps) (passed steps x.proc)) x.proc (suc (passed steps x.proc)))
 node_at-ends c steps x w ends =
     let old = IsWellFormed-prefix c steps (x ∷ []) w in
     ap (λ r. state_after c (heard_table (steps ++ x ∷ [])) r x.proc) (passed-ends steps x ends)
@@ -140,9 +150,9 @@ node_at-ends c steps x w ends =
     ∙ rw (
       ← state_after-prefix c steps (x ∷ []) (passed steps x.proc) x.proc old (omega arith),
       messages_heard-local c (heard_table (steps ++ x ∷ [])) (heard_table (steps ++ x ∷ []))
-          (state_after c (heard_table (steps ++ x ∷ [])) (passed steps x.proc)) (state_after c (heard_table steps) (passed steps x.proc)) x.proc (suc (passed steps x.proc))
-          (λ sender is. refl)
-          (λ sender is h. sym (state_after-prefix c steps (x ∷ []) (passed steps x.proc) sender old (sender-passed c steps x x.proc (passed steps x.proc) sender w h))),
+          (state_after c (heard_table (steps ++ x ∷ [])) (passed steps x.proc)) (state_after c (heard_table steps) (passed steps x.proc))
+          x.proc (suc (passed steps x.proc)) (λ sender is. refl) (λ sender is h. sym (state_after-prefix c steps
+          (x ∷ []) (passed steps x.proc) sender old (sender-passed c steps x x.proc (passed steps x.proc) sender w h))),
     ) refl
 
 -- the body of a message of the shorter trace stays
@@ -161,13 +171,13 @@ before-now steps =
     ap (λ n. take n steps) e ∙ take-length steps
 
 -- the body of a message that is sent next is what the node has to send now
-pub body_of-now : (c : Setup) (steps : List Step) (q to : ℕ) → body_of c steps q to (length steps + 1) ≡ out c (node_at c steps q) q (passed steps q + 1) to
+pub body_of-now : (c : Setup) (steps : List Step) (q to : ℕ)
+    → body_of c steps q to (length steps + 1) ≡ out c (node_at c steps q) q (passed steps q + 1) to
 body_of-now c steps q to = ap (λ xs. out c (state_after c (heard_table steps) (passed xs q) q) q (passed xs q + 1) to) (before-now steps)
 
 -- where a processor sends next, by its node now
 pub next_destination-now : (c : Setup) (steps : List Step) (p : ℕ) → next_destination c steps p (length steps + 1)
     ≡ slice_get (destinations c (node_at c steps p) p (passed steps p + 1)) (sent_before steps p (passed steps p + 1) (length steps + 1))
 unfolding next_destination
-next_destination-now c steps p =
-    ap (λ xs. slice_get (destinations c (state_after c (heard_table steps) (passed xs p) p) p (passed xs p + 1)) (sent_before steps p (passed xs p + 1) (length steps + 1)))
-    (before-now steps)
+next_destination-now c steps p = ap (λ xs. slice_get (destinations c (state_after c (heard_table steps) (passed xs p) p) p
+    (passed xs p + 1)) (sent_before steps p (passed xs p + 1) (length steps + 1))) (before-now steps)

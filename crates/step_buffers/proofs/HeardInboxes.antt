@@ -30,21 +30,22 @@ use Rattle.step_buffers.proofs.GrownNodes.{passed-ends, node_at-ends}
 use Rattle.step_buffers.proofs.KeptInboxes.{IsTakenBy-receiver, IsKeptAfter, IsKept-from_after, IsKeptAfter-from_kept, sent-longer, kept-ahead, round_of-ahead, round_of-known}
 
 -- the senders of what is said are the numbers that say something
-senders-heard : (letters : List (Option Letter)) (ids qs : List ℕ)
-    → map (λ (m : Message). m.0) (filter_map (λ q. option_map (λ body. (q, body)) (body_from letters ids q)) qs) ≡ filter (λ q. is_some (body_from letters ids q)) qs
+senders-heard : (letters : List (Option Letter)) (ids qs : List ℕ) → map (λ (m : Message). m.0)
+    (filter_map (λ q. option_map (λ body. (q, body)) (body_from letters ids q)) qs) ≡ filter (λ q. is_some (body_from letters ids q)) qs
 senders-heard letters ids [] = refl
 senders-heard letters ids (q ∷ qs) = go (body_from letters ids q) (senders-heard letters ids qs)
   where
-    go : (o : Option Body) → map (λ (m : Message). m.0) (filter_map (λ q. option_map (λ body. (q, body)) (body_from letters ids q)) qs) ≡ filter (λ q. is_some (body_from letters ids q)) qs
-        → map (λ (m : Message). m.0) (cons_option (option_map (λ body. (q, body)) o) (filter_map (λ q. option_map (λ body. (q, body)) (body_from letters ids q)) qs))
+    go : (o : Option Body) → map (λ (m : Message). m.0) (filter_map (λ q. option_map (λ body. (q, body)) (body_from letters ids q)) qs)
+        ≡ filter (λ q. is_some (body_from letters ids q)) qs → map (λ (m : Message). m.0)
+        (cons_option (option_map (λ body. (q, body)) o) (filter_map (λ q. option_map (λ body. (q, body)) (body_from letters ids q)) qs))
         ≡ cond (is_some o) (q ∷ filter (λ q. is_some (body_from letters ids q)) qs) (filter (λ q. is_some (body_from letters ids q)) qs)
     go None e = e
     go (Some body) e = ap (λ r. q ∷ r) e
 
 -- what is said rises by sender
 pub heard_from-rises : (letters : List (Option Letter)) (ids : List ℕ) (n : ℕ) → AreRising (heard_from letters ids n)
-heard_from-rises letters ids n =
-    rw (senders-heard letters ids (range_with_len 1 n)) (IsStrictlyIncreasing-filter (λ q. is_some (body_from letters ids q)) (range_with_len 1 n) (IsStrictlyIncreasing-range_with_len 1 n))
+heard_from-rises letters ids n = rw (senders-heard letters ids (range_with_len 1 n))
+    (IsStrictlyIncreasing-filter (λ q. is_some (body_from letters ids q)) (range_with_len 1 n) (IsStrictlyIncreasing-range_with_len 1 n))
 
 -- a message among these that q sent
 pub record IsSaid (letters : List (Option Letter)) (ids : List ℕ) (q : ℕ) (body : Body) : Type 0 where
@@ -55,16 +56,19 @@ pub record IsSaid (letters : List (Option Letter)) (ids : List ℕ) (q : ℕ) (b
   pub sender : letter.sender ≡ q
   pub says : letter.body ≡ body
 
-said_by-from : (q : ℕ) (o : Option Letter) (body : Body) → said_by q o ≡ Some body → (l : Letter) × (o ≡ Some l) × (l.sender ≡ q) × (l.body ≡ body)
+said_by-from : (q : ℕ) (o : Option Letter) (body : Body)
+    → said_by q o ≡ Some body → (l : Letter) × (o ≡ Some l) × (l.sender ≡ q) × (l.body ≡ body)
 said_by-from q None body h = absurd (none-some body h)
 said_by-from q (Some l) body h = go (l.sender == q) refl h
   where
-    go : (b : Bool) → (l.sender == q) ≡ b → cond b (Some l.body) None ≡ Some body → (m : Letter) × (Some l ≡ Some m) × (m.sender ≡ q) × (m.body ≡ body)
+    go : (b : Bool) → (l.sender == q) ≡ b → cond b (Some l.body) None ≡ Some body
+        → (m : Letter) × (Some l ≡ Some m) × (m.sender ≡ q) × (m.body ≡ body)
     go true e f = (l, refl, eqb-true l.sender q e, same_Some l.body body f)
     go false e f = absurd (none-some body f)
 
 -- what is found is said
-pub body_from-said : (letters : List (Option Letter)) (ids : List ℕ) (q : ℕ) (body : Body) → body_from letters ids q ≡ Some body → IsSaid letters ids q body
+pub body_from-said : (letters : List (Option Letter)) (ids : List ℕ) (q : ℕ) (body : Body)
+    → body_from letters ids q ≡ Some body → IsSaid letters ids q body
 body_from-said letters [] q body h = absurd (none-some body h)
 body_from-said letters (s ∷ rest) q body h = go (said_by q (letter_at letters s)) refl h (body_from-said letters rest q body)
   where
@@ -75,17 +79,25 @@ body_from-said letters (s ∷ rest) q body h = go (said_by q (letter_at letters 
         record { message = s; member = Contains-head s rest; letter = r.0; kept = r.1; sender = r.2; says = r.3 ∙ same_Some b body f }
     go None e f later =
         let is = later f in
-        record { message = is.message; member = Contains-rest s is.message rest is.member; letter = is.letter; kept = is.kept; sender = is.sender; says = is.says }
+        record {
+          message = is.message;
+          member = Contains-rest s is.message rest is.member;
+          letter = is.letter;
+          kept = is.kept;
+          sender = is.sender;
+          says = is.says;
+        }
 
 -- if something of q is among these, something is found
-pub body_from-some : (letters : List (Option Letter)) (ids : List ℕ) (q : ℕ) (body : Body) → IsSaid letters ids q body → (b : Body) × (body_from letters ids q ≡ Some b)
+pub body_from-some : (letters : List (Option Letter)) (ids : List ℕ) (q : ℕ) (body : Body)
+    → IsSaid letters ids q body → (b : Body) × (body_from letters ids q ≡ Some b)
 body_from-some letters [] q body is = absurd (Contains-nil is.message is.member)
 body_from-some letters (s ∷ rest) q body is =
-    go (said_by q (letter_at letters s)) refl (Contains-cons_cases s is.message rest is.member)
-    (λ d. body_from-some letters rest q body (record { message = is.message; member = d; letter = is.letter; kept = is.kept; sender = is.sender; says = is.says }))
+    go (said_by q (letter_at letters s)) refl (Contains-cons_cases s is.message rest is.member) (λ d. body_from-some letters rest q body
+    (record { message = is.message; member = d; letter = is.letter; kept = is.kept; sender = is.sender; says = is.says }))
   where
-    go : (o : Option Body) → said_by q (letter_at letters s) ≡ o → (is.message ≡ s) ⊎ Contains rest is.message
-        → (Contains rest is.message → (b : Body) × (body_from letters rest q ≡ Some b)) → (b : Body) × (option_or o (body_from letters rest q) ≡ Some b)
+    go : (o : Option Body) → said_by q (letter_at letters s) ≡ o → (is.message ≡ s) ⊎ Contains rest is.message → (Contains rest is.message
+        → (b : Body) × (body_from letters rest q ≡ Some b)) → (b : Body) × (option_or o (body_from letters rest q) ≡ Some b)
     go (Some b) e h later = (b, refl)
     go None e (inr d) later = later d
     go None e (inl same) later =
@@ -100,7 +112,8 @@ heard_from-more letters ids q o l h =
     let says : ℕ → Option Message = λ p. option_map (λ (body : Body). (p, body)) (body_from letters ids p) in
     let e : q + 1 - 1 ≡ q - 1 + 1 = omega arith in
     ap (heard_from letters ids) e
-    ∙ filter_map-range_with_len-more says 1 (q - 1) q (option_map (λ (body : Body). (q, body)) o) (omega arith) (ap (option_map (λ (body : Body). (q, body))) h)
+    ∙ filter_map-range_with_len-more says 1 (q - 1) q
+    (option_map (λ (body : Body). (q, body)) o) (omega arith) (ap (option_map (λ (body : Body). (q, body))) h)
 
 -- the messages of a round that p kept or takes now
 abbrev gathered : List (Option Letter) → List ℕ → List ℕ → ℕ → List ℕ
@@ -111,7 +124,8 @@ body_of-round : (c : Setup) (steps : List Step) (q to s r n : ℕ) → round_at 
     → body_of c steps q to s ≡ out c (state_after c (heard_table steps) n q) q r to
 body_of-round c steps q to s r n round now =
     let e : passed (before steps s) q ≡ n = omega arith in
-    ap (λ k. out c (state_after c (heard_table steps) k q) q (round_at steps q s) to) e ∙ ap (λ k. out c (state_after c (heard_table steps) n q) q k to) round
+    ap (λ k. out c (state_after c (heard_table steps) k q) q (round_at steps q s) to) e
+    ∙ ap (λ k. out c (state_after c (heard_table steps) n q) q k to) round
 
 -- the Receive of p that ends its round r, with what p has at hand then
 module _ (c : Setup) (steps : List Step) (p r : ℕ) (ids near : List ℕ) (later : List Entry) (letters : List (Option Letter))
@@ -125,7 +139,8 @@ module _ (c : Setup) (steps : List Step) (p r : ℕ) (ids near : List ℕ) (late
   Heard m = IsBodyHeard c (heard_table longer) (state_after c (heard_table steps) (passed steps p)) p r m
 
   -- what is gathered was taken by the end of the round, and is of the round
-  gathered-kept : (s : ℕ) → Contains (gathered letters near ids r) s → (a : IsKeptAfter steps (receiving p true ids) p r s) × (round_at steps a.sender s ≡ r)
+  gathered-kept : (s : ℕ) → Contains (gathered letters near ids r) s
+      → (a : IsKeptAfter steps (receiving p true ids) p r s) × (round_at steps a.sender s ≡ r)
   gathered-kept s d = go (Contains-append_cases (of_round letters r near) (of_round letters r ids) s d)
     where
       go : Contains (of_round letters r near) s ⊎ Contains (of_round letters r ids) s
@@ -172,7 +187,8 @@ module _ (c : Setup) (steps : List Step) (p r : ℕ) (ids near : List ℕ) (late
       let same : l.0 ≡ said.letter = same_Some l.0 said.letter (sym l.1 ∙ said.kept) in
       let from : a.0.sender ≡ q = sym l.2.sender ∙ ap (λ (z : Letter). z.sender) same ∙ said.sender in
       let says : out c (state_after c (heard_table steps) (passed steps p) a.0.sender) a.0.sender r p ≡ Some body =
-      sym (body_of-round c steps a.0.sender p said.message r (passed steps p) a.1 now) ∙ l.2.body ∙ ap (λ (z : Letter). Some z.body) same ∙ ap (λ (z : Body). Some z) said.says in
+      sym (body_of-round c steps a.0.sender p said.message r (passed steps p) a.1 now)
+      ∙ l.2.body ∙ ap (λ (z : Letter). Some z.body) same ∙ ap (λ (z : Body). Some z) said.says in
       subst (λ q. Heard (q, body)) from (record {
         sender = w.procs said.message (record { proc = a.0.sender; act = Send p }) after.0;
         heard = heard-from_sent a.0.sender said.message after.0 taken (after.1 ∙ a.1);
@@ -181,21 +197,28 @@ module _ (c : Setup) (steps : List Step) (p r : ℕ) (ids near : List ℕ) (late
 
   heard_in-heard : (m : Message) → Contains (heard_in letters near ids r c.n) m → Heard m
   heard_in-heard m d =
-      let f = Contains-from_filter_map (λ q. option_map (λ (body : Body). (q, body)) (body_from letters (gathered letters near ids r) q)) (processors c) m d in
+      let f = Contains-from_filter_map (λ q. option_map (λ (body : Body). (q, body)) (body_from letters (gathered letters near ids r) q))
+      (processors c) m d in
       go f.0 (body_from letters (gathered letters near ids r) f.0) refl f.2
     where
-      go : (q : ℕ) (o : Option Body) → body_from letters (gathered letters near ids r) q ≡ o → option_map (λ (body : Body). (q, body)) o ≡ Some m → Heard m
+      go : (q : ℕ) (o : Option Body) → body_from letters (gathered letters near ids r) q ≡ o
+          → option_map (λ (body : Body). (q, body)) o ≡ Some m → Heard m
       go q None e h = absurd (none-some m h)
-      go q (Some body) e h = let pair : Message = (q, body) in subst Heard (same_Some pair m h) (heard-said q body (body_from-said letters (gathered letters near ids r) q body e))
+      go q (Some body) e h = let pair : Message = (q, body) in
+          subst Heard (same_Some pair m h) (heard-said q body (body_from-said letters (gathered letters near ids r) q body e))
 
   -- a message of the round that was taken is gathered
-  gathered-from_kept : (s : ℕ) (a : IsKeptAfter steps (receiving p true ids) p r s) → round_at steps a.sender s ≡ r → Contains (gathered letters near ids r) s
+  gathered-from_kept : (s : ℕ) (a : IsKeptAfter steps (receiving p true ids) p r s)
+      → round_at steps a.sender s ≡ r → Contains (gathered letters near ids r) s
   gathered-from_kept s a round = elim a.how [
-    | inl earlier ↦ elim (Contains-append_cases near (ids_of later) s ((is.ids s).1 (record { sender = a.sender; sent = a.sent; taken = earlier; ahead = a.ahead }))) [
-      | inl d ↦ Contains-append_left (of_round letters r near) (of_round letters r ids) s (Contains-filter (λ i. round_of letters i == r) near s d in_round)
-      | inr d ↦ absurd (late (Contains-from_map (λ (e : Entry). e.0.1) later s d))
-    ]
-    | inr here ↦ Contains-append_right (of_round letters r near) (of_round letters r ids) s (Contains-filter (λ i. round_of letters i == r) ids s here.1 in_round)
+    | inl earlier ↦ elim (Contains-append_cases near
+        (ids_of later) s ((is.ids s).1 (record { sender = a.sender; sent = a.sent; taken = earlier; ahead = a.ahead }))) [
+          | inl d ↦ Contains-append_left (of_round letters r near)
+              (of_round letters r ids) s (Contains-filter (λ i. round_of letters i == r) near s d in_round)
+          | inr d ↦ absurd (late (Contains-from_map (λ (e : Entry). e.0.1) later s d))
+        ]
+    | inr here ↦ Contains-append_right (of_round letters r near)
+        (of_round letters r ids) s (Contains-filter (λ i. round_of letters i == r) ids s here.1 in_round)
   ]
     where
       known : round_of letters s ≡ r
@@ -209,7 +232,8 @@ module _ (c : Setup) (steps : List Step) (p r : ℕ) (ids near : List ℕ) (late
           let i = is.entries f.0 f.1 in
           let high = All-contains (λ (y : Entry). r < y.0.0) later f.0 ahead f.1 in
           let is_round = i.round in
-          let other : round_of letters f.0.0.1 ≡ round_at steps i.sender f.0.0.1 = round_of-ahead c steps letters are i.sender p f.0.0.1 i.sent (omega arith) in
+          let other : round_of letters f.0.0.1 ≡ round_at steps i.sender f.0.0.1 =
+          round_of-ahead c steps letters are i.sender p f.0.0.1 i.sent (omega arith) in
           let same : round_of letters f.0.0.1 ≡ round_of letters s = ap (round_of letters) f.2 in
           let here = known in
           omega arith
@@ -222,20 +246,31 @@ module _ (c : Setup) (steps : List Step) (p r : ℕ) (ids near : List ℕ) (late
       let e = (w.earlier t.place h.message t.step t.stands t.taken).1 in
       let one : Step = record { proc = e.0; act = Send t.step.proc } in
       let same : one ≡ h.sent.step = same_Some one h.sent.step (sym e.1 ∙ h.sent.stands) in
-      let sent : IsSend longer m.0 p h.message = subst₂ (λ q to. IsSend longer q to h.message) (ap (λ (z : Step). z.proc) same ∙ h.sent.sender) t.taker e.1 in
+      let sent : IsSend longer m.0 p h.message = subst₂
+      (λ q to. IsSend longer q to h.message) (ap (λ (z : Step). z.proc) same ∙ h.sent.sender) t.taker e.1 in
       let round = h.sent.round in
       let a = IsKeptAfter-from_kept steps (receiving p true ids) c p r h.message w
-      (record { sender = m.0; sent = sent; taken = taken_from_at longer t.place h.message (t.step, t.stands, t.taken); ahead = omega arith }) in
+      (record
+      { sender = m.0; sent = sent; taken = taken_from_at longer t.place h.message (t.step, t.stands, t.taken); ahead = omega arith }) in
       let after = sent-longer steps (receiving p true ids) a.sender p h.message a.sent in
       let two : Step = record { proc = a.sender; act = Send p } in
       let from : a.sender ≡ m.0 = ap (λ (z : Step). z.proc) (same_Some two h.sent.step (sym after.0 ∙ h.sent.stands)) ∙ h.sent.sender in
       let in_round : round_at steps a.sender h.message ≡ r = sym after.1 ∙ ap (λ q. round_at longer q h.message) from ∙ round in
       let l = kept-ahead c steps letters are a.sender p h.message a.sent (omega arith) in
       let found = body_from-some letters (gathered letters near ids r) m.0 l.0.body
-      (record { message = h.message; member = gathered-from_kept h.message a in_round; letter = l.0; kept = l.1; sender = l.2.sender ∙ from; says = refl }) in
+      (record {
+        message = h.message;
+        member = gathered-from_kept h.message a in_round;
+        letter = l.0;
+        kept = l.1;
+        sender = l.2.sender
+            ∙ from;
+        says = refl;
+      }) in
       let pair : Message = (m.0, found.0) in
       let here : Contains (heard_in letters near ids r c.n) pair =
-      Contains-filter_map (λ q. option_map (λ (body : Body). (q, body)) (body_from letters (gathered letters near ids r) q)) (processors c) m.0 pair (Contains-processors c m.0 heard.sender) (rw found.1 refl) in
+      Contains-filter_map (λ q. option_map (λ (body : Body). (q, body)) (body_from letters (gathered letters near ids r) q))
+      (processors c) m.0 pair (Contains-processors c m.0 heard.sender) (rw found.1 refl) in
       let body : found.0 ≡ m.1 = same_Some found.0 m.1 (sym (heard_in-heard pair here).body ∙ heard.body) in
       subst (Contains (heard_in letters near ids r c.n)) (ap (λ (b : Body). (m.0, b)) body) here
 

@@ -141,7 +141,8 @@ IsSentIn-same steps other q r s round step is = record {
 
 pub IsSentIn-longer : (steps more : List Step) (q r s : ℕ) → s ≤ length steps → IsSentIn steps q r s
     → IsSentIn (steps ++ more) q r s
-IsSentIn-longer steps more q r s l = IsSentIn-same steps (steps ++ more) q r s (round_at-prefix steps more q s (omega arith)) (step_at-prefix steps more s l)
+IsSentIn-longer steps more q r s l = IsSentIn-same steps
+    (steps ++ more) q r s (round_at-prefix steps more q s (omega arith)) (step_at-prefix steps more s l)
 
 pub IsSentIn-prefix : (steps more : List Step) (q r s : ℕ) → s ≤ length steps → IsSentIn (steps ++ more) q r s
     → IsSentIn steps q r s

@@ -23,7 +23,8 @@ use Rattle.std.proofs.lemmas.List.Elements.{All-contains, Contains-append_left, 
 use Rattle.std.proofs.lemmas.List.Sorted.{IsPermutation-sym, Contains-permutation}
 
 -- who takes a message is the one to whom it was sent
-pub IsTakenBy-receiver : (c : Setup) (steps : List Step) (q p s : ℕ) → IsWellFormed c steps → IsSend steps q p s → is_taken steps s ≡ true → IsTakenBy steps p s
+pub IsTakenBy-receiver : (c : Setup) (steps : List Step) (q p s : ℕ)
+    → IsWellFormed c steps → IsSend steps q p s → is_taken steps s ≡ true → IsTakenBy steps p s
 IsTakenBy-receiver c steps q p s w sent taken =
     let t = taken_at-from_is_taken steps s taken in
     let e = (w.earlier t.0 s t.1.0 t.1.1 t.1.2).1 in
@@ -46,7 +47,8 @@ pub record IsKeptAfter (steps : List Step) (x : Step) (p r s : ℕ) : Type 0 whe
 
 module _ (steps : List Step) (x : Step) where
   -- a message of the shorter trace has its round in the longer one
-  pub sent-longer : (q p s : ℕ) → IsSend steps q p s → IsSend (steps ++ x ∷ []) q p s × (round_at (steps ++ x ∷ []) q s ≡ round_at steps q s)
+  pub sent-longer : (q p s : ℕ) → IsSend steps q p s
+      → IsSend (steps ++ x ∷ []) q p s × (round_at (steps ++ x ∷ []) q s ≡ round_at steps q s)
   sent-longer q p s h =
       let b = step_at_within steps s (record { proc = q; act = Send p }) h in
       let high = b.1 in
@@ -66,7 +68,8 @@ module _ (steps : List Step) (x : Step) where
       how (inl before) = ap (λ b. b || act_takes x.act s) before
       how (inr now) = ap (λ b. is_taken steps s || b) (act_takes-from_Contains x.act s now.1) ∙ or-true (is_taken steps s)
 
-  pub IsKeptAfter-from_kept : (c : Setup) (p r s : ℕ) → IsWellFormed c (steps ++ x ∷ []) → IsKept (steps ++ x ∷ []) p r s → IsKeptAfter steps x p r s
+  pub IsKeptAfter-from_kept : (c : Setup) (p r s : ℕ)
+      → IsWellFormed c (steps ++ x ∷ []) → IsKept (steps ++ x ∷ []) p r s → IsKeptAfter steps x p r s
   IsKeptAfter-from_kept c p r s w is =
       let t = IsTakenBy-receiver c (steps ++ x ∷ []) is.sender p s w is.sent is.taken in
       let b = step_at_within (steps ++ x ∷ []) t.place t.step t.stands in
@@ -89,7 +92,8 @@ module _ (steps : List Step) (x : Step) where
 abbrev round_in : Option Letter → ℕ
 round_in o = option_map_or (λ l. l.round) o 0
 
-module _ (c : Setup) (steps : List Step) (letters : List (Option Letter)) (are : AreLetters c steps letters) (q to s : ℕ) (sent : IsSend steps q to s) where
+module _ (c : Setup) (steps : List Step) (letters : List (Option Letter))
+    (are : AreLetters c steps letters) (q to s : ℕ) (sent : IsSend steps q to s) where
   -- a message is kept whose receiver has not passed its round
   pub kept-ahead : passed steps to < round_at steps q s → (l : Letter) × (letter_at letters s ≡ Some l) × IsLetter c steps q to s l
   kept-ahead ahead = elim (are.messages q to s sent) [ inl m ↦ m | inr e ↦ absurd (let past = e.1 in omega arith) ]
@@ -125,7 +129,8 @@ pub IsInbox-opening : (p r : ℕ) → IsInbox [] p r [] []
 IsInbox-opening p r = record {
   ids = λ s. (
     λ d. absurd (Contains-nil s d),
-    λ k. absurd (let b = step_at_within [] s (record { proc = k.sender; act = Send p }) k.sent in let low = b.0 in let high = b.1 in omega arith),
+    λ k. absurd (let b = step_at_within [] s (record { proc = k.sender; act = Send p }) k.sent in
+        let low = b.0 in let high = b.1 in omega arith),
   );
   entries = λ e d. absurd (Contains-nil e d);
 }
@@ -136,11 +141,12 @@ IsEntry-longer steps x p e is =
     record { sender = is.sender; sent = more.0; round = more.1 ∙ is.round }
 
 -- a step that takes nothing for p leaves its inbox
-pub IsInbox-stays : (c : Setup) (steps : List Step) (x : Step) (p r : ℕ) (near : List ℕ) (later : List Entry) → IsWellFormed c (steps ++ x ∷ [])
-    → (x.proc ≡ p → act_ids x.act ≡ []) → IsInbox steps p r near later → IsInbox (steps ++ x ∷ []) p r near later
+pub IsInbox-stays : (c : Setup) (steps : List Step) (x : Step) (p r : ℕ) (near : List ℕ) (later : List Entry) → IsWellFormed c
+    (steps ++ x ∷ []) → (x.proc ≡ p → act_ids x.act ≡ []) → IsInbox steps p r near later → IsInbox (steps ++ x ∷ []) p r near later
 IsInbox-stays c steps x p r near later w nothing is = record {
   ids = λ s. (
-    λ d. (let k = (is.ids s).0 d in IsKept-from_after steps x p r s (record { sender = k.sender; sent = k.sent; ahead = k.ahead; how = inl k.taken })),
+    λ d. (let k = (is.ids s).0 d in
+        IsKept-from_after steps x p r s (record { sender = k.sender; sent = k.sent; ahead = k.ahead; how = inl k.taken })),
     λ k. (let a = IsKeptAfter-from_kept steps x c p r s w k in elim a.how [
       | inl before ↦ (is.ids s).1 (record { sender = a.sender; sent = a.sent; taken = before; ahead = a.ahead })
       | inr now ↦ absurd (Contains-nil s (subst (λ ids. Contains ids s) (nothing now.0) now.1))
@@ -150,86 +156,96 @@ IsInbox-stays c steps x p r near later w nothing is = record {
 }
 
 -- after a Receive, the messages of the round and of later ones that it takes are there too
-pub IsInbox-took : (c : Setup) (steps : List Step) (x : Step) (r : ℕ) (near new_near : List ℕ) (later new_later : List Entry) (letters : List (Option Letter))
-    → IsWellFormed c (steps ++ x ∷ []) → AreLetters c steps letters → r ≡ passed steps x.proc + 1
-    → IsPermutation (kept_of near later ++ ahead letters r (act_ids x.act)) (kept_of new_near new_later)
-    → ((e : Entry) → Contains new_later e → IsEntered later letters r e) → IsInbox steps x.proc r near later → IsInbox (steps ++ x ∷ []) x.proc r new_near new_later
-IsInbox-took c steps x r near new_near later new_later letters w are now same entered is = record { ids = λ s. (forth s, back s); entries = entry }
-  where
-    old : List ℕ
-    old = kept_of near later
+pub IsInbox-took : (c : Setup) (steps : List Step) (x : Step) (r : ℕ) (near new_near : List ℕ) (later new_later : List Entry)
+    (letters : List (Option Letter)) → IsWellFormed c (steps ++ x ∷ []) → AreLetters c steps letters → r ≡ passed steps x.proc + 1
+    → IsPermutation (kept_of near later ++ ahead letters r (act_ids x.act)) (kept_of new_near new_later) → ((e : Entry) → Contains
+    new_later e → IsEntered later letters r e) → IsInbox steps x.proc r near later → IsInbox (steps ++ x ∷ []) x.proc r new_near new_later
+IsInbox-took c steps x r near new_near later new_later letters w are now same entered is =
+    record { ids = λ s. (forth s, back s); entries = entry } where
+      old : List ℕ
+      old = kept_of near later
 
-    new : List ℕ
-    new = kept_of new_near new_later
+      new : List ℕ
+      new = kept_of new_near new_later
 
-    taken : List ℕ
-    taken = ahead letters r (act_ids x.act)
+      taken : List ℕ
+      taken = ahead letters r (act_ids x.act)
 
-    all : List ℕ
-    all = old ++ taken
+      all : List ℕ
+      all = old ++ taken
 
-    after : (s : ℕ) → Contains old s ⊎ Contains taken s → IsKeptAfter steps x x.proc r s
-    after s (inl d) = let k = (is.ids s).0 d in record { sender = k.sender; sent = k.sent; ahead = k.ahead; how = inl k.taken }
-    after s (inr d) =
-        let f = Contains-from_filter (is_ahead letters r) (act_ids x.act) s d in
-        let q = (Fits-from_well_formed c steps x w).sent s f.0 in
-        let high = leb-true r (round_of letters s) f.1 in
-        let known = round_of-known c steps letters are q.0 x.proc s q.1 (omega arith) in
-        record { sender = q.0; sent = q.1; ahead = omega arith; how = inr (refl, f.0) }
+      after : (s : ℕ) → Contains old s ⊎ Contains taken s → IsKeptAfter steps x x.proc r s
+      after s (inl d) = let k = (is.ids s).0 d in record { sender = k.sender; sent = k.sent; ahead = k.ahead; how = inl k.taken }
+      after s (inr d) =
+          let f = Contains-from_filter (is_ahead letters r) (act_ids x.act) s d in
+          let q = (Fits-from_well_formed c steps x w).sent s f.0 in
+          let high = leb-true r (round_of letters s) f.1 in
+          let known = round_of-known c steps letters are q.0 x.proc s q.1 (omega arith) in
+          record { sender = q.0; sent = q.1; ahead = omega arith; how = inr (refl, f.0) }
 
-    forth : (s : ℕ) → Contains new s → IsKept (steps ++ x ∷ []) x.proc r s
-    forth s d = IsKept-from_after steps x x.proc r s (after s (Contains-append_cases old taken s (Contains-permutation new all s (IsPermutation-sym all new same) d)))
+      forth : (s : ℕ) → Contains new s → IsKept (steps ++ x ∷ []) x.proc r s
+      forth s d = IsKept-from_after steps x x.proc r s
+          (after s (Contains-append_cases old taken s (Contains-permutation new all s (IsPermutation-sym all new same) d)))
 
-    back : (s : ℕ) → IsKept (steps ++ x ∷ []) x.proc r s → Contains new s
-    back s k =
-        let a = IsKeptAfter-from_kept steps x c x.proc r s w k in
-        let ahead = a.ahead in
-        Contains-permutation all new s same (elim a.how [
-          | inl before ↦ Contains-append_left old taken s ((is.ids s).1 (record { sender = a.sender; sent = a.sent; taken = before; ahead = a.ahead }))
-          | inr here ↦
-              let known = round_of-ahead c steps letters are a.sender x.proc s a.sent (omega arith) in
-              Contains-append_right old taken s (Contains-filter (is_ahead letters r) (act_ids x.act) s here.1 (le-leb r (round_of letters s) (omega arith)))
-        ])
+      back : (s : ℕ) → IsKept (steps ++ x ∷ []) x.proc r s → Contains new s
+      back s k =
+          let a = IsKeptAfter-from_kept steps x c x.proc r s w k in
+          let ahead = a.ahead in
+          Contains-permutation all new s same (elim a.how [
+            | inl before ↦ Contains-append_left old taken s
+                ((is.ids s).1 (record { sender = a.sender; sent = a.sent; taken = before; ahead = a.ahead }))
+            | inr here ↦
+                let known = round_of-ahead c steps letters are a.sender x.proc s a.sent (omega arith) in
+                Contains-append_right old taken s
+                (Contains-filter (is_ahead letters r) (act_ids x.act) s here.1 (le-leb r (round_of letters s) (omega arith)))
+          ])
 
-    entry : (e : Entry) → Contains new_later e → IsEntry (steps ++ x ∷ []) x.proc e
-    entry e d = elim (entered e d) [
-      | inl before ↦ IsEntry-longer steps x x.proc e (is.entries e before)
-      | inr here ↦
-          let a = IsKeptAfter-from_kept steps x c x.proc r e.0.1 w (forth e.0.1 (later-kept new_near new_later e d)) in
-          let known = round_of-ahead c steps letters are a.sender x.proc e.0.1 a.sent (omega (arith, a.ahead)) in
-          IsEntry-longer steps x x.proc e (record { sender = a.sender; sent = a.sent; round = sym known ∙ sym here.1 })
-    ]
+      entry : (e : Entry) → Contains new_later e → IsEntry (steps ++ x ∷ []) x.proc e
+      entry e d = elim (entered e d) [
+        | inl before ↦ IsEntry-longer steps x x.proc e (is.entries e before)
+        | inr here ↦
+            let a = IsKeptAfter-from_kept steps x c x.proc r e.0.1 w (forth e.0.1 (later-kept new_near new_later e d)) in
+            let known = round_of-ahead c steps letters are a.sender x.proc e.0.1 a.sent (omega (arith, a.ahead)) in
+            IsEntry-longer steps x x.proc e (record { sender = a.sender; sent = a.sent; round = sym known ∙ sym here.1 })
+      ]
 
 -- if a round is over, those of it are dropped from the ones at hand
 pub IsInbox-turned : (c : Setup) (steps : List Step) (p r : ℕ) (near : List ℕ) (later : List Entry) (letters : List (Option Letter))
     → AreLetters c steps letters → r ≡ passed steps p → All (λ (e : Entry). r < e.0.0) later → IsInbox steps p r near later
     → IsInbox steps p (r + 1) (ahead letters (r + 1) near) later
-IsInbox-turned c steps p r near later letters are now gathered is = record { ids = λ s. (λ d. forth s (Contains-append_cases kept (ids_of later) s d), back s); entries = is.entries }
-  where
-    kept : List ℕ
-    kept = ahead letters (r + 1) near
+IsInbox-turned c steps p r near later letters are now gathered is =
+    record { ids = λ s. (λ d. forth s (Contains-append_cases kept (ids_of later) s d), back s); entries = is.entries } where
+      kept : List ℕ
+      kept = ahead letters (r + 1) near
 
-    forth : (s : ℕ) → Contains kept s ⊎ Contains (ids_of later) s → IsKept steps p (r + 1) s
-    forth s (inl d) =
-        let f = Contains-from_filter (is_ahead letters (r + 1)) near s d in
-        let k = (is.ids s).0 (Contains-append_left near (ids_of later) s f.0) in
-        let high = leb-true (r + 1) (round_of letters s) f.1 in
-        let known = round_of-known c steps letters are k.sender p s k.sent (omega arith) in
-        record { sender = k.sender; sent = k.sent; taken = k.taken; ahead = omega arith }
-    forth s (inr d) =
-        let f = Contains-from_map (λ (e : Entry). e.0.1) later s d in
-        let k = (is.ids s).0 (Contains-append_right near (ids_of later) s d) in
-        let is_entry = is.entries f.0 f.1 in
-        let e : f.0.0.1 ≡ s = f.2 in
-        let high = All-contains (λ (y : Entry). r < y.0.0) later f.0 gathered f.1 in
-        let round : round_at steps is_entry.sender s ≡ f.0.0.0 = ap (round_at steps is_entry.sender) (sym e) ∙ is_entry.round in
-        record { sender = is_entry.sender; sent = subst (λ i. IsSend steps is_entry.sender p i) e is_entry.sent; taken = k.taken; ahead = omega arith }
+      forth : (s : ℕ) → Contains kept s ⊎ Contains (ids_of later) s → IsKept steps p (r + 1) s
+      forth s (inl d) =
+          let f = Contains-from_filter (is_ahead letters (r + 1)) near s d in
+          let k = (is.ids s).0 (Contains-append_left near (ids_of later) s f.0) in
+          let high = leb-true (r + 1) (round_of letters s) f.1 in
+          let known = round_of-known c steps letters are k.sender p s k.sent (omega arith) in
+          record { sender = k.sender; sent = k.sent; taken = k.taken; ahead = omega arith }
+      forth s (inr d) =
+          let f = Contains-from_map (λ (e : Entry). e.0.1) later s d in
+          let k = (is.ids s).0 (Contains-append_right near (ids_of later) s d) in
+          let is_entry = is.entries f.0 f.1 in
+          let e : f.0.0.1 ≡ s = f.2 in
+          let high = All-contains (λ (y : Entry). r < y.0.0) later f.0 gathered f.1 in
+          let round : round_at steps is_entry.sender s ≡ f.0.0.0 = ap (round_at steps is_entry.sender) (sym e) ∙ is_entry.round in
+          record {
+            sender = is_entry.sender;
+            sent = subst (λ i. IsSend steps is_entry.sender p i) e is_entry.sent;
+            taken = k.taken;
+            ahead = omega arith;
+          }
 
-    back : (s : ℕ) → IsKept steps p (r + 1) s → Contains (kept ++ ids_of later) s
-    back s k =
-        let ahead = k.ahead in
-        let known = round_of-ahead c steps letters are k.sender p s k.sent (omega arith) in
-        elim (Contains-append_cases near (ids_of later) s ((is.ids s).1 (record { sender = k.sender; sent = k.sent; taken = k.taken; ahead = omega arith }))) [
-          | inl d ↦ Contains-append_left kept (ids_of later) s (Contains-filter (is_ahead letters (r + 1)) near s d (le-leb (r + 1) (round_of letters s) (omega arith)))
-          | inr d ↦ Contains-append_right kept (ids_of later) s d
-        ]
+      back : (s : ℕ) → IsKept steps p (r + 1) s → Contains (kept ++ ids_of later) s
+      back s k =
+          let ahead = k.ahead in
+          let known = round_of-ahead c steps letters are k.sender p s k.sent (omega arith) in
+          elim (Contains-append_cases near (ids_of later) s
+          ((is.ids s).1 (record { sender = k.sender; sent = k.sent; taken = k.taken; ahead = omega arith }))) [
+            | inl d ↦ Contains-append_left kept (ids_of later) s
+                (Contains-filter (is_ahead letters (r + 1)) near s d (le-leb (r + 1) (round_of letters s) (omega arith)))
+            | inr d ↦ Contains-append_right kept (ids_of later) s d
+          ]

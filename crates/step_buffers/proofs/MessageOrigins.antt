@@ -11,16 +11,18 @@ pub sender_of-sent : (steps : List Step) (q p s : ℕ) → IsSend steps q p s �
 sender_of-sent steps q p s sent = ap (λ x. option_map_or (λ (y : Step). y.proc) x 0) sent
 
 -- its round, if p hasn't passed it
-pub round_ahead-ahead : (steps : List Step) (q p s : ℕ) → IsSend steps q p s → passed steps p < round_at steps q s → round_ahead steps p s ≡ round_at steps q s
+pub round_ahead-ahead : (steps : List Step) (q p s : ℕ)
+    → IsSend steps q p s → passed steps p < round_at steps q s → round_ahead steps p s ≡ round_at steps q s
 round_ahead-ahead steps q p s sent ahead = rw (sender_of-sent steps q p s sent, lt-ltb (passed steps p) (round_at steps q s) ahead) refl
 
 -- and if p has passed it
-pub round_ahead-past : (steps : List Step) (q p s : ℕ) → IsSend steps q p s → round_at steps q s ≤ passed steps p → round_ahead steps p s ≡ 0
+pub round_ahead-past : (steps : List Step) (q p s : ℕ)
+    → IsSend steps q p s → round_at steps q s ≤ passed steps p → round_ahead steps p s ≡ 0
 round_ahead-past steps q p s sent past = rw (sender_of-sent steps q p s sent, le-ltb (passed steps p) (round_at steps q s) past) refl
 
 -- By what is kept of it, a message is of a round that p has passed,
-pub round_ahead-early : (c : Setup) (steps : List Step) (letters : List (Option Letter)) (q p s : ℕ) → AreLetters c steps letters → IsSend steps q p s
-    → round_of letters s ≤ passed steps p → round_ahead steps p s ≡ 0
+pub round_ahead-early : (c : Setup) (steps : List Step) (letters : List (Option Letter)) (q p s : ℕ)
+    → AreLetters c steps letters → IsSend steps q p s → round_of letters s ≤ passed steps p → round_ahead steps p s ≡ 0
 round_ahead-early c steps letters q p s are sent early = go (cases_lt (passed steps p) (round_at steps q s))
   where
     go : (passed steps p < round_at steps q s) ⊎ (round_at steps q s ≤ passed steps p) → round_ahead steps p s ≡ 0
@@ -28,8 +30,8 @@ round_ahead-early c steps letters q p s are sent early = go (cases_lt (passed st
     go (inr past) = round_ahead-past steps q p s sent past
 
 -- or of a later one.
-pub round_ahead-late : (c : Setup) (steps : List Step) (letters : List (Option Letter)) (q p s : ℕ) → AreLetters c steps letters → IsSend steps q p s
-    → passed steps p < round_of letters s → round_ahead steps p s ≡ round_of letters s
+pub round_ahead-late : (c : Setup) (steps : List Step) (letters : List (Option Letter)) (q p s : ℕ)
+    → AreLetters c steps letters → IsSend steps q p s → passed steps p < round_of letters s → round_ahead steps p s ≡ round_of letters s
 round_ahead-late c steps letters q p s are sent late =
     let is = round_of-known c steps letters are q p s sent (omega arith) in
     round_ahead-ahead steps q p s sent (omega arith) ∙ sym is

@@ -36,7 +36,8 @@ first-filtered : (test : ℕ → Bool) (xs : List ℕ) → slice_get (filter tes
 first-filtered test [] = refl
 first-filtered test (x ∷ xs) = go (test x) (first-filtered test xs)
   where
-    go : (b : Bool) → slice_get (filter test xs) 0 ≡ find test xs → slice_get (cond b (x ∷ filter test xs) (filter test xs)) 0 ≡ cond b (Some x) (find test xs)
+    go : (b : Bool) → slice_get (filter test xs) 0 ≡ find test xs
+        → slice_get (cond b (x ∷ filter test xs) (filter test xs)) 0 ≡ cond b (Some x) (find test xs)
     go true rest = refl
     go false rest = rest
 
@@ -52,17 +53,20 @@ pub after-filtered : (test : ℕ → Bool) (xs : List ℕ) (last k : ℕ) → Is
 after-filtered test [] last k rise h = absurd (none-some last h)
 after-filtered test (x ∷ xs) last k rise h = go (test x) k (after-filtered test xs last) h
   where
-    skip : (b : Bool) → x ≤ last → find (λ y. nat_lt last y && test y) xs ≡ cond (ltb last x && b) (Some x) (find (λ y. nat_lt last y && test y) xs)
+    skip : (b : Bool) → x ≤ last → find (λ y. nat_lt last y && test y) xs
+        ≡ cond (ltb last x && b) (Some x) (find (λ y. nat_lt last y && test y) xs)
     skip b l = rw (le-ltb last x l) refl
 
     later : (j : ℕ) → slice_get (filter test xs) j ≡ Some last → x ≤ last
     later j e =
-        let member = (Contains-from_filter test xs last (j, slice_get_within (filter test xs) j last e, get_or_from_slice_get (filter test xs) j last last e)).0 in
+        let member = (Contains-from_filter test xs last
+        (j, slice_get_within (filter test xs) j last e, get_or_from_slice_get (filter test xs) j last last e)).0 in
         omega (arith, rising-first x xs rise last member)
 
-    go : (b : Bool) (j : ℕ) → ((j : ℕ) → IsStrictlyIncreasing xs → slice_get (filter test xs) j ≡ Some last → slice_get (filter test xs) (suc j) ≡ find (λ y. nat_lt last y && test y) xs)
-        → slice_get (cond b (x ∷ filter test xs) (filter test xs)) j ≡ Some last
-        → slice_get (cond b (x ∷ filter test xs) (filter test xs)) (suc j) ≡ cond (ltb last x && b) (Some x) (find (λ y. nat_lt last y && test y) xs)
+    go : (b : Bool) (j : ℕ) → ((j : ℕ) → IsStrictlyIncreasing xs
+        → slice_get (filter test xs) j ≡ Some last → slice_get (filter test xs) (suc j) ≡ find (λ y. nat_lt last y && test y) xs)
+        → slice_get (cond b (x ∷ filter test xs) (filter test xs)) j ≡ Some last → slice_get
+        (cond b (x ∷ filter test xs) (filter test xs)) (suc j) ≡ cond (ltb last x && b) (Some x) (find (λ y. nat_lt last y && test y) xs)
     go false j rest e = rest j (rising-tail x xs rise) e ∙ skip false (later j e)
     go true zero rest e =
         let same : x ≡ last = same_Some x last e in
@@ -72,7 +76,8 @@ after-filtered test (x ∷ xs) last k rise h = go (test x) k (after-filtered tes
     go true (suc j) rest e = rest j (rising-tail x xs rise) e ∙ skip true (later j e)
 
 -- the first destination of a round
-pub first-destination : (c : Setup) (node : State) (p round : ℕ) → slice_get (destinations c node p round) 0 ≡ find (λ to. is_some (out c node p round to)) (processors c)
+pub first-destination : (c : Setup) (node : State) (p round : ℕ)
+    → slice_get (destinations c node p round) 0 ≡ find (λ to. is_some (out c node p round to)) (processors c)
 first-destination c node p round = first-filtered (λ to. is_some (out c node p round to)) (processors c)
 
 -- the one after the last
@@ -82,7 +87,8 @@ later-destination c node p round last k h =
     after-filtered (λ to. is_some (out c node p round to)) (processors c) last k (IsStrictlyIncreasing-range_with_len 1 c.n) h
 
 -- the first number of a range that passes a test
-find-first : (test : ℕ → Bool) (a n k : ℕ) → a ≤ k → k < a + n → ((j : ℕ) → a ≤ j → j < k → test j ≡ false) → test k ≡ true → find test (range_with_len a n) ≡ Some k
+find-first : (test : ℕ → Bool) (a n k : ℕ) → a ≤ k
+    → k < a + n → ((j : ℕ) → a ≤ j → j < k → test j ≡ false) → test k ≡ true → find test (range_with_len a n) ≡ Some k
 find-first test a zero k low high none at = absurd (omega arith)
 find-first test a (suc n) k low high none at = elim (cases_lt a k) [
   | inl l ↦ rw (none a (omega arith) l)
@@ -93,32 +99,35 @@ find-first test a (suc n) k low high none at = elim (cases_lt a k) [
 -- if none passes
 find-none : (test : ℕ → Bool) (a n : ℕ) → ((j : ℕ) → a ≤ j → j < a + n → test j ≡ false) → find test (range_with_len a n) ≡ None
 find-none test a zero none = refl
-find-none test a (suc n) none = rw (none a (omega arith) (omega arith)) (find-none test (a + 1) n (λ j b h. none j (omega arith) (omega arith)))
+find-none test a (suc n) none = rw (none a (omega arith) (omega arith))
+    (find-none test (a + 1) n (λ j b h. none j (omega arith) (omega arith)))
 
-unsent : (c : Setup) (node : State) (p round last to : ℕ) → (last < to → is_some (out c node p round to) ≡ false) → (nat_lt last to && is_some (out c node p round to)) ≡ false
+unsent : (c : Setup) (node : State) (p round last to : ℕ)
+    → (last < to → is_some (out c node p round to) ≡ false) → (nat_lt last to && is_some (out c node p round to)) ≡ false
 unsent c node p round last to none = elim (cases_lt last to) [
   | inl l ↦ rw (lt-ltb last to l, none l) refl
   | inr l ↦ rw (le-ltb last to l) refl
 ]
 
-pub destination_after-found : (c : Setup) (node : State) (p round last to : ℕ) → last < to → to < c.n + 1
-    → ((t : ℕ) → last < t → t < to → is_some (out c node p round t) ≡ false) → is_some (out c node p round to) ≡ true → destination_after c node p round last ≡ Some to
+pub destination_after-found : (c : Setup) (node : State) (p round last to : ℕ) → last < to → to < c.n + 1 → ((t : ℕ) → last < t → t < to
+    → is_some (out c node p round t) ≡ false) → is_some (out c node p round to) ≡ true → destination_after c node p round last ≡ Some to
 destination_after-found c node p round last to l high none at =
     find-first (λ t. nat_lt last t && is_some (out c node p round t)) 1 c.n to (omega arith) (omega arith)
     (λ t b h. unsent c node p round last t (λ m. none t m h))
     (rw (lt-ltb last to l, at) refl)
 
-pub destination_after-none : (c : Setup) (node : State) (p round last : ℕ) → ((t : ℕ) → last < t → t < c.n + 1 → is_some (out c node p round t) ≡ false)
-    → destination_after c node p round last ≡ None
-destination_after-none c node p round last none =
-    find-none (λ t. nat_lt last t && is_some (out c node p round t)) 1 c.n (λ t b h. unsent c node p round last t (λ m. none t m (omega arith)))
+pub destination_after-none : (c : Setup) (node : State) (p round last : ℕ)
+    → ((t : ℕ) → last < t → t < c.n + 1 → is_some (out c node p round t) ≡ false) → destination_after c node p round last ≡ None
+destination_after-none c node p round last none = find-none
+    (λ t. nat_lt last t && is_some (out c node p round t)) 1 c.n (λ t b h. unsent c node p round last t (λ m. none t m (omega arith)))
 
 present : (o : Option Body) → is_some o ≡ true → IsSome o
 present (Some x) h = refl
 present None h = cc
 
 -- so there is something to send to the next destination
-pub destination_after-sends : (c : Setup) (node : State) (p round last to : ℕ) → destination_after c node p round last ≡ Some to → IsSome (out c node p round to)
+pub destination_after-sends : (c : Setup) (node : State) (p round last to : ℕ)
+    → destination_after c node p round last ≡ Some to → IsSome (out c node p round to)
 destination_after-sends c node p round last to h =
     let first = found (λ t. nat_lt last t && is_some (out c node p round t)) (processors c) to
     (IsStrictlyIncreasing-range_with_len 1 c.n) h in
@@ -129,28 +138,31 @@ pub sent-to_owner : (c : Setup) (s : State) (me round to : ℕ) → (part_of rou
     → is_some (out c s me round to) ≡ false
 sent-to_owner c s me round to (inl e) other =
     ap is_some (out-in Listing c s me round to (part_at-listing round e)) ∙ rw (ne_eqb to (owner c.n (phase_of round)) other) refl
-sent-to_owner c s me round to (inr e) other =
-    ap is_some (out-in Acknowledging c s me round to (part_at-acknowledging round e)) ∙ rw (ne_eqb to (owner c.n (phase_of round)) other) (go s.owes_ack)
+sent-to_owner c s me round to (inr e) other = ap is_some (out-in Acknowledging c s me round to (part_at-acknowledging round e))
+    ∙ rw (ne_eqb to (owner c.n (phase_of round)) other) (go s.owes_ack)
   where
     go : (b : Bool) → is_some (option_map (λ kind. with_proper s kind) (cond (b && false) (Some Ack) None)) ≡ false
     go true = refl
     go false = refl
 
 -- so if the owner is sent nothing nobody is
-pub sent-to_none : (c : Setup) (s : State) (me round r to : ℕ) → (part_of round ≡ 1) ⊎ (part_of round ≡ 3) → (to ≡ owner c.n (phase_of round) → to ≡ r)
-    → is_some (out c s me round r) ≡ false → is_some (out c s me round to) ≡ false
+pub sent-to_none : (c : Setup) (s : State) (me round r to : ℕ) → (part_of round ≡ 1) ⊎ (part_of round ≡ 3)
+    → (to ≡ owner c.n (phase_of round) → to ≡ r) → is_some (out c s me round r) ≡ false → is_some (out c s me round to) ≡ false
 sent-to_none c s me round r to part same none = elim (cases_eq to (owner c.n (phase_of round))) [
   | inl e ↦ subst (λ t. is_some (out c s me round t) ≡ false) (sym (same e)) none
   | inr other ↦ sent-to_owner c s me round to part other
 ]
 
 -- in the other rounds all are sent something, or none is
-pub sent-alike : (c : Setup) (s : State) (me round t u : ℕ) → (part_of round ≢ 1) → (part_of round ≢ 3) → is_some (out c s me round t) ≡ is_some (out c s me round u)
+pub sent-alike : (c : Setup) (s : State) (me round t u : ℕ)
+    → (part_of round ≢ 1) → (part_of round ≢ 3) → is_some (out c s me round t) ≡ is_some (out c s me round u)
 sent-alike c s me round t u first third = elim (part_of-cases round) [
   | inl e ↦ absurd (first e)
-  | inr (inl e) ↦ ap is_some (out-in Locking c s me round t (part_at-locking round e) ∙ sym (out-in Locking c s me round u (part_at-locking round e)))
+  | inr (inl e) ↦ ap is_some (out-in Locking c s me round t (part_at-locking round e)
+      ∙ sym (out-in Locking c s me round u (part_at-locking round e)))
   | inr (inr (inl e)) ↦ absurd (third e)
-  | inr (inr (inr e)) ↦ ap is_some (out-in Releasing c s me round t (part_at-releasing round e) ∙ sym (out-in Releasing c s me round u (part_at-releasing round e)))
+  | inr (inr (inr e)) ↦ ap is_some (out-in Releasing c s me round t (part_at-releasing round e)
+      ∙ sym (out-in Releasing c s me round u (part_at-releasing round e)))
 ]
 
 -- how many messages p sent in its present round
@@ -164,10 +176,12 @@ IsProc-next_send c steps p to due =
     let dests : List ℕ = destinations c (node_at c steps p) p (passed steps p + 1) in
     let at : slice_get dests (sent_now steps p) ≡ Some to = sym (next_destination-now c steps p) ∙ due in
     IsProc-from_processors c to
-    (Contains-from_filter sends (processors c) to (sent_now steps p, slice_get_within dests (sent_now steps p) to at, get_or_from_slice_get dests (sent_now steps p) to to at)).0
+    (Contains-from_filter sends (processors c) to
+    (sent_now steps p, slice_get_within dests (sent_now steps p) to at, get_or_from_slice_get dests (sent_now steps p) to to at)).0
 
 -- so nothing is against a Send to it
-pub refusal-send : (c : Setup) (steps : List Step) (p to : ℕ) → length steps < MAX_STEPS → IsProc c p → next_send c steps p ≡ Some to → refusal c steps (sending p to) ≡ None
+pub refusal-send : (c : Setup) (steps : List Step) (p to : ℕ)
+    → length steps < MAX_STEPS → IsProc c p → next_send c steps p ≡ Some to → refusal c steps (sending p to) ≡ None
 refusal-send c steps p to room is due = none_from_Fits c steps (sending p to) (record {
   room = room;
   proc = is;
@@ -185,7 +199,8 @@ count_by-none test (suc n) none =
     omega (arith, count_by-more test n, count_by-none test n none)
 
 -- above 0 is no bound on the numbers from 1 on
-find-above_zero : (test : ℕ → Bool) (a n : ℕ) → 1 ≤ a → find (λ y. nat_lt 0 y && test y) (range_with_len a n) ≡ find test (range_with_len a n)
+find-above_zero : (test : ℕ → Bool) (a n : ℕ) → 1 ≤ a
+    → find (λ y. nat_lt 0 y && test y) (range_with_len a n) ≡ find test (range_with_len a n)
 find-above_zero test a zero l = refl
 find-above_zero test a (suc n) l = rw (lt-ltb 0 a (omega arith), find-above_zero test (a + 1) n (omega arith)) refl
 
@@ -209,7 +224,8 @@ module _ (steps : List Step) (x : Step) where
       ap (λ n. count_by test (range_with_len 1 n)) size
       ∙ count_by-more test (length steps)
       ∙ ap (λ n. n + cond {A = ℕ} (test (suc (length steps))) 1 0)
-      (ap (λ n. count_by test (range_with_len 1 n)) (sym old) ∙ sym (sent_before-prefix steps (x ∷ []) p r (length steps + 1) (omega arith)))
+      (ap (λ n. count_by test (range_with_len 1 n)) (sym old)
+      ∙ sym (sent_before-prefix steps (x ∷ []) p r (length steps + 1) (omega arith)))
 
   -- the round at the new step
   round_at-now : (p : ℕ) → round_at (steps ++ x ∷ []) p (suc (length steps)) ≡ passed steps p + 1
@@ -219,14 +235,16 @@ module _ (steps : List Step) (x : Step) where
       ∙ ap (λ xs. passed xs p + 1) (before-prefix steps (x ∷ []) (length steps + 1) (omega arith) ∙ before-now steps)
 
   -- a step that doesn't end the round of p counts if it is a Send of p
-  sent_now-push : (p : ℕ) → (x.proc == p && act_ends x.act) ≡ false → sent_now (steps ++ x ∷ []) p ≡ sent_now steps p + cond (x.proc == p && act_sends x.act) 1 0
+  sent_now-push : (p : ℕ) → (x.proc == p && act_ends x.act) ≡ false
+      → sent_now (steps ++ x ∷ []) p ≡ sent_now steps p + cond (x.proc == p && act_sends x.act) 1 0
   sent_now-push p quiet =
       ap (λ n. sent_before (steps ++ x ∷ []) p (n + 1) (length (steps ++ x ∷ []) + 1)) (passed-stays steps x p quiet)
       ∙ sent_before-push p (passed steps p + 1)
       ∙ ap (λ b. sent_now steps p + cond {A = ℕ} b 1 0) counted
     where
       counted : is_sent_in (steps ++ x ∷ []) p (passed steps p + 1) (suc (length steps)) ≡ (x.proc == p && act_sends x.act)
-      counted = rw (eq-eqb (round_at (steps ++ x ∷ []) p (suc (length steps))) (passed steps p + 1) (round_at-now p), step_at_last steps x) refl
+      counted =
+          rw (eq-eqb (round_at (steps ++ x ∷ []) p (suc (length steps))) (passed steps p + 1) (round_at-now p), step_at_last steps x) refl
 
   -- a new round begins with none
   sent_now-ends : act_ends x.act ≡ true → sent_now (steps ++ x ∷ []) x.proc ≡ 0
@@ -241,12 +259,13 @@ module _ (steps : List Step) (x : Step) where
           let b = step_at_within (steps ++ x ∷ []) s is.step is.stands in
           let high = b.1 in
           let long : length (steps ++ x ∷ []) ≡ length steps + 1 = length-append steps (x ∷ []) in
-          let same : round_at (steps ++ x ∷ []) x.proc s ≡ round_at steps x.proc s = round_at-prefix steps (x ∷ []) x.proc s (omega arith) in
+          let same : round_at (steps ++ x ∷ []) x.proc s
+          ≡ round_at steps x.proc s = round_at-prefix steps (x ∷ []) x.proc s (omega arith) in
           omega (arith, is.round, passed-ends steps x ends, passed-before steps x.proc s)
 
   -- after the end of its round
-  pub next_send-ended : (c : Setup) → act_ends x.act ≡ true
-      → next_send c (steps ++ x ∷ []) x.proc ≡ destination_after c (node_at c (steps ++ x ∷ []) x.proc) x.proc (passed (steps ++ x ∷ []) x.proc + 1) 0
+  pub next_send-ended : (c : Setup) → act_ends x.act ≡ true → next_send c (steps ++ x ∷ []) x.proc
+      ≡ destination_after c (node_at c (steps ++ x ∷ []) x.proc) x.proc (passed (steps ++ x ∷ []) x.proc + 1) 0
   next_send-ended c ends =
       let node = node_at c (steps ++ x ∷ []) x.proc in
       let round = passed (steps ++ x ∷ []) x.proc + 1 in
@@ -254,12 +273,13 @@ module _ (steps : List Step) (x : Step) where
       ∙ ap (λ n. slice_get (destinations c node x.proc round) n) (sent_now-ends ends)
       ∙ begins c node x.proc round
 
-module _ (c : Setup) (steps : List Step) (x : Step) (p : ℕ) (w : IsWellFormed c steps) (quiet : (x.proc == p && act_ends x.act) ≡ false) where
+module _ (c : Setup) (steps : List Step) (x : Step)
+    (p : ℕ) (w : IsWellFormed c steps) (quiet : (x.proc == p && act_ends x.act) ≡ false) where
   -- in the same round the destinations are the same
-  after-sent : next_send c (steps ++ x ∷ []) p ≡ slice_get (destinations c (node_at c steps p) p (passed steps p + 1)) (sent_now steps p + cond (x.proc == p && act_sends x.act) 1 0)
-  after-sent =
-      next_destination-now c (steps ++ x ∷ []) p
-      ∙ ap (λ (s : State). slice_get (destinations c s p (passed (steps ++ x ∷ []) p + 1)) (sent_now (steps ++ x ∷ []) p)) (node_at-stays c steps x p w quiet)
+  after-sent : next_send c (steps ++ x ∷ []) p ≡ slice_get
+      (destinations c (node_at c steps p) p (passed steps p + 1)) (sent_now steps p + cond (x.proc == p && act_sends x.act) 1 0)
+  after-sent = next_destination-now c (steps ++ x ∷ []) p ∙ ap (λ (s : State).
+      slice_get (destinations c s p (passed (steps ++ x ∷ []) p + 1)) (sent_now (steps ++ x ∷ []) p)) (node_at-stays c steps x p w quiet)
       ∙ ap (λ n. slice_get (destinations c (node_at c steps p) p (n + 1)) (sent_now (steps ++ x ∷ []) p)) (passed-stays steps x p quiet)
       ∙ ap (λ n. slice_get (destinations c (node_at c steps p) p (passed steps p + 1)) n) (sent_now-push steps x p quiet)
 
@@ -268,7 +288,8 @@ module _ (c : Setup) (steps : List Step) (x : Step) (p : ℕ) (w : IsWellFormed 
   next_send-stays silent =
       let same : sent_now steps p + cond (x.proc == p && act_sends x.act) 1 0 ≡ sent_now steps p =
       ap (λ b. sent_now steps p + cond {A = ℕ} b 1 0) silent ∙ (let e : sent_now steps p + 0 ≡ sent_now steps p = omega arith in e) in
-      after-sent ∙ ap (λ n. slice_get (destinations c (node_at c steps p) p (passed steps p + 1)) n) same ∙ sym (next_destination-now c steps p)
+      after-sent ∙ ap (λ n. slice_get (destinations c (node_at c steps p) p (passed steps p + 1)) n) same
+      ∙ sym (next_destination-now c steps p)
 
 -- after a Send
 pub next_send-sent : (c : Setup) (steps : List Step) (p to : ℕ) → IsWellFormed c steps → next_send c steps p ≡ Some to

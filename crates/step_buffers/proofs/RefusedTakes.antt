@@ -100,7 +100,8 @@ least-these : (waiting ids : List ℕ) (s : ℕ) (rising : Bool) (missing : Opti
     → cond {A = Option StepError} rising (option_map (λ i. NotInBuffer i) missing) (Some IdsNotRising)
     ≡ Some (NotInBuffer s)
     → IsLeastFailing (is_in waiting) ids s
-least-these waiting ids s true (Some i) r f h = failing (is_in waiting) ids s (found _ ids s (is_rising-true ids r) (let e : i ≡ s = cc in subst (λ n. find (λ i. not (is_in waiting i)) ids ≡ Some n) e f))
+least-these waiting ids s true (Some i) r f h = failing (is_in waiting) ids s
+    (found _ ids s (is_rising-true ids r) (let e : i ≡ s = cc in subst (λ n. find (λ i. not (is_in waiting i)) ids ≡ Some n) e f))
 least-these waiting ids s true None r f h = cc
 least-these waiting ids s false missing r f h = cc
 

@@ -51,9 +51,8 @@ not-found xs x i below above d =
     ]
 
 -- a binary search finds just the members
-pub is_in-searched : (xs : List ℕ) (x : ℕ) (r : Result ℕ ℕ)
-    → MatchResult r (λ i. (i < length xs) × (get_or xs i 0 ≡ x)) (λ i. (i ≤ length xs) × ((k : ℕ) → k < i → get_or xs k 0 < x) × ((k : ℕ) → i ≤ k → k < length xs → x < get_or xs k 0))
-    → is_ok r ≡ is_in xs x
+pub is_in-searched : (xs : List ℕ) (x : ℕ) (r : Result ℕ ℕ) → MatchResult r (λ i. (i < length xs) × (get_or xs i 0 ≡ x)) (λ i.
+    (i ≤ length xs) × ((k : ℕ) → k < i → get_or xs k 0 < x) × ((k : ℕ) → i ≤ k → k < length xs → x < get_or xs k 0)) → is_ok r ≡ is_in xs x
 is_in-searched xs x (Ok i) h = sym (is_in-member xs x (i, h.0, get_or_default xs i x 0 h.0 ∙ h.1))
 is_in-searched xs x (Err i) h =
     sym (false_from_ne_true (is_in xs x) (λ e. not-found xs x i h.1 h.2 (Contains-from_is_in xs x e)))
@@ -143,7 +142,8 @@ shared-first ids xs k rise a b same =
     ap (λ is. filter (λ s. not (is_in is s)) (drop k xs)) (drop_more ids k 0 a)
     ∙ ap (filter (λ s. not (is_in (x ∷ rest) s))) (drop_more xs k 0 b ∙ ap (λ y. y ∷ drop (k + 1) xs) same)
     ∙ drops-first x rest (drop (k + 1) xs)
-    (λ s d. back-above xs (k + 1) (get_or ids k 0) s (λ j l h. subst (λ n. n < get_or xs j 0) same (rising-before xs k j rise (omega arith) h)) d)
+    (λ s d. back-above xs (k + 1) (get_or ids k 0) s
+    (λ j l h. subst (λ n. n < get_or xs j 0) same (rising-before xs k j rise (omega arith) h)) d)
 
 is_in-more : (ids : List ℕ) (x s : ℕ) → is_in (ids ++ x ∷ []) s ≡ (is_in ids s || x == s)
 is_in-more ids x s = list_any-append (λ i. i == s) ids (x ∷ []) ∙ ap (λ b. is_in ids s || b) (or-false (x == s))
@@ -157,7 +157,8 @@ drops-last x ids xs below =
     filter-append f xs (x ∷ [])
     ∙ rw inside (append-nil (filter f xs))
     ∙ filter-agree f (λ s. not (is_in ids s)) xs
-    (λ s d. (let low = below s d in ap not (is_in-more ids x s ∙ rw (ne_eqb x s (λ e. (let g : x ≡ s = e in omega arith))) (or-false (is_in ids s)))))
+    (λ s d. (let low = below s d in
+    ap not (is_in-more ids x s ∙ rw (ne_eqb x s (λ e. (let g : x ≡ s = e in omega arith))) (or-false (is_in ids s)))))
 
 pub shared-last : (ids xs : List ℕ) (n m : ℕ) → IsStrictlyIncreasing xs → n < length ids → m < length xs
     → get_or xs m 0 ≡ get_or ids n 0
@@ -189,12 +190,13 @@ left-between ids xs n m rise within below above =
     ∙ ap (λ ys. take n xs ++ ys) (
     ap (filter f) (sym (take-append-drop m rest))
     ∙ filter-append f (take m rest) (drop m rest)
-    ∙ ap (λ ys. filter f (take m rest) ++ ys) (filter-all f (drop m rest) (λ s d. above-last ids s rise (back-above rest m (get_or ids (length ids - 1) 0) s above d))))
+    ∙ ap (λ ys. filter f (take m rest) ++ ys)
+    (filter-all f (drop m rest) (λ s d. above-last ids s rise (back-above rest m (get_or ids (length ids - 1) 0) s above d))))
 
 -- a list in whose part the others were moved to the front, without the gap after them
-pub without-gap : (old part : List ℕ) (start n m r : ℕ) → start + n ≤ length old → length part ≡ m → r ≤ m
-    → drop start (take (start + n + r) (take (start + n) old ++ (part ++ drop m (drop (start + n) old)))) ++ drop (start + n + m) (take (start + n) old ++ (part ++ drop m (drop (start + n) old)))
-    ≡ take n (drop start old) ++ (take r part ++ drop m (drop n (drop start old)))
+pub without-gap : (old part : List ℕ) (start n m r : ℕ) → start + n ≤ length old → length part ≡ m → r ≤ m → drop start
+    (take (start + n + r) (take (start + n) old ++ (part ++ drop m (drop (start + n) old)))) ++ drop (start + n + m) (take (start + n) old
+    ++ (part ++ drop m (drop (start + n) old))) ≡ take n (drop start old) ++ (take r part ++ drop m (drop n (drop start old)))
 without-gap old part start n m r within long short =
     let a = start + n in
     let front = take a old in

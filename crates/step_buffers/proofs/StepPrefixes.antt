@@ -24,7 +24,8 @@ round_at-prefix steps more p k h = ap (λ xs. passed xs p + 1) (before-prefix st
 pub round_at-past : (steps more : List Step) (p k : ℕ) → length steps < k → passed steps p < round_at (steps ++ more) p k
 round_at-past steps more p k h =
     let split : before (steps ++ more) k ≡ steps ++ take (k - 1 - length steps) more =
-    ap (λ n. take n (steps ++ more)) (let e : k - 1 ≡ length steps + (k - 1 - length steps) = omega arith in e) ∙ take-append-add steps more (k - 1 - length steps) in
+    ap (λ n. take n (steps ++ more)) (let e : k - 1 ≡ length steps + (k - 1 - length steps) = omega arith in e)
+    ∙ take-append-add steps more (k - 1 - length steps) in
     let grown = ap (λ xs. passed xs p) split ∙ passed-append steps (take (k - 1 - length steps) more) p in
     let e : passed (before (steps ++ more) k) p ≡ passed steps p + passed (take (k - 1 - length steps) more) p = grown in
     omega arith
@@ -32,5 +33,6 @@ round_at-past steps more p k h =
 -- the step of the last number
 pub step_at-end : (all steps : List Step) (x : Step) → all ≡ steps ++ x ∷ [] → step_at all (length all) ≡ Some x
 step_at-end all steps x e =
-    let long : length all ≡ suc (length steps) = ap length e ∙ length_push steps x ∙ (let f : length steps + 1 ≡ suc (length steps) = omega arith in f) in
+    let long : length all ≡ suc (length steps) = ap length e
+    ∙ length_push steps x ∙ (let f : length steps + 1 ≡ suc (length steps) = omega arith in f) in
     rw (long, e) (step_at_last steps x)

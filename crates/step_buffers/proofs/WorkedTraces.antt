@@ -22,7 +22,8 @@ abbrev late : List Step
 late = send 2 1 ∷ send 1 1 ∷ ends 1 (2 ∷ []) ∷ ends 1 (1 ∷ []) ∷ []
 
 abbrev early : List Step
-early = send 2 1 ∷ ends 2 [] ∷ ends 2 [] ∷ ends 2 [] ∷ send 2 1 ∷ send 2 2 ∷ takes 1 (5 ∷ []) ∷ send 1 1 ∷ ends 1 (8 ∷ []) ∷ ends 1 [] ∷ ends 1 [] ∷ send 1 1 ∷ send 1 2 ∷ []
+early = send 2 1 ∷ ends 2 [] ∷ ends 2 [] ∷ ends 2 [] ∷ send 2 1 ∷ send 2 2 ∷ takes 1
+    (5 ∷ []) ∷ send 1 1 ∷ ends 1 (8 ∷ []) ∷ ends 1 [] ∷ ends 1 [] ∷ send 1 1 ∷ send 1 2 ∷ []
 
 late-passed : passed late 1 ≡ 2
 late-passed = refl

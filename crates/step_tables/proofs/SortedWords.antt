@@ -33,8 +33,8 @@ has_name-reordered words others name same =
 
 -- so messages have their names in one list exactly if they have them in the other, if there are as many of both
 pub are_names_of-reordered : (rows : List Said) (ids : List ℕ) (words others : List (Bor (List ℕ)))
-    → length words ≡ length ids → IsPermutation words others
-    → list_all (λ id. has_name (map (λ word. word.now) others) (message_at rows id)) ids ≡ are_names_of rows ids (map (λ word. word.now) words)
+    → length words ≡ length ids → IsPermutation words others → list_all
+    (λ id. has_name (map (λ word. word.now) others) (message_at rows id)) ids ≡ are_names_of rows ids (map (λ word. word.now) words)
 are_names_of-reordered rows ids words others many same =
     let all_named = list_all (λ id. has_name (map (λ word. word.now) words) (message_at rows id)) ids in
     let as_many = eq-eqb (length (map (λ word. word.now) words)) (length ids) (length-map words (λ word. word.now) ∙ many) in

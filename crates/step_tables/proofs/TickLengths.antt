@@ -17,7 +17,8 @@ between-width first width before later begin end b e order =
     let long : end - begin ≡ (later - before) * width = omega (arith, b, e, parts) in
     ap (λ n. n / (later - before)) long ∙ mul-div_cancel_left width some
 
-pub between-order : (first width before later begin end : ℕ) → 1 ≤ width → begin ≡ first + before * width → end ≡ first + later * width → before < later → begin < end
+pub between-order : (first width before later begin end : ℕ)
+    → 1 ≤ width → begin ≡ first + before * width → end ≡ first + later * width → before < later → begin < end
 between-order first width before later begin end positive b e order =
     let parts = between width before later order in
     let more : 1 * 1 ≤ (later - before) * width = mul-le 1 1 (later - before) width (omega (arith, order)) positive in

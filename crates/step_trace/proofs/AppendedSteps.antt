@@ -15,7 +15,8 @@ appended-none t [] ts h = refl
 appended-none t (x ∷ xs) ts h = absurd (omega (arith, h))
 
 -- a step that is taken
-pub appended-next : (t : Recorded) (x : Step) (xs : List Step) (tick : ℕ) (ts : List ℕ) → refusal_in t tick x ≡ None → appended t (x ∷ xs) (tick ∷ ts) ≡ appended (with_step t tick x) xs ts
+pub appended-next : (t : Recorded) (x : Step) (xs : List Step) (tick : ℕ) (ts : List ℕ)
+    → refusal_in t tick x ≡ None → appended t (x ∷ xs) (tick ∷ ts) ≡ appended (with_step t tick x) xs ts
 unfolding appended
 appended-next t x xs tick ts h = rw h refl
 

@@ -54,14 +54,18 @@ any_upto P decide (suc n) = elim (any_upto P decide n) [
 
 -- message s is delivered by the moment y, or it isn't
 pub delivered_or_not : (trace : Recorded) (s y : ℕ) → IsDelivered trace s y ⊎ (¬ IsDelivered trace s y)
-delivered_or_not trace s y = elim (any_upto (λ k. (tick_of trace s < tick_of trace k) × ((tick_of trace k < y + 1) × TakesAt trace.steps k s))
-    (λ k. both _ _ (below (tick_of trace s) (tick_of trace k)) (both _ _ (below (tick_of trace k) (y + 1)) (takes_or_not trace.steps k s))) (length trace.steps)) [
-      | inl h ↦ inl (let z = h.1 in let v = z.1 in let u = v.0 in record { place = h.0; after = z.0; until = omega (arith, u); takes = v.1 })
-      | inr q ↦ inr (λ d. (let u = d.until in q d.place (step_at_within trace.steps d.place _ d.takes.1).1 (d.after, (omega (arith, u), d.takes))))
+delivered_or_not trace s y = elim (any_upto (λ k. (tick_of trace s < tick_of trace k)
+    × ((tick_of trace k < y + 1) × TakesAt trace.steps k s)) (λ k. both _ _ (below (tick_of trace s) (tick_of trace k))
+    (both _ _ (below (tick_of trace k) (y + 1)) (takes_or_not trace.steps k s))) (length trace.steps)) [
+      | inl h ↦ inl (let z = h.1 in let v = z.1 in
+          let u = v.0 in record { place = h.0; after = z.0; until = omega (arith, u); takes = v.1 })
+      | inr q ↦ inr
+          (λ d. (let u = d.until in q d.place (step_at_within trace.steps d.place _ d.takes.1).1 (d.after, (omega (arith, u), d.takes))))
     ]
 
 -- a communication bound that no miss refutes holds
-pub DeltaHolds-unrefuted : (set : ℕ) (trace : Recorded) (g d : ℕ) → 1 ≤ d → ((m : Miss) → ¬ MissRefutes set trace g d m) → DeltaHolds set trace g d
+pub DeltaHolds-unrefuted : (set : ℕ) (trace : Recorded) (g d : ℕ)
+    → 1 ≤ d → ((m : Miss) → ¬ MissRefutes set trace g d m) → DeltaHolds set trace g d
 DeltaHolds-unrefuted set trace g d p n = record {
   each = λ s l. record {
     on_time = λ r b v e f. elim (delivered_or_not trace s (tick_of trace r)) [
@@ -77,10 +81,11 @@ DeltaHolds-unrefuted set trace g d p n = record {
 
 -- p takes a step in tick x, or it doesn't
 pub steps_in_or_not : (trace : Recorded) (x p : ℕ) → StepsIn trace x p ⊎ (¬ StepsIn trace x p)
-steps_in_or_not trace x p = elim (any_upto (λ k. IsStepOf trace.steps k p × (tick_of trace k ≡ x)) (λ k. both _ _ (step_or_not trace.steps k p) (cases_eq (tick_of trace k) x)) (length trace.steps)) [
-  | inl h ↦ inl (let z = h.1 in record { place = h.0; step = z.0; tick = z.1 })
-  | inr q ↦ inr (λ s. q s.place (step_at_within trace.steps s.place _ s.step.1).1 (s.step, s.tick))
-]
+steps_in_or_not trace x p = elim (any_upto (λ k. IsStepOf trace.steps k p × (tick_of trace k ≡ x))
+    (λ k. both _ _ (step_or_not trace.steps k p) (cases_eq (tick_of trace k) x)) (length trace.steps)) [
+      | inl h ↦ inl (let z = h.1 in record { place = h.0; step = z.0; tick = z.1 })
+      | inr q ↦ inr (λ s. q s.place (step_at_within trace.steps s.place _ s.step.1).1 (s.step, s.tick))
+    ]
 
 -- p takes a step in one of the f ticks from x on, or in none
 pub steps_within_or_not : (trace : Recorded) (p x f : ℕ) → StepsWithin trace p x f ⊎ (¬ StepsWithin trace p x f)
@@ -92,12 +97,14 @@ steps_within_or_not trace p x (suc f) = elim (steps_within_or_not trace p x f) [
     | inr q ↦ inr (λ w. last n q w (cases_eq w.tick (x + f)))
   ]
 ] where
-  last : (¬ StepsWithin trace p x f) → (¬ StepsIn trace (x + f) p) → (w : StepsWithin trace p x (suc f)) → (w.tick ≡ x + f) ⊎ (w.tick ≡ x + f → ⊥) → ⊥
+  last : (¬ StepsWithin trace p x f) → (¬ StepsIn trace (x + f) p)
+      → (w : StepsWithin trace p x (suc f)) → (w.tick ≡ x + f) ⊎ (w.tick ≡ x + f → ⊥) → ⊥
   last n q w (inl e) = q (subst (λ k. StepsIn trace k p) e w.step)
   last n q w (inr e) = n (let u = w.until in record { tick = w.tick; from = w.from; until = omega arith; step = w.step })
 
 -- a processor bound that no gap refutes holds
-pub PhiHolds-unrefuted : (set : ℕ) (trace : Recorded) (g f : ℕ) → 1 ≤ g → 1 ≤ f → ((w : Gap) → ¬ GapRefutes set trace g f w) → PhiHolds set trace g f
+pub PhiHolds-unrefuted : (set : ℕ) (trace : Recorded) (g f : ℕ)
+    → 1 ≤ g → 1 ≤ f → ((w : Gap) → ¬ GapRefutes set trace g f w) → PhiHolds set trace g f
 PhiHolds-unrefuted set trace g f o p n = record {
   each = λ x l k q m. elim (steps_within_or_not trace q x f) [
     | inl h ↦ h

@@ -12,7 +12,8 @@ own : IsNumeralModel (AllDigits 10) (digits_value 10)
 own = record { to = λ ds h. h; from = λ ds h. h; same = λ ds h. refl }
 
 -- digits with no leading zero are the text of their number
-pub digits-decimal : (bs : List ℕ) (n : ℕ) → AllDigits 10 bs → n ≡ digits_value 10 bs → n < 2 ^ 64 → 0 < length bs → (get_or bs 0 0 ≡ 48 → length bs ≡ 1) → bs ≡ decimal n
+pub digits-decimal : (bs : List ℕ) (n : ℕ) → AllDigits 10 bs
+    → n ≡ digits_value 10 bs → n < 2 ^ 64 → 0 < length bs → (get_or bs 0 0 ≡ 48 → length bs ≡ 1) → bs ≡ decimal n
 digits-decimal bs n digits e h some lead = rw e (sym (decimal-digits_value own bs digits some lead (rw (← e) h)))
 
 -- a number's text has only digits
@@ -20,7 +21,8 @@ pub decimal-digit : (n : ℕ) (bs : List ℕ) (i : ℕ) → n < 2 ^ 64 → bs �
 decimal-digit n bs i h e inside = digit_at bs i (subst (AllDigits 10) (sym e) (digits_decimal own n h)) inside
 
 -- its first digits write no greater number
-pub decimal-first_digits : (n : ℕ) (bs : List ℕ) (i : ℕ) → n < 2 ^ 64 → bs ≡ decimal n → i < length bs → digits_value 10 (take i bs) * 10 + digit_value (get_or bs i 0) ≤ n
+pub decimal-first_digits : (n : ℕ) (bs : List ℕ) (i : ℕ)
+    → n < 2 ^ 64 → bs ≡ decimal n → i < length bs → digits_value 10 (take i bs) * 10 + digit_value (get_or bs i 0) ≤ n
 decimal-first_digits n bs i h e inside =
     let whole : digits_value 10 bs ≡ n = rw e (digits_value-decimal own n h) in
     omega (arith, digits_value_more 10 bs i inside, digits_value-take-le 10 bs (i + 1) (omega arith), whole)
@@ -32,4 +34,5 @@ zero-text = rw (decimal_digit 0 (omega arith)) refl
 -- its first digit is no zero if there are more
 pub decimal-leading_zero : (n : ℕ) (bs : List ℕ) → n < 2 ^ 64 → bs ≡ decimal n → get_or bs 0 0 ≡ 48 → length bs ≡ 1
 decimal-leading_zero zero bs h e k = rw e zero-text
-decimal-leading_zero (suc n) bs h e k = let f = first_decimal (suc n) (omega arith) h in let same = rw e at k in absurd (omega (arith, same, f))
+decimal-leading_zero (suc n) bs h e k = let f = first_decimal (suc n) (omega arith) h in
+    let same = rw e at k in absurd (omega (arith, same, f))

@@ -41,7 +41,11 @@ rising_from-true x [] h = refl
 rising_from-true x (y ∷ ys) h =
     let first : x < y = h 0 (omega arith) in
     let test : nat_lt x y ≡ true = grind (arith, nat_tests) in
-    rw (test, rising_from-true y ys (λ k l. let e : suc k + 1 ≡ suc (k + 1) = omega arith in rw e at (h (suc k) (let l' : k + 1 < length (y ∷ ys) = l in omega arith)))) refl
+    rw (
+      test,
+      rising_from-true y ys (λ k l. let e : suc k + 1 ≡ suc (k + 1) = omega arith in
+          rw e at (h (suc k) (let l' : k + 1 < length (y ∷ ys) = l in omega arith))),
+    ) refl
 
 -- and so it is for a whole list
 pub is_rising-from_increasing : (xs : List ℕ) → IsStrictlyIncreasing xs → is_rising xs ≡ true
@@ -74,13 +78,15 @@ Fits-from_well_formed c steps x w =
       fresh = λ s d. false_from_ne_true (is_taken steps s) (fresh s d);
     } where
       sent : (s : ℕ) → Contains (act_ids x.act) s → (s < suc (length steps)) × IsSentTo (steps ++ x ∷ []) s x.proc → IsSentTo steps s x.proc
-      sent s d e = (e.1.0, elim (step_at-push_cases steps x _ s e.1.1) [ inl f ↦ f | inr f ↦ absurd (let l = e.0 in let q = f.0 in omega arith) ])
+      sent s d e =
+          (e.1.0, elim (step_at-push_cases steps x _ s e.1.1) [ inl f ↦ f | inr f ↦ absurd (let l = e.0 in let q = f.0 in omega arith) ])
 
       fresh : (s : ℕ) → Contains (act_ids x.act) s → is_taken steps s ≡ true → ⊥
       fresh s d e =
           let m = taken_at-from_is_taken steps s e in
           let within = step_at_within steps m.0 _ m.1.1 in
-          let same = w.once m.0 (suc (length steps)) s (m.1.0, step_at-push_old steps x m.1.0 m.0 m.1.1, m.1.2) (x, step_at_last steps x, d) in
+          let same = w.once m.0 (suc (length steps)) s
+          (m.1.0, step_at-push_old steps x m.1.0 m.0 m.1.1, m.1.2) (x, step_at_last steps x, d) in
           omega (arith, same, within.1)
 
 -- no reason holds against the act of a step that fits, if no message that it takes was sent in its tick
@@ -96,4 +102,5 @@ act_refusal-none c steps now p (Receive ends ids) f earlier =
 
 -- no reason holds against a step that fits
 pub none_from_Fits : (c : Setup) (steps : List Step) (x : Step) → Fits c steps x → refusal c steps x ≡ None
-none_from_Fits c steps x f = rw (true_if (length steps) MAX_STEPS f.room, is_proc-true c x.proc f.proc) (act_refusal-none c steps (λ s. false) x.proc x.act f (λ s d. refl))
+none_from_Fits c steps x f = rw (true_if (length steps) MAX_STEPS f.room, is_proc-true c x.proc f.proc)
+    (act_refusal-none c steps (λ s. false) x.proc x.act f (λ s d. refl))

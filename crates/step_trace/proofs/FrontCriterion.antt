@@ -15,8 +15,14 @@ IsDelta-on_front set trace t f = record {
   holds = f.feasible.delta;
   least = λ e p h. elim (cases_lt e t.delta) [
     | inl l ↦ absurd (f.undominated (record { gst = t.gst; delta = e; phi = t.phi })
-        (record { start = f.feasible.start; end = f.feasible.end; delta_positive = p; phi_positive = f.feasible.phi_positive; delta = h; phi = f.feasible.phi })
-        (record { gst = omega arith; delta = omega arith; phi = omega arith; smaller = inr (inl l) }))
+        (record {
+          start = f.feasible.start;
+          end = f.feasible.end;
+          delta_positive = p;
+          phi_positive = f.feasible.phi_positive;
+          delta = h;
+          phi = f.feasible.phi;
+        }) (record { gst = omega arith; delta = omega arith; phi = omega arith; smaller = inr (inl l) }))
     | inr m ↦ m
   ];
 }
@@ -27,8 +33,14 @@ IsPhi-on_front set trace t f = record {
   holds = f.feasible.phi;
   least = λ e p h. elim (cases_lt e t.phi) [
     | inl l ↦ absurd (f.undominated (record { gst = t.gst; delta = t.delta; phi = e })
-        (record { start = f.feasible.start; end = f.feasible.end; delta_positive = f.feasible.delta_positive; phi_positive = p; delta = f.feasible.delta; phi = h })
-        (record { gst = omega arith; delta = omega arith; phi = omega arith; smaller = inr (inr l) }))
+        (record {
+          start = f.feasible.start;
+          end = f.feasible.end;
+          delta_positive = f.feasible.delta_positive;
+          phi_positive = p;
+          delta = f.feasible.delta;
+          phi = h;
+        }) (record { gst = omega arith; delta = omega arith; phi = omega arith; smaller = inr (inr l) }))
     | inr m ↦ m
   ];
 }
@@ -36,8 +48,15 @@ IsPhi-on_front set trace t f = record {
 -- no triple of the front has the least bounds of the step before
 pub on_front-changes : (set : ℕ) (trace : Recorded) (t : Triple) (h : ℕ) → IsOnFront set trace t → 1 ≤ h → h < t.gst
     → IsDelta set trace h t.delta → IsPhi set trace h t.phi → ⊥
-on_front-changes set trace t h f p l d e = f.undominated (record { gst = h; delta = t.delta; phi = t.phi })
-    (record { start = p; end = let m = f.feasible.end in omega arith; delta_positive = d.positive; phi_positive = e.positive; delta = d.holds; phi = e.holds })
+on_front-changes set trace t h f p l d e = f.undominated (record { gst = h; delta = t.delta; phi = t.phi }) (record {
+  start = p;
+  end =
+      let m = f.feasible.end in omega arith;
+  delta_positive = d.positive;
+  phi_positive = e.positive;
+  delta = d.holds;
+  phi = e.holds;
+})
     (record { gst = omega arith; delta = omega arith; phi = omega arith; smaller = inl l })
 
 -- a step and its least bounds are on the front, unless these are the least bounds of the step before
@@ -48,17 +67,22 @@ pub IsOnFront-from_change : (set : ℕ) (trace : Recorded) (t : Triple) → 1 �
 IsOnFront-from_change set trace t start end d f change = record {
   feasible = record { start = start; end = end; delta_positive = d.positive; phi_positive = f.positive; delta = d.holds; phi = f.holds };
   undominated = λ o feasible dominates.
-      let delta : t.delta ≤ o.delta = d.least o.delta feasible.delta_positive (DeltaHolds-later set trace o.gst t.gst o.delta dominates.gst feasible.delta) in
-      let phi : t.phi ≤ o.phi = f.least o.phi feasible.phi_positive (PhiHolds-later set trace o.gst t.gst o.phi dominates.gst feasible.phi) in
+      let delta : t.delta ≤ o.delta = d.least o.delta feasible.delta_positive
+      (DeltaHolds-later set trace o.gst t.gst o.delta dominates.gst feasible.delta) in
+      let phi : t.phi ≤ o.phi = f.least o.phi feasible.phi_positive
+      (PhiHolds-later set trace o.gst t.gst o.phi dominates.gst feasible.phi) in
       let below_delta : o.delta ≤ t.delta = dominates.delta in
       let below_phi : o.phi ≤ t.phi = dominates.phi in
       let same_delta : o.delta ≡ t.delta = omega arith in
       let same_phi : o.phi ≡ t.phi = omega arith in
-      let earlier : o.gst < t.gst = elim dominates.smaller [ inl l ↦ l | inr m ↦ elim m [ inl l ↦ absurd (omega arith) | inr l ↦ absurd (omega arith) ] ] in
+      let earlier : o.gst < t.gst = elim dominates.smaller
+      [ inl l ↦ l | inr m ↦ elim m [ inl l ↦ absurd (omega arith) | inr l ↦ absurd (omega arith) ] ] in
       let first : 1 ≤ o.gst = feasible.start in
       let before : o.gst ≤ t.gst - 1 = omega arith in
-      let delta_before : DeltaHolds set trace (t.gst - 1) t.delta = subst (λ e. DeltaHolds set trace (t.gst - 1) e) same_delta (DeltaHolds-later set trace o.gst (t.gst - 1) o.delta before feasible.delta) in
-      let phi_before : PhiHolds set trace (t.gst - 1) t.phi = subst (λ e. PhiHolds set trace (t.gst - 1) e) same_phi (PhiHolds-later set trace o.gst (t.gst - 1) o.phi before feasible.phi) in
+      let delta_before : DeltaHolds set trace (t.gst - 1) t.delta = subst (λ e. DeltaHolds set trace (t.gst - 1) e) same_delta
+      (DeltaHolds-later set trace o.gst (t.gst - 1) o.delta before feasible.delta) in
+      let phi_before : PhiHolds set trace (t.gst - 1) t.phi =
+      subst (λ e. PhiHolds set trace (t.gst - 1) e) same_phi (PhiHolds-later set trace o.gst (t.gst - 1) o.phi before feasible.phi) in
       change (omega arith)
       (IsDelta-earlier set trace (t.gst - 1) t.gst t.delta d (omega arith) delta_before)
       (IsPhi-earlier set trace (t.gst - 1) t.gst t.phi f (omega arith) phi_before);
@@ -75,7 +99,8 @@ front-below set trace (suc n) t most feasible none = none t
           let gst : o.gst ≤ t.gst = dominates.gst in
           let delta : o.delta ≤ t.delta = dominates.delta in
           let phi : o.phi ≤ t.phi = dominates.phi in
-          let less : o.gst + o.delta + o.phi ≤ n = elim dominates.smaller [ inl l ↦ omega arith | inr m ↦ elim m [ inl l ↦ omega arith | inr l ↦ omega arith ] ] in
+          let less : o.gst + o.delta + o.phi ≤ n =
+          elim dominates.smaller [ inl l ↦ omega arith | inr m ↦ elim m [ inl l ↦ omega arith | inr l ↦ omega arith ] ] in
           front-below set trace n o less lower (λ q front a b c. none q front (omega arith) (omega arith) (omega arith));
     })
     (omega arith) (omega arith) (omega arith)

@@ -19,16 +19,22 @@ IsSentTo-push : (steps : List Step) (x : Step) (s p : ℕ) → IsSentTo steps s 
 IsSentTo-push steps x s p h = (h.0, step_at-push_old steps x _ s h.1)
 
 -- what is taken is taken by an old step, or by the new one
-pub TakesAt-push_cases : (steps : List Step) (x : Step) (m s : ℕ) → TakesAt (steps ++ x ∷ []) m s → TakesAt steps m s ⊎ ((m ≡ length steps + 1) × Contains (act_ids x.act) s)
-TakesAt-push_cases steps x m s h = elim (step_at-push_cases steps x h.0 m h.1) [ inl e ↦ inl (h.0, e, h.2) | inr e ↦ inr (e.0, subst (λ (z : Step). Contains (act_ids z.act) s) (sym e.1) h.2) ]
+pub TakesAt-push_cases : (steps : List Step) (x : Step) (m s : ℕ)
+    → TakesAt (steps ++ x ∷ []) m s → TakesAt steps m s ⊎ ((m ≡ length steps + 1) × Contains (act_ids x.act) s)
+TakesAt-push_cases steps x m s h = elim (step_at-push_cases steps x h.0 m h.1)
+    [ inl e ↦ inl (h.0, e, h.2) | inr e ↦ inr (e.0, subst (λ (z : Step). Contains (act_ids z.act) s) (sym e.1) h.2) ]
 
 -- a list of steps stays well formed with a step that fits
-pub IsWellFormed-push : (c : Setup) (steps : List Step) (x : Step) → IsWellFormed c steps → Fits c steps x → IsWellFormed c (steps ++ x ∷ [])
+pub IsWellFormed-push : (c : Setup) (steps : List Step) (x : Step)
+    → IsWellFormed c steps → Fits c steps x → IsWellFormed c (steps ++ x ∷ [])
 IsWellFormed-push c steps x w f = record {
   short = let r = f.room in grind (arith, common_steps);
-  procs = λ k y h. elim (step_at-push_cases steps x y k h) [ inl e ↦ w.procs k y e | inr e ↦ subst (λ (z : Step). IsProc c z.proc) e.1 f.proc ];
-  dests = λ k y h. elim (step_at-push_cases steps x y k h) [ inl e ↦ w.dests k y e | inr e ↦ subst (λ (z : Step). IfSome (act_dest z.act) (IsProc c)) e.1 f.dest ];
-  rising = λ k y h. elim (step_at-push_cases steps x y k h) [ inl e ↦ w.rising k y e | inr e ↦ subst (λ (z : Step). IsStrictlyIncreasing (act_ids z.act)) e.1 f.rising ];
+  procs = λ k y h. elim (step_at-push_cases steps x y k h)
+      [ inl e ↦ w.procs k y e | inr e ↦ subst (λ (z : Step). IsProc c z.proc) e.1 f.proc ];
+  dests = λ k y h. elim (step_at-push_cases steps x y k h)
+      [ inl e ↦ w.dests k y e | inr e ↦ subst (λ (z : Step). IfSome (act_dest z.act) (IsProc c)) e.1 f.dest ];
+  rising = λ k y h. elim (step_at-push_cases steps x y k h)
+      [ inl e ↦ w.rising k y e | inr e ↦ subst (λ (z : Step). IsStrictlyIncreasing (act_ids z.act)) e.1 f.rising ];
   earlier = λ k s y h t. elim (step_at-push_cases steps x y k h) [
     | inl e ↦ (let o = w.earlier k s y e t in (o.0, IsSentTo-push steps x s y.proc o.1))
     | inr e ↦ (let d = f.sent s (subst (λ (z : Step). Contains (act_ids z.act) s) (sym e.1) t) in
@@ -37,8 +43,10 @@ IsWellFormed-push c steps x w f = record {
         (omega arith, subst (λ (z : Step). IsSentTo (steps ++ x ∷ []) s z.proc) e.1 (IsSentTo-push steps x s x.proc d)))
   ];
   once = λ m n s a b. elim (TakesAt-push_cases steps x m s a) [
-    | inl d ↦ elim (TakesAt-push_cases steps x n s b) [ inl e ↦ w.once m n s d e | inr e ↦ (let p = taken_from_at steps m s d in let q = f.fresh s e.1 in cc) ]
-    | inr d ↦ elim (TakesAt-push_cases steps x n s b) [ inl e ↦ (let p = taken_from_at steps n s e in let q = f.fresh s d.1 in cc) | inr e ↦ d.0 ∙ sym e.0 ]
+    | inl d ↦ elim (TakesAt-push_cases steps x n s b)
+        [ inl e ↦ w.once m n s d e | inr e ↦ (let p = taken_from_at steps m s d in let q = f.fresh s e.1 in cc) ]
+    | inr d ↦ elim (TakesAt-push_cases steps x n s b)
+        [ inl e ↦ (let p = taken_from_at steps n s e in let q = f.fresh s d.1 in cc) | inr e ↦ d.0 ∙ sym e.0 ]
   ];
 }
 

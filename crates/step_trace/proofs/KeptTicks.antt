@@ -22,7 +22,8 @@ unfolding numbers_to
 number_at zero k l = absurd (omega (arith, l))
 number_at (suc n) k l = go (number_at n) (nat_lt k n) refl
   where
-    go : ((k : ℕ) → k < n → slice_get (numbers_to n) k ≡ Some (suc k)) → (t : Bool) → nat_lt k n ≡ t → slice_get (numbers_to (suc n)) k ≡ Some (suc k)
+    go : ((k : ℕ) → k < n → slice_get (numbers_to n) k ≡ Some (suc k))
+        → (t : Bool) → nat_lt k n ≡ t → slice_get (numbers_to (suc n)) k ≡ Some (suc k)
     go before true e =
         let below : k < n = grind (arith, nat_tests) in
         slice_get-left (numbers_to n) (suc n ∷ []) k (rw (length-numbers n) below) ∙ before k below
@@ -36,10 +37,12 @@ pub tick_by_number : (n : ℕ) (others : List ℕ) (no : ℕ) → no ≤ n → t
 tick_by_number n others zero l = refl
 tick_by_number n others (suc k) l =
     let below : k < n = omega (arith, l) in
-    get_or_from_slice_get (numbers_to n ++ others) k (suc k) 0 (slice_get-left (numbers_to n) others k (rw (length-numbers n) below) ∙ number_at n k below)
+    get_or_from_slice_get (numbers_to n ++ others) k
+    (suc k) 0 (slice_get-left (numbers_to n) others k (rw (length-numbers n) below) ∙ number_at n k below)
 
 -- and of one after those
-pub tick_after : (n : ℕ) (others : List ℕ) (no : ℕ) → n < no → tick_at (numbers_to n ++ others) no ≡ unwrap_or (slice_get others (no - n - 1)) 0
+pub tick_after : (n : ℕ) (others : List ℕ) (no : ℕ)
+    → n < no → tick_at (numbers_to n ++ others) no ≡ unwrap_or (slice_get others (no - n - 1)) 0
 tick_after n others zero l = absurd (omega (arith, l))
 tick_after n others (suc k) l =
     let at : k ≡ n + (suc k - n - 1) = omega (arith, l) in
@@ -50,4 +53,5 @@ tick_after n others (suc k) l =
 -- one number more
 pub numbers-pushed : (n tick : ℕ) → tick ≡ n + 1 → numbers_to tick ++ [] ≡ (numbers_to n ++ []) ++ tick ∷ []
 unfolding numbers_to
-numbers-pushed n tick e = let next : tick ≡ suc n = omega (arith, e) in rw (next, append-nil (numbers_to (suc n)), append-nil (numbers_to n)) refl
+numbers-pushed n tick e = let next : tick ≡ suc n = omega (arith, e) in
+    rw (next, append-nil (numbers_to (suc n)), append-nil (numbers_to n)) refl

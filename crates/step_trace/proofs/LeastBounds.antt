@@ -5,7 +5,8 @@ use Rattle.step_trace.specs.Bounds.{DeltaHolds, PhiHolds, IsDelta, IsPhi}
 use Rattle.step_trace.proofs.BoundLaws.{DeltaHolds-later, PhiHolds-later}
 
 -- a bound that is least from a step on, and holds from an earlier one, is least from there
-pub IsDelta-earlier : (set : ℕ) (trace : Recorded) (g h d : ℕ) → IsDelta set trace h d → g ≤ h → DeltaHolds set trace g d → IsDelta set trace g d
+pub IsDelta-earlier : (set : ℕ) (trace : Recorded) (g h d : ℕ)
+    → IsDelta set trace h d → g ≤ h → DeltaHolds set trace g d → IsDelta set trace g d
 IsDelta-earlier set trace g h d x l holds = record {
   positive = x.positive;
   holds = holds;

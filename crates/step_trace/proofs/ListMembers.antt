@@ -49,7 +49,8 @@ Contains-map f (y ∷ ys) x c = elim (Contains-cons_cases y x ys c) [
 pub Contains-filter : {X : Type 0} (p : X → Bool) (xs : List X) (x : X) → Contains xs x → p x ≡ true → Contains (filter p xs) x
 Contains-filter p [] x h t = absurd (Contains-nil x h)
 Contains-filter {X} p (z ∷ xs) x h t = go (λ k. Contains-filter p xs x k t) (p z) refl (Contains-cons_cases z x xs h) where
-  go : (Contains xs x → Contains (filter p xs) x) → (b : Bool) → p z ≡ b → (z ≡ x) ⊎ Contains xs x → Contains (cond b (z ∷ filter p xs) (filter p xs)) x
+  go : (Contains xs x → Contains (filter p xs) x) → (b : Bool)
+      → p z ≡ b → (z ≡ x) ⊎ Contains xs x → Contains (cond b (z ∷ filter p xs) (filter p xs)) x
   go rest true e (inl same) = subst (λ v. Contains (z ∷ filter p xs) v) same (Contains-head z (filter p xs))
   go rest true e (inr later) = Contains-rest z x (filter p xs) (rest later)
   go rest false e (inl same) = absurd (true≢false (sym t ∙ ap p (sym same) ∙ e))
@@ -58,13 +59,15 @@ Contains-filter {X} p (z ∷ xs) x h t = go (λ k. Contains-filter p xs x k t) (
 -- what is kept passes, and was there
 pub Contains-from_filter : {X : Type 0} (p : X → Bool) (xs : List X) (x : X) → Contains (filter p xs) x → Contains xs x × (p x ≡ true)
 Contains-from_filter p [] x h = absurd (Contains-nil x h)
-Contains-from_filter {X} p (z ∷ xs) x h = go (λ k. (let r = Contains-from_filter p xs x k in (Contains-rest z x xs r.0, r.1))) (p z) refl h where
-  go : (Contains (filter p xs) x → Contains (z ∷ xs) x × (p x ≡ true)) → (b : Bool) → p z ≡ b → Contains (cond b (z ∷ filter p xs) (filter p xs)) x → Contains (z ∷ xs) x × (p x ≡ true)
-  go rest true e k = elim (Contains-cons_cases z x (filter p xs) k) [
-    | inl same ↦ (subst (λ v. Contains (z ∷ xs) v) same (Contains-head z xs), ap p (sym same) ∙ e)
-    | inr later ↦ rest later
-  ]
-  go rest false e k = rest k
+Contains-from_filter {X} p (z ∷ xs) x h = go (λ k. (let r = Contains-from_filter p xs x k in (Contains-rest z x xs r.0, r.1)))
+    (p z) refl h where
+      go : (Contains (filter p xs) x → Contains (z ∷ xs) x × (p x ≡ true))
+          → (b : Bool) → p z ≡ b → Contains (cond b (z ∷ filter p xs) (filter p xs)) x → Contains (z ∷ xs) x × (p x ≡ true)
+      go rest true e k = elim (Contains-cons_cases z x (filter p xs) k) [
+        | inl same ↦ (subst (λ v. Contains (z ∷ xs) v) same (Contains-head z xs), ap p (sym same) ∙ e)
+        | inr later ↦ rest later
+      ]
+      go rest false e k = rest k
 
 -- an element that a test finds
 pub list_any-found : {X : Type 0} (p : X → Bool) (xs : List X) → list_any p xs ≡ true → (x : X) × Contains xs x × (p x ≡ true)

@@ -86,17 +86,16 @@ module _ (trace : Recorded) (tick : ℕ) (x : Step) (e : PushError) where
   after_test own false next named rest h = subst (IsNamedIn trace tick x) (same_Some own e h) named
 
   -- and so it is for one that finds an id, and one that finds none
-  after_find : (found : Option ℕ) (why : ℕ → PushError) (next : Option PushError) → ((s : ℕ) → found ≡ Some s → IsNamedIn trace tick x (why s))
-      → (next ≡ Some e → IsNamedIn trace tick x e) → first_id found why next ≡ Some e → IsNamedIn trace tick x e
+  after_find : (found : Option ℕ) (why : ℕ → PushError) (next : Option PushError) → ((s : ℕ) → found ≡ Some s → IsNamedIn trace tick x
+      (why s)) → (next ≡ Some e → IsNamedIn trace tick x e) → first_id found why next ≡ Some e → IsNamedIn trace tick x e
   after_find None why next named rest h = rest h
   after_find (Some s) why next named rest h = subst (IsNamedIn trace tick x) (same_Some (why s) e h) (named s refl)
 
 -- the first reason against an act names the least id of its kind
-act-named : (trace : Recorded) (tick p : ℕ) (a : Act) (e : PushError)
-    → act_refusal trace.config trace.steps (is_sent_in trace.ticks tick) p a ≡ Some e → IsNamedIn trace tick (record { proc = p; act = a }) e
-act-named trace tick p (Send to) e =
-    after_test trace tick (record { proc = p; act = Send to }) e BadDest (is_proc trace.config to) None (record { reason = λ q. cc; least = tt })
-    (λ _ h. absurd (none-some e h))
+act-named : (trace : Recorded) (tick p : ℕ) (a : Act) (e : PushError) → act_refusal trace.config trace.steps
+    (is_sent_in trace.ticks tick) p a ≡ Some e → IsNamedIn trace tick (record { proc = p; act = a }) e
+act-named trace tick p (Send to) e = after_test trace tick (record { proc = p; act = Send to }) e BadDest
+    (is_proc trace.config to) None (record { reason = λ q. cc; least = tt }) (λ _ h. absurd (none-some e h))
 act-named trace tick p (Receive ends ids) e =
     let x : Step = record { proc = p; act = Receive ends ids } in
     let steps = trace.steps in
@@ -114,10 +113,11 @@ act-named trace tick p (Receive ends ids) e =
     (λ h. absurd (none-some e h))))))
 
 -- and so does the first reason against a step
-pub refusal_in-named : (trace : Recorded) (tick : ℕ) (x : Step) (e : PushError) → refusal_in trace tick x ≡ Some e → IsNamedIn trace tick x e
+pub refusal_in-named : (trace : Recorded) (tick : ℕ) (x : Step) (e : PushError)
+    → refusal_in trace tick x ≡ Some e → IsNamedIn trace tick x e
 refusal_in-named trace tick x e =
     after_test trace tick x e Full (nat_lt (length trace.steps) MAX_STEPS) _ (record { reason = λ q. cc; least = tt })
     (λ _. after_test trace tick x e BadTick (nat_lt 0 tick && may_end_in trace tick) _ (record { reason = λ q. cc; least = tt })
-    (λ _. after_test trace tick x e BadProc (is_proc trace.config x.proc) _ (record { reason = λ q. cc; least = tt })
-    (λ _. after_test trace tick x e ProcOrder (comes_after_last trace.steps trace.ticks tick x.proc) _ (record { reason = λ q. cc; least = tt })
+    (λ _. after_test trace tick x e BadProc (is_proc trace.config x.proc) _ (record { reason = λ q. cc; least = tt }) (λ _.
+    after_test trace tick x e ProcOrder (comes_after_last trace.steps trace.ticks tick x.proc) _ (record { reason = λ q. cc; least = tt })
     (λ _. act-named trace tick x.proc x.act e))))

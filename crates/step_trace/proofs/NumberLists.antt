@@ -53,7 +53,8 @@ pub record IsMemberText (part : List ℕ) : Type 0 where
   pub written : part ≡ decimal number
 
 -- each part of a list's text is the text of a member
-pub part_is_member : (text numbers part : List ℕ) (k : ℕ) → IsListOf text numbers → (k < length (parts_of text)) × (part ≡ get_or (parts_of text) k part) → IsMemberText part
+pub part_is_member : (text numbers part : List ℕ) (k : ℕ)
+    → IsListOf text numbers → (k < length (parts_of text)) × (part ≡ get_or (parts_of text) k part) → IsMemberText part
 part_is_member text numbers part k list at =
     let parts = parts_are_numbers text numbers list in
     let inside : k < length numbers = rw (parts, length-map) at at.0 in
@@ -98,10 +99,13 @@ nothing_read set none = record {
 }
 
 -- with one member more the set has one number more
-member_more : (numbers : List ℕ) (set more p q : ℕ) → IsTrue (has_proc set q) ↔ Contains numbers q → IsTrue (has_proc more p) → (q ≢ p → has_proc more q ≡ has_proc set q)
-    → IsTrue (has_proc more q) ↔ Contains (numbers ++ p ∷ []) q
+member_more : (numbers : List ℕ) (set more p q : ℕ) → IsTrue (has_proc set q) ↔ Contains numbers q
+    → IsTrue (has_proc more p) → (q ≢ p → has_proc more q ≡ has_proc set q) → IsTrue (has_proc more q) ↔ Contains (numbers ++ p ∷ []) q
 member_more numbers set more p q before added others = elim (cases_eq q p) [
-  | inl same ↦ (λ _. subst (λ m. Contains (numbers ++ p ∷ []) m) (sym same) (Contains-push numbers p), λ _. subst (λ m. IsTrue (has_proc more m)) (sym same) added)
+  | inl same ↦ (
+    λ _. subst (λ m. Contains (numbers ++ p ∷ []) m) (sym same) (Contains-push numbers p),
+    λ _. subst (λ m. IsTrue (has_proc more m)) (sym same) added,
+  )
   | inr other ↦ (
     λ h. Contains-append_left numbers (p ∷ []) q (before.0 (sym (others other) ∙ h)),
     λ h. elim (Contains-push_cases numbers p q h) [ inl old ↦ others other ∙ before.1 old | inr new ↦ absurd (other (sym new)) ],
@@ -114,13 +118,15 @@ pub one_more_read : (parts : List (List ℕ)) (part : List ℕ) (set more p : �
 one_more_read parts part set more p read e low high added others = record {
   numbers = read.numbers ++ p ∷ [];
   low = λ q h. elim (Contains-push_cases read.numbers p q h) [ inl old ↦ read.low q old | inr new ↦ subst (λ m. 1 ≤ m) new low ];
-  high = λ q h. elim (Contains-push_cases read.numbers p q h) [ inl old ↦ read.high q old | inr new ↦ subst (λ m. m ≤ MAX_MEMBER) new high ];
+  high = λ q h. elim (Contains-push_cases read.numbers p q h)
+      [ inl old ↦ read.high q old | inr new ↦ subst (λ m. m ≤ MAX_MEMBER) new high ];
   written = rw (map-append, ← e, ← read.written) refl;
   members = λ q. member_more read.numbers set more p q (read.members q) added (others q);
 }
 
 -- once all parts are read the set is what the text lists
-pub all_read : (text : List ℕ) (parts : List (List ℕ)) (set : ℕ) → IsRead parts set → parts ≡ parts_of text → (numbers : List ℕ) × IsListOf text numbers × HasMembers set numbers
+pub all_read : (text : List ℕ) (parts : List (List ℕ)) (set : ℕ)
+    → IsRead parts set → parts ≡ parts_of text → (numbers : List ℕ) × IsListOf text numbers × HasMembers set numbers
 all_read text parts set read e = (
   read.numbers,
   record {

@@ -22,7 +22,8 @@ slice_get-left (x ∷ xs) ys (suc k) l = slice_get-left xs ys k (let m : suc k <
 pub slice_get-right : {X : Type 0} (xs ys : List X) (n k : ℕ) → n ≡ length xs → slice_get (xs ++ ys) (n + k) ≡ slice_get ys k
 slice_get-right [] ys n k e = let z : n + k ≡ k = omega (arith, e) in ap (slice_get ys) z
 slice_get-right (x ∷ xs) ys zero k e = absurd (let f : 0 ≡ suc (length xs) = e in omega (arith, f))
-slice_get-right (x ∷ xs) ys (suc n) k e = let z : suc n + k ≡ suc (n + k) = omega arith in rw z (slice_get-right xs ys n k (let f : suc n ≡ suc (length xs) = e in omega (arith, f)))
+slice_get-right (x ∷ xs) ys (suc n) k e = let z : suc n + k ≡ suc (n + k) = omega arith in
+    rw z (slice_get-right xs ys n k (let f : suc n ≡ suc (length xs) = e in omega (arith, f)))
 
 -- if nothing is there, the list has ended
 past : {X : Type 0} (xs : List X) (i : ℕ) → slice_get xs i ≡ None → length xs ≤ i
@@ -32,21 +33,25 @@ past (x ∷ xs) (suc i) h = let l = past xs i h in let e : length (x ∷ xs) ≡
 
 module _ {P X : Type 0} (items : P → List X) where
   -- full pages hold `PAGE_LEN` items each
-  pub length-pages : (pages : List P) → All (λ p. length (items p) ≡ PAGE_LEN) pages → length (flat_map items pages) ≡ length pages * PAGE_LEN
+  pub length-pages : (pages : List P) → All (λ p. length (items p) ≡ PAGE_LEN) pages
+      → length (flat_map items pages) ≡ length pages * PAGE_LEN
   length-pages [] full = refl
   length-pages (p ∷ pages) full =
       let head = All-head (λ (q : P). length (items q) ≡ PAGE_LEN) p pages full in
       let rest = length-pages pages (All-tail (λ (q : P). length (items q) ≡ PAGE_LEN) p pages full) in
-      let cut : length (flat_map items (p ∷ pages)) ≡ length (items p) + length (flat_map items pages) = ap length (flat_map-cons items p pages) ∙ length-append (items p) (flat_map items pages) in
+      let cut : length (flat_map items (p ∷ pages)) ≡ length (items p) + length (flat_map items pages) =
+      ap length (flat_map-cons items p pages) ∙ length-append (items p) (flat_map items pages) in
       let more : length (p ∷ pages) ≡ length pages + 1 = omega arith in
       omega (arith, head, rest, cut, more)
 
   -- so all are as many as the pages make, and those of the last one
-  pub length-all : (pages : List P) (last : List X) → All (λ p. length (items p) ≡ PAGE_LEN) pages → length (all_items items pages last) ≡ length pages * PAGE_LEN + length last
+  pub length-all : (pages : List P) (last : List X)
+      → All (λ p. length (items p) ≡ PAGE_LEN) pages → length (all_items items pages last) ≡ length pages * PAGE_LEN + length last
   length-all pages last full = length-append (flat_map items pages) last ∙ ap (λ n. n + length last) (length-pages pages full)
 
   -- where a page ends, the last page has no items
-  pub none-at_end : (pages : List P) (last : List X) → AreInPages items pages last → length (all_items items pages last) % PAGE_LEN ≡ 0 → last ≡ []
+  pub none-at_end : (pages : List P) (last : List X)
+      → AreInPages items pages last → length (all_items items pages last) % PAGE_LEN ≡ 0 → last ≡ []
   none-at_end pages last a h =
       let n = length (all_items items pages last) in
       let all = length-all pages last a.full in
@@ -62,8 +67,8 @@ module _ {P X : Type 0} (items : P → List X) where
       ∙ ap (λ xs. flat_map items pages ++ xs) (flat_map-cons items p [] ∙ append-nil (items p))
       ∙ ap (λ xs. xs ++ items p) (sym (append-nil (flat_map items pages)))
 
-  pub AreInPages-page : (pages : List P) (p : P) → AreInPages items pages [] → length (items p) ≡ PAGE_LEN → length (all_items items pages []) + PAGE_LEN ≤ MAX_STEPS
-      → AreInPages items (pages ++ p ∷ []) []
+  pub AreInPages-page : (pages : List P) (p : P) → AreInPages items pages []
+      → length (items p) ≡ PAGE_LEN → length (all_items items pages []) + PAGE_LEN ≤ MAX_STEPS → AreInPages items (pages ++ p ∷ []) []
   AreInPages-page pages p a long room = record {
     full = All-push (λ (q : P). length (items q) ≡ PAGE_LEN) pages p a.full long;
     less = omega arith;
@@ -71,23 +76,28 @@ module _ {P X : Type 0} (items : P → List X) where
   }
 
   -- place r of page q
-  at_page : (pages : List P) (last : List X) → All (λ p. length (items p) ≡ PAGE_LEN) pages → (q r : ℕ) (p : P) → r < PAGE_LEN → slice_get pages q ≡ Some p
-      → slice_get (all_items items pages last) (q * PAGE_LEN + r) ≡ slice_get (items p) r
+  at_page : (pages : List P) (last : List X) → All (λ p. length (items p) ≡ PAGE_LEN) pages → (q r : ℕ) (p : P)
+      → r < PAGE_LEN → slice_get pages q ≡ Some p → slice_get (all_items items pages last) (q * PAGE_LEN + r) ≡ slice_get (items p) r
   at_page [] last full q r p low h = absurd (none-some p h)
   at_page (x ∷ pages) last full zero r p low h =
       let head = All-head (λ (q : P). length (items q) ≡ PAGE_LEN) x pages full in
       let at : 0 * PAGE_LEN + r ≡ r = omega arith in
-      let whole : all_items items (x ∷ pages) last ≡ items x ++ all_items items pages last = ap (λ xs. xs ++ last) (flat_map-cons items x pages) ∙ append_assoc (items x) (flat_map items pages) last in
-      rw (at, whole) (slice_get-left (items x) (all_items items pages last) r (omega (arith, head, low)) ∙ ap (λ y. slice_get (items y) r) (same_Some x p h))
+      let whole : all_items items (x ∷ pages) last ≡ items x ++ all_items items pages last =
+      ap (λ xs. xs ++ last) (flat_map-cons items x pages) ∙ append_assoc (items x) (flat_map items pages) last in
+      rw (at, whole) (slice_get-left (items x) (all_items items pages last) r (omega (arith, head, low))
+      ∙ ap (λ y. slice_get (items y) r) (same_Some x p h))
   at_page (x ∷ pages) last full (suc q) r p low h =
       let head = All-head (λ (q : P). length (items q) ≡ PAGE_LEN) x pages full in
       let rest = All-tail (λ (q : P). length (items q) ≡ PAGE_LEN) x pages full in
       let at : suc q * PAGE_LEN + r ≡ PAGE_LEN + (q * PAGE_LEN + r) = omega arith in
-      let whole : all_items items (x ∷ pages) last ≡ items x ++ all_items items pages last = ap (λ xs. xs ++ last) (flat_map-cons items x pages) ∙ append_assoc (items x) (flat_map items pages) last in
-      rw (at, whole) (slice_get-right (items x) (all_items items pages last) PAGE_LEN (q * PAGE_LEN + r) (sym head) ∙ at_page pages last rest q r p low h)
+      let whole : all_items items (x ∷ pages) last ≡ items x ++ all_items items pages last =
+      ap (λ xs. xs ++ last) (flat_map-cons items x pages) ∙ append_assoc (items x) (flat_map items pages) last in
+      rw (at, whole) (slice_get-right (items x) (all_items items pages last) PAGE_LEN (q * PAGE_LEN + r) (sym head)
+      ∙ at_page pages last rest q r p low h)
 
   -- a full page is that of its number
-  pub is_page : (pages : List P) (last : List X) → AreInPages items pages last → (q : ℕ) (p : P) → slice_get pages q ≡ Some p → IsPage (items p) (all_items items pages last) q
+  pub is_page : (pages : List P) (last : List X) → AreInPages items pages last
+      → (q : ℕ) (p : P) → slice_get pages q ≡ Some p → IsPage (items p) (all_items items pages last) q
   is_page pages last a q p h = record {
     inside = let l : q < length pages = slice_get_within pages q p h in let n = length-all pages last a.full in omega (arith, l, n);
     items = λ r l. sym (at_page pages last a.full q r p l h);
@@ -96,7 +106,8 @@ module _ {P X : Type 0} (items : P → List X) where
   -- an item of a full page
   pub in_page : (pages : List P) (last : List X) → AreInPages items pages last → (i : ℕ) (p : P) → slice_get pages (i / PAGE_LEN) ≡ Some p
       → slice_get (all_items items pages last) i ≡ slice_get (items p) (i % PAGE_LEN)
-  in_page pages last a i p h = ap (slice_get (all_items items pages last)) (sym (div-add-mod' i PAGE_LEN)) ∙ at_page pages last a.full (i / PAGE_LEN) (i % PAGE_LEN) p (mod_below i PAGE_LEN (omega arith)) h
+  in_page pages last a i p h = ap (slice_get (all_items items pages last)) (sym (div-add-mod' i PAGE_LEN))
+      ∙ at_page pages last a.full (i / PAGE_LEN) (i % PAGE_LEN) p (mod_below i PAGE_LEN (omega arith)) h
 
   -- an item after the full pages
   pub after_pages : (pages : List P) (last : List X) → AreInPages items pages last → (i : ℕ) → slice_get pages (i / PAGE_LEN) ≡ None
@@ -105,10 +116,12 @@ module _ {P X : Type 0} (items : P → List X) where
       let l : length pages ≤ i / PAGE_LEN = past pages (i / PAGE_LEN) h in
       let m : i / PAGE_LEN * PAGE_LEN + i % PAGE_LEN ≡ i = div-add-mod' i PAGE_LEN in
       let at : i ≡ length pages * PAGE_LEN + (i - length pages * PAGE_LEN) = omega (arith, l, m) in
-      ap (slice_get (all_items items pages last)) at ∙ slice_get-right (flat_map items pages) last (length pages * PAGE_LEN) (i - length pages * PAGE_LEN) (sym (length-pages pages a.full))
+      ap (slice_get (all_items items pages last)) at ∙ slice_get-right
+      (flat_map items pages) last (length pages * PAGE_LEN) (i - length pages * PAGE_LEN) (sym (length-pages pages a.full))
 
   -- pages of the same items hold the same list
-  pub flat_map-same : (R : P → P → Type 0) → ((p q : P) → R p q → items q ≡ items p) → (pages copies : List P) → AllZip R pages copies → flat_map items copies ≡ flat_map items pages
+  pub flat_map-same : (R : P → P → Type 0) → ((p q : P) → R p q → items q ≡ items p)
+      → (pages copies : List P) → AllZip R pages copies → flat_map items copies ≡ flat_map items pages
   flat_map-same R same [] [] z = refl
   flat_map-same R same [] (q ∷ copies) z = absurd z
   flat_map-same R same (p ∷ pages) [] z = absurd z
@@ -137,8 +150,8 @@ module _ {P X : Type 0} (items : P → List X) where
   }
 
 -- lists that begin alike, and have the same at the places of one page more, begin alike with it
-pub alike-with_page : {X : Type 0} (xs ys here there : List X) (q : ℕ) → BeginAlike xs ys (q * PAGE_LEN) → IsPage here xs q → IsPage there ys q → BeginAlike here there PAGE_LEN
-    → BeginAlike xs ys ((q + 1) * PAGE_LEN)
+pub alike-with_page : {X : Type 0} (xs ys here there : List X) (q : ℕ) → BeginAlike xs ys (q * PAGE_LEN)
+    → IsPage here xs q → IsPage there ys q → BeginAlike here there PAGE_LEN → BeginAlike xs ys ((q + 1) * PAGE_LEN)
 alike-with_page xs ys here there q before one other same i l = go (nat_lt i (q * PAGE_LEN)) refl
   where
     go : (t : Bool) → nat_lt i (q * PAGE_LEN) ≡ t → slice_get xs i ≡ slice_get ys i

@@ -30,7 +30,8 @@ has_proc_set_other n p q l h ne = and_third (nat_lt 0 q) (nat_le q MAX_MEMBER) _
 
 -- the lowest n bits of a full mask
 pub all_shifted : (n : ℕ) → n ≤ MAX_MEMBER → (2 ^ 64 - 1) / 2 ^ (MAX_MEMBER - n) ≡ all_to n
-all_shifted n h = let same : 64 - (MAX_MEMBER - n) ≡ n = omega arith in ones_shr 64 (MAX_MEMBER - n) (omega arith) ∙ ap (λ (k : ℕ). 2 ^ k - 1) same
+all_shifted n h = let same : 64 - (MAX_MEMBER - n) ≡ n = omega arith in
+    ones_shr 64 (MAX_MEMBER - n) (omega arith) ∙ ap (λ (k : ℕ). 2 ^ k - 1) same
 
 -- a set with a processor has its bit
 has_bit : (mask p : ℕ) → IsTrue (has_proc mask p) → (1 ≤ p) × (p ≤ MAX_MEMBER) × (bit_at mask (p - 1) ≡ 1)
@@ -54,4 +55,5 @@ has_all_to n p few = (inside, below) where
 
 -- members are numbered up to MAX_MEMBER
 pub member_within : (set p : ℕ) → IsTrue (has_proc set p) → p ≤ MAX_MEMBER
-member_within set p m = leb-true p MAX_MEMBER (and_parts (nat_lt 0 p) (nat_le p MAX_MEMBER) (and_parts (nat_lt 0 p && nat_le p MAX_MEMBER) _ m).0).1
+member_within set p m =
+    leb-true p MAX_MEMBER (and_parts (nat_lt 0 p) (nat_le p MAX_MEMBER) (and_parts (nat_lt 0 p && nat_le p MAX_MEMBER) _ m).0).1

@@ -69,12 +69,14 @@ send_from (Send to) p h = ap (λ (q : ℕ). Send q) (grind (arith, nat_tests))
 send_from (Receive ends ids) p h = cc
 
 -- a step that sends to p is a Send to p of somebody
-pub sent_from : (o : Option Step) (p : ℕ) → option_map_or (λ x. act_sends_to x.act p) o false ≡ true → (a : ℕ) × (o ≡ Some (record { proc = a; act = Send p }))
+pub sent_from : (o : Option Step) (p : ℕ) → option_map_or (λ x. act_sends_to x.act p) o false ≡ true
+    → (a : ℕ) × (o ≡ Some (record { proc = a; act = Send p }))
 sent_from None p h = absurd (let e : false ≡ true = h in cc)
 sent_from (Some x) p h = (x.proc, ap (λ (a : Act). let y : Step = record { proc = x.proc; act = a } in Some y) (send_from x.act p h))
 
 -- a step fits without a reason against its act, and no message that it takes was sent in its tick
-pub Fits-from_act : (c : Setup) (steps : List Step) (now : ℕ → Bool) (p : ℕ) (a : Act) → nat_lt (length steps) MAX_STEPS ≡ true → is_proc c p ≡ true
+pub Fits-from_act : (c : Setup) (steps : List Step) (now : ℕ → Bool) (p : ℕ) (a : Act)
+    → nat_lt (length steps) MAX_STEPS ≡ true → is_proc c p ≡ true
     → act_refusal c steps now p a ≡ None → Fits c steps (record { proc = p; act = a }) × ((s : ℕ) → Contains (act_ids a) s → now s ≡ false)
 Fits-from_act c steps now p (Send to) room proc h = (
   record {
@@ -98,7 +100,8 @@ Fits-from_act c steps now p (Receive ends ids) room proc h =
         proc = proc_from c p proc;
         dest = tt;
         rising = is_rising-true ids r.0;
-        sent = λ s d. sent_from (step_at steps s) p (not-false (is_sent_to steps s p) (find_all (λ s. not (is_sent_to steps s p)) ids a.0 s d));
+        sent = λ s d. sent_from (step_at steps s) p
+            (not-false (is_sent_to steps s p) (find_all (λ s. not (is_sent_to steps s p)) ids a.0 s d));
         fresh = find_all (is_taken steps) ids t.0;
       },
       find_all now ids n.0,

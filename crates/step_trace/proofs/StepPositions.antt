@@ -16,7 +16,8 @@ use Rattle.step_trace.specs.Traces.{step_at, TakesAt, IsReceiveOf, IsWellFormed}
 use Rattle.step_trace.specs.PushRefusals.{is_taken}
 
 -- an element of the longer list is one of the shorter, or the new one
-pub slice_get-push_cases : {X : Type 0} (xs : List X) (x y : X) (k : ℕ) → slice_get (xs ++ x ∷ []) k ≡ Some y → (slice_get xs k ≡ Some y) ⊎ ((k ≡ length xs) × (x ≡ y))
+pub slice_get-push_cases : {X : Type 0} (xs : List X) (x y : X) (k : ℕ)
+    → slice_get (xs ++ x ∷ []) k ≡ Some y → (slice_get xs k ≡ Some y) ⊎ ((k ≡ length xs) × (x ≡ y))
 slice_get-push_cases [] x y zero h = inr (refl, same_Some x y h)
 slice_get-push_cases [] x y (suc k) h = absurd (none-some y h)
 slice_get-push_cases (z ∷ xs) x y zero h = inl h
@@ -29,9 +30,11 @@ slice_get-push_old (z ∷ xs) x y zero h = h
 slice_get-push_old (z ∷ xs) x y (suc k) h = slice_get-push_old xs x y k h
 
 -- a step of the longer list is one of the shorter, or the new one
-pub step_at-push_cases : (steps : List Step) (x y : Step) (k : ℕ) → step_at (steps ++ x ∷ []) k ≡ Some y → (step_at steps k ≡ Some y) ⊎ ((k ≡ length steps + 1) × (x ≡ y))
+pub step_at-push_cases : (steps : List Step) (x y : Step) (k : ℕ)
+    → step_at (steps ++ x ∷ []) k ≡ Some y → (step_at steps k ≡ Some y) ⊎ ((k ≡ length steps + 1) × (x ≡ y))
 step_at-push_cases steps x y zero h = absurd (none-some y h)
-step_at-push_cases steps x y (suc k) h = elim (slice_get-push_cases steps x y k h) [ inl e ↦ inl e | inr e ↦ inr (let f : k ≡ length steps = e.0 in omega arith, e.1) ]
+step_at-push_cases steps x y (suc k) h = elim (slice_get-push_cases steps x y k h)
+    [ inl e ↦ inl e | inr e ↦ inr (let f : k ≡ length steps = e.0 in omega arith, e.1) ]
 
 -- a step keeps its number
 pub step_at-push_old : (steps : List Step) (x y : Step) (k : ℕ) → step_at steps k ≡ Some y → step_at (steps ++ x ∷ []) k ≡ Some y
@@ -82,13 +85,15 @@ pub receive_unique : (steps : List Step) (k p q : ℕ) → IsReceiveOf steps k p
 receive_unique steps k p q g h = ap (λ (x : Step). x.proc) (same_step steps k _ _ g.step h.step)
 
 -- a Send is no Receive
-pub send_is_no_receive : (steps : List Step) (k a b p : ℕ) → step_at steps k ≡ Some (record { proc = a; act = Send b }) → IsReceiveOf steps k p → ⊥
+pub send_is_no_receive : (steps : List Step) (k a b p : ℕ)
+    → step_at steps k ≡ Some (record { proc = a; act = Send b }) → IsReceiveOf steps k p → ⊥
 send_is_no_receive steps k a b p h r =
     let same = ap (λ (x : Step). x.act) (same_step steps k _ _ h r.step) in
     cc
 
 -- what a step takes was sent before it
-pub ids_earlier : (c : Setup) (steps : List Step) (k : ℕ) (x : Step) → IsWellFormed c steps → step_at steps k ≡ Some x → All (λ s. s < k) (act_ids x.act)
+pub ids_earlier : (c : Setup) (steps : List Step) (k : ℕ) (x : Step)
+    → IsWellFormed c steps → step_at steps k ≡ Some x → All (λ s. s < k) (act_ids x.act)
 ids_earlier c steps k x w is = λ i d inside. (w.earlier k (get_or (act_ids x.act) i d) x is (Contains-get_or (act_ids x.act) i d inside)).0
 
 -- so its ids are places of a list with one place more than there are steps
@@ -100,5 +105,6 @@ ids_bound c steps k x list w h long = λ i d inside.
     omega (arith, earlier, within, long)
 
 -- a step by its processor and its act
-pub with_act : (steps : List Step) (k : ℕ) (x : Step) (a : Act) → step_at steps k ≡ Some x → x.act ≡ a → step_at steps k ≡ Some (record { proc = x.proc; act = a })
+pub with_act : (steps : List Step) (k : ℕ) (x : Step) (a : Act)
+    → step_at steps k ≡ Some x → x.act ≡ a → step_at steps k ≡ Some (record { proc = x.proc; act = a })
 with_act steps k x a h e = h ∙ ap (λ (b : Act). let z : Step = record { proc = x.proc; act = b } in Some z) e

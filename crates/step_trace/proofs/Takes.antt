@@ -32,12 +32,14 @@ each_of true false c h = cc h
 each_of false b c h = cc h
 
 -- if each message can be taken, no reason holds against rising ids
-pub no_refusal : (placed : Ticked) (taken : ℕ → Bool) (tick p : ℕ) (ids : List ℕ) → is_rising ids ≡ true → find (λ s. not (can_take placed taken tick p s)) ids ≡ None
-    → ids_refusal placed.steps (is_sent_in placed.ticks tick) taken p ids ≡ None
+pub no_refusal : (placed : Ticked) (taken : ℕ → Bool) (tick p : ℕ) (ids : List ℕ) → is_rising ids ≡ true → find
+    (λ s. not (can_take placed taken tick p s)) ids ≡ None → ids_refusal placed.steps (is_sent_in placed.ticks tick) taken p ids ≡ None
 no_refusal placed taken tick p ids rising none =
-    let parts : (s : ℕ) → Contains ids s → (is_sent_to placed.steps s p ≡ true) × (not (is_sent_in placed.ticks tick s) ≡ true) × (not (taken s) ≡ true) =
+    let parts : (s : ℕ) → Contains ids s → (is_sent_to placed.steps s p ≡ true)
+    × (not (is_sent_in placed.ticks tick s) ≡ true) × (not (taken s) ≡ true) =
     λ s d. each_of _ _ _ (not-false _ (find_all (λ i. not (can_take placed taken tick p i)) ids none s d)) in
-    let known = find-none (λ s. not (is_message placed.steps s)) ids (λ s d. not_from_true _ (sent_is-message placed.steps s p (parts s d).0)) in
+    let known = find-none (λ s. not (is_message placed.steps s)) ids
+    (λ s d. not_from_true _ (sent_is-message placed.steps s p (parts s d).0)) in
     let addressed = find-none (λ s. not (is_sent_to placed.steps s p)) ids (λ s d. not_from_true _ (parts s d).0) in
     let before = find-none (is_sent_in placed.ticks tick) ids (λ s d. not-true _ (parts s d).1) in
     let untaken = find-none taken ids (λ s d. not-true _ (parts s d).2) in

@@ -52,7 +52,11 @@ FitsIn-from_none trace tick x t h =
           → (tick_of trace (length trace.steps) < tick)
           ⊎ ((tick_of trace (length trace.steps) ≡ tick) × (y.proc < x.proc))
       order y at l h = elim (cases_eq (tick_of trace (length trace.steps)) tick) [
-        | inl e ↦ inr (e, let same : (tick_at trace.ticks (length trace.steps) == tick) ≡ true = eq-eqb _ _ e in let below : not (nat_le x.proc y.proc) ≡ true = rw same at h in grind (arith, nat_tests))
+        | inl e ↦ inr (
+          e,
+          let same : (tick_at trace.ticks (length trace.steps) == tick) ≡ true = eq-eqb _ _ e in
+              let below : not (nat_le x.proc y.proc) ≡ true = rw same at h in grind (arith, nat_tests),
+        )
         | inr n ↦ inl (omega (arith, n, l))
       ]
 
@@ -77,15 +81,18 @@ none_from_FitsIn trace tick x f =
     let low : nat_lt 0 tick ≡ true = let l = f.low in grind (arith, nat_tests) in
     let forward : nat_le trace.last tick ≡ true = let l = f.forward in grind (arith, nat_tests) in
     let high : nat_le tick MAX_TICKS ≡ true = let l = f.high in grind (arith, nat_tests) in
-    let act = act_refusal-none trace.config trace.steps (is_sent_in trace.ticks tick) x.proc x.act f.fits (λ s d. differs (tick_of trace s) tick (f.later s d)) in
+    let act = act_refusal-none trace.config trace.steps
+    (is_sent_in trace.ticks tick) x.proc x.act f.fits (λ s d. differs (tick_of trace s) tick (f.later s d)) in
     rw (room, low, forward, high, proc, after (step_at trace.steps (length trace.steps)) f.order) act
   where
-    after : (o : Option Step) → ((y : Step) → o ≡ Some y → (tick_of trace (length trace.steps) < tick) ⊎ ((tick_of trace (length trace.steps) ≡ tick) × (y.proc < x.proc)))
+    after : (o : Option Step) → ((y : Step) → o ≡ Some y
+        → (tick_of trace (length trace.steps) < tick) ⊎ ((tick_of trace (length trace.steps) ≡ tick) × (y.proc < x.proc)))
         → option_map_or (λ y. not (tick_at trace.ticks (length trace.steps) == tick && nat_le x.proc y.proc)) o true ≡ true
     after None h = refl
     after (Some y) h = elim (h y refl) [
       | inl l ↦ rw (differs (tick_of trace (length trace.steps)) tick l) refl
-      | inr e ↦ (let same : (tick_at trace.ticks (length trace.steps) == tick) ≡ true = eq-eqb _ _ e.0 in let above : nat_le x.proc y.proc ≡ false = let l = e.1 in grind (arith, nat_tests) in rw (same, above) refl)
+      | inr e ↦ (let same : (tick_at trace.ticks (length trace.steps) == tick) ≡ true = eq-eqb _ _ e.0 in
+          let above : nat_le x.proc y.proc ≡ false = let l = e.1 in grind (arith, nat_tests) in rw (same, above) refl)
     ]
 
 -- a reason that holds is the answer, names the least id of its kind, and holds only if the step may not be appended
@@ -94,21 +101,24 @@ pub record IsAnswered (trace : Recorded) (tick : ℕ) (x : Step) (e : PushError)
   pub justified : IsJustifiedIn trace tick x e
   pub least : NamesLeastIn trace tick x e
 
-pub IsAnswered-from_some : (trace : Recorded) (tick : ℕ) (x : Step) (e : PushError) → IsTrace trace → refusal_in trace tick x ≡ Some e → IsAnswered trace tick x e
+pub IsAnswered-from_some : (trace : Recorded) (tick : ℕ) (x : Step) (e : PushError)
+    → IsTrace trace → refusal_in trace tick x ≡ Some e → IsAnswered trace tick x e
 IsAnswered-from_some trace tick x e t h =
     let named = refusal_in-named trace tick x e h in
     elim (IsReason-or_memory e) [
       | inl m ↦ absurd (named.reason m)
       | inr is ↦ record {
         refused = is.answer (refusal_in trace tick x) h;
-        justified = is.justified trace tick x (λ a. none-some e (sym (none_from_FitsIn trace tick x (FitsIn-from_append trace tick x t a)) ∙ h));
+        justified =
+            is.justified trace tick x (λ a. none-some e (sym (none_from_FitsIn trace tick x (FitsIn-from_append trace tick x t a)) ∙ h));
         least = named.least;
       }
     ]
 
 -- the refusal of a Receive, by any test that knows the taken messages
-pub refusal_in_receive : (trace : Recorded) (tick : ℕ) (x : Step) (ids : List ℕ) (ends : Bool) (taken : ℕ → Bool) → length trace.steps < MAX_STEPS → 1 ≤ tick → trace.last ≤ tick → tick ≤ MAX_TICKS
-    → is_proc trace.config x.proc ≡ true → comes_after_last trace.steps trace.ticks tick x.proc ≡ true → x.act ≡ Receive ends ids → ((s : ℕ) → taken s ≡ is_taken trace.steps s)
+pub refusal_in_receive : (trace : Recorded) (tick : ℕ) (x : Step) (ids : List ℕ) (ends : Bool) (taken : ℕ → Bool)
+    → length trace.steps < MAX_STEPS → 1 ≤ tick → trace.last ≤ tick → tick ≤ MAX_TICKS → is_proc trace.config x.proc ≡ true
+    → comes_after_last trace.steps trace.ticks tick x.proc ≡ true → x.act ≡ Receive ends ids → ((s : ℕ) → taken s ≡ is_taken trace.steps s)
     → ids_refusal trace.steps (is_sent_in trace.ticks tick) taken x.proc ids ≡ refusal_in trace tick x
 refusal_in_receive trace tick x ids ends taken l low forward high p o e h =
     let q : nat_lt (length trace.steps) MAX_STEPS ≡ true = grind (arith, nat_tests) in
@@ -118,12 +128,14 @@ refusal_in_receive trace tick x ids ends taken l low forward high p o e h =
     rw (q, a, b, d, p, o, e) (ap (λ (u : ℕ → Bool). ids_refusal trace.steps (is_sent_in trace.ticks tick) u x.proc ids) (λ i s. h s i))
 
 -- the ids of a step that fits name messages
-pub known_from_fits : (trace : Recorded) (tick : ℕ) (x : Step) → FitsIn trace tick x → All (λ s. (0 < s) × (s ≤ length trace.steps)) (act_ids x.act)
+pub known_from_fits : (trace : Recorded) (tick : ℕ) (x : Step)
+    → FitsIn trace tick x → All (λ s. (0 < s) × (s ≤ length trace.steps)) (act_ids x.act)
 known_from_fits trace tick x f = All-weaker (Contains (act_ids x.act)) (λ s. (0 < s) × (s ≤ length trace.steps))
     (λ s d. step_at_within trace.steps s _ (f.fits.sent s d).1) (act_ids x.act) (All-contains_itself (act_ids x.act))
 
 -- and so do those of a step that is not refused
-pub known_from_none : (trace : Recorded) (tick : ℕ) (x : Step) → IsTrace trace → refusal_in trace tick x ≡ None → All (λ s. (0 < s) × (s ≤ length trace.steps)) (act_ids x.act)
+pub known_from_none : (trace : Recorded) (tick : ℕ) (x : Step)
+    → IsTrace trace → refusal_in trace tick x ≡ None → All (λ s. (0 < s) × (s ≤ length trace.steps)) (act_ids x.act)
 known_from_none trace tick x t h = known_from_fits trace tick x (FitsIn-from_none trace tick x t h)
 
 -- With one step in each tick, as many ticks have passed as there are steps, and each message was sent in an earlier
@@ -132,12 +144,14 @@ sent_before : (trace : Recorded) → IsTrace trace → (s : ℕ) → is_sent_in 
 sent_before trace t s = let l = tick_of-limit trace t.time s in differs (tick_of trace s) (trace.last + 1) (omega (arith, l))
 
 -- So the reason against one more step in the next tick is the one by numbers.
-pub next_refusal-by_number : (trace : Recorded) (x : Step) → IsTrace trace → IsOnePerTick trace → next_refusal trace x ≡ refusal trace.config trace.steps x
+pub next_refusal-by_number : (trace : Recorded) (x : Step)
+    → IsTrace trace → IsOnePerTick trace → next_refusal trace x ≡ refusal trace.config trace.steps x
 next_refusal-by_number trace x t one = go (nat_lt (length trace.steps) MAX_STEPS) refl where
   same : nat_lt trace.last MAX_TICKS ≡ nat_lt (length trace.steps) MAX_STEPS
   same = ap (λ n. nat_lt n MAX_TICKS) one.end
 
-  after : (o : Option Step) → option_map_or (λ y. not (tick_at trace.ticks (length trace.steps) == trace.last + 1 && nat_le x.proc y.proc)) o true ≡ true
+  after : (o : Option Step)
+      → option_map_or (λ y. not (tick_at trace.ticks (length trace.steps) == trace.last + 1 && nat_le x.proc y.proc)) o true ≡ true
   after None = refl
   after (Some y) =
       let l = tick_of-limit trace t.time (length trace.steps) in
@@ -150,17 +164,21 @@ next_refusal-by_number trace x t one = go (nat_lt (length trace.steps) MAX_STEPS
       let end = one.end in
       let low : nat_lt 0 (trace.last + 1) ≡ true = grind (arith, nat_tests) in
       let forward : nat_le trace.last (trace.last + 1) ≡ true = grind (arith, nat_tests) in
-      let high : nat_le (trace.last + 1) MAX_TICKS ≡ true = let l : trace.last + 1 ≤ MAX_TICKS = (let m : length trace.steps < MAX_TICKS = below in omega (arith, m, end)) in grind (arith, nat_tests) in
+      let high : nat_le (trace.last + 1) MAX_TICKS ≡ true = let l : trace.last + 1
+      ≤ MAX_TICKS = (let m : length trace.steps < MAX_TICKS = below in omega (arith, m, end)) in grind (arith, nat_tests) in
       rw (same, e, low, forward, high, after (step_at trace.steps (length trace.steps)))
-      (ap (λ (now : ℕ → Bool). cond (is_proc trace.config x.proc) (act_refusal trace.config trace.steps now x.proc x.act) (Some BadProc)) (λ i s. sent_before trace t s i))
+      (ap (λ (now : ℕ → Bool). cond (is_proc trace.config x.proc) (act_refusal trace.config trace.steps now x.proc x.act) (Some BadProc))
+      (λ i s. sent_before trace t s i))
 
 -- and there is one step in each tick again
-pub IsOnePerTick-push : (trace : Recorded) (x : Step) → IsTrace trace → IsOnePerTick trace → IsOnePerTick (with_step trace (trace.last + 1) x)
+pub IsOnePerTick-push : (trace : Recorded) (x : Step)
+    → IsTrace trace → IsOnePerTick trace → IsOnePerTick (with_step trace (trace.last + 1) x)
 IsOnePerTick-push trace x t one = record {
   end = let e = one.end in grind (arith, common_steps);
   each = λ k l. each k (cases_lt (length trace.steps) k) (let m : k ≤ length trace.steps + 1 = grind (arith, common_steps) in m);
 } where
-  each : (k : ℕ) → (length trace.steps < k) ⊎ (k ≤ length trace.steps) → k ≤ length trace.steps + 1 → tick_of (with_step trace (trace.last + 1) x) k ≡ k
+  each : (k : ℕ) → (length trace.steps < k) ⊎ (k ≤ length trace.steps)
+      → k ≤ length trace.steps + 1 → tick_of (with_step trace (trace.last + 1) x) k ≡ k
   each k (inl l) m =
       let long = t.time.each in
       let end = one.end in
@@ -172,7 +190,7 @@ IsOnePerTick-push trace x t one = record {
       tick_at-push_old trace.ticks (trace.last + 1) k (omega (arith, long, l)) ∙ one.each k l
 
 -- if the answer is Ok
-pub IsOnePerTick-appended : {X E : Type 0} (trace : Recorded) (x : Step) → IsTrace trace → IsOnePerTick trace → (result : Result X E) (new : Recorded)
-    → OnOk result (new ≡ with_step trace (trace.last + 1) x) → OnOk result (IsOnePerTick new)
+pub IsOnePerTick-appended : {X E : Type 0} (trace : Recorded) (x : Step) → IsTrace trace → IsOnePerTick trace
+    → (result : Result X E) (new : Recorded) → OnOk result (new ≡ with_step trace (trace.last + 1) x) → OnOk result (IsOnePerTick new)
 IsOnePerTick-appended trace x t one (Ok v) new e = subst (λ (z : Recorded). IsOnePerTick z) (sym e) (IsOnePerTick-push trace x t one)
 IsOnePerTick-appended trace x t one (Err v) new e = tt

@@ -21,7 +21,8 @@ pub record IsSearched (t : Recorded) (x low high : ℕ) : Type 0 where
   pub before : (k : ℕ) → 1 ≤ k → k ≤ low → tick_of t k < x
   pub rest : (k : ℕ) → high < k → k ≤ length t.steps → x ≤ tick_of t k
 
-pub searched_up : (t : Recorded) → IsTimed t → (x low high middle : ℕ) → middle < high → tick_of t (middle + 1) < x → IsSearched t x low high → IsSearched t x (middle + 1) high
+pub searched_up : (t : Recorded) → IsTimed t → (x low high middle : ℕ)
+    → middle < high → tick_of t (middle + 1) < x → IsSearched t x low high → IsSearched t x (middle + 1) high
 searched_up t time x low high middle h l s = record {
   order = omega (arith, h);
   within = s.within;
@@ -29,7 +30,8 @@ searched_up t time x low high middle h l s = record {
   rest = s.rest;
 }
 
-pub searched_down : (t : Recorded) → IsTimed t → (x low high middle : ℕ) → low ≤ middle → middle < high → x ≤ tick_of t (middle + 1) → IsSearched t x low high → IsSearched t x low middle
+pub searched_down : (t : Recorded) → IsTimed t → (x low high middle : ℕ)
+    → low ≤ middle → middle < high → x ≤ tick_of t (middle + 1) → IsSearched t x low high → IsSearched t x low middle
 searched_down t time x low high middle o h l s = record {
   order = o;
   within = omega (arith, s.within, h);

@@ -32,50 +32,59 @@ module _ (config : Setup) (placed : Ticked) (n last tick : ℕ) (x : Step) (each
   -- the trace of one step more
   pub front-next : front_of config placed (n + 1) tick ≡ with_step (front_of config placed n last) tick x
   front-next =
-      let steps : take (n + 1) placed.steps ≡ take n placed.steps ++ x ∷ [] = take_more placed.steps n x inside ∙ ap (λ y. take n placed.steps ++ y ∷ []) the_step in
-      let ticks : take (n + 1) placed.ticks ≡ take n placed.ticks ++ tick ∷ [] = take_more placed.ticks n 0 (let l = inside in omega (arith, l, each)) ∙ ap (λ t. take n placed.ticks ++ t ∷ []) the_tick in
+      let steps : take (n + 1) placed.steps ≡ take n placed.steps ++ x ∷ [] = take_more placed.steps n x inside
+      ∙ ap (λ y. take n placed.steps ++ y ∷ []) the_step in
+      let ticks : take (n + 1) placed.ticks ≡ take n placed.ticks ++ tick ∷ [] =
+      take_more placed.ticks n 0 (let l = inside in omega (arith, l, each)) ∙ ap (λ t. take n placed.ticks ++ t ∷ []) the_tick in
       ap (λ (s : List Step). record { config = config; steps = s; ticks = take (n + 1) placed.ticks; last = tick }) steps
       ∙ ap (λ (t : List ℕ). record { config = config; steps = take n placed.steps ++ x ∷ []; ticks = t; last = tick }) ticks
 
   -- the steps that are left begin with the next one
-  rest : rest_of config placed n last ≡ appended (front_of config placed n last) (x ∷ drop (n + 1) placed.steps) (tick ∷ drop (n + 1) placed.ticks)
-  rest =
-      at_drop_more (λ xs. appended (front_of config placed n last) xs (drop n placed.ticks)) placed.steps n x inside
-      ∙ ap (λ y. appended (front_of config placed n last) (y ∷ drop (n + 1) placed.steps) (drop n placed.ticks)) the_step
-      ∙ at_drop_more (λ ts. appended (front_of config placed n last) (x ∷ drop (n + 1) placed.steps) ts) placed.ticks n 0 (let l = inside in omega (arith, l, each))
+  rest : rest_of config placed n last ≡ appended (front_of config placed n last)
+      (x ∷ drop (n + 1) placed.steps) (tick ∷ drop (n + 1) placed.ticks)
+  rest = at_drop_more (λ xs. appended (front_of config placed n last) xs (drop n placed.ticks)) placed.steps n x inside ∙ ap (λ y. appended
+      (front_of config placed n last) (y ∷ drop (n + 1) placed.steps) (drop n placed.ticks)) the_step ∙ at_drop_more (λ ts. appended
+      (front_of config placed n last) (x ∷ drop (n + 1) placed.steps) ts) placed.ticks n 0 (let l = inside in omega (arith, l, each))
       ∙ ap (λ t. appended (front_of config placed n last) (x ∷ drop (n + 1) placed.steps) (t ∷ drop (n + 1) placed.ticks)) the_tick
 
   -- if nothing is against it, the others lead on from the trace with it
-  pub rest-next : refusal_in (front_of config placed n last) tick x ≡ None → rest_of config placed (n + 1) tick ≡ rest_of config placed n last
+  pub rest-next : refusal_in (front_of config placed n last) tick x ≡ None
+      → rest_of config placed (n + 1) tick ≡ rest_of config placed n last
   rest-next none =
       ap (λ t. appended t (drop (n + 1) placed.steps) (drop (n + 1) placed.ticks)) front-next
       ∙ sym (appended-next (front_of config placed n last) x (drop (n + 1) placed.steps) tick (drop (n + 1) placed.ticks) none)
       ∙ sym rest
 
   -- or else it is refused
-  pub rest-refused : (e : StepRefused) → IsStepRefusal (unless_refused (refusal_in (front_of config placed n last) tick x) (length (take n placed.steps) + 1) (Ok (front_of config placed n last))) e
-      → IsStepRefusal (rest_of config placed n last) e
-  rest-refused e h other = rest ∙ appended-refused (front_of config placed n last) x (drop (n + 1) placed.steps) tick (drop (n + 1) placed.ticks) e h other
+  pub rest-refused : (e : StepRefused) → IsStepRefusal (unless_refused (refusal_in (front_of config placed n last) tick x)
+      (length (take n placed.steps) + 1) (Ok (front_of config placed n last))) e → IsStepRefusal (rest_of config placed n last) e
+  rest-refused e h other = rest
+      ∙ appended-refused (front_of config placed n last) x (drop (n + 1) placed.steps) tick (drop (n + 1) placed.ticks) e h other
 
 -- a trace and further steps, of which none is checked yet
 pub rest-begin : (t : Recorded) (xs : List Step) (ts : List ℕ) (n : ℕ) → n ≡ length t.steps → length t.ticks ≡ length t.steps
     → rest_of t.config (record { steps = t.steps ++ xs; ticks = t.ticks ++ ts }) n t.last ≡ appended t xs ts
 rest-begin t xs ts n e each =
     let long : n ≡ length t.ticks = e ∙ sym each in
-    ap (λ k. appended (record { config = t.config; steps = take k (t.steps ++ xs); ticks = take n (t.ticks ++ ts); last = t.last }) (drop k (t.steps ++ xs)) (drop n (t.ticks ++ ts))) e
-    ∙ ap (λ k. appended (record { config = t.config; steps = take (length t.steps) (t.steps ++ xs); ticks = take k (t.ticks ++ ts); last = t.last }) (drop (length t.steps) (t.steps ++ xs)) (drop k (t.ticks ++ ts))) long
+    ap (λ k. appended (record { config = t.config; steps = take k (t.steps ++ xs); ticks = take n (t.ticks ++ ts); last = t.last })
+    (drop k (t.steps ++ xs)) (drop n (t.ticks ++ ts))) e
+    ∙ ap (λ k. appended
+    (record { config = t.config; steps = take (length t.steps) (t.steps ++ xs); ticks = take k (t.ticks ++ ts); last = t.last })
+    (drop (length t.steps) (t.steps ++ xs)) (drop k (t.ticks ++ ts))) long
     ∙ ap
     (λ (s : List Step).
     appended (record { config = t.config; steps = s; ticks = take (length t.ticks) (t.ticks ++ ts); last = t.last })
     (drop (length t.steps) (t.steps ++ xs)) (drop (length t.ticks) (t.ticks ++ ts))) (take-append_seam t.steps xs)
-    ∙ ap (λ (s : List ℕ). appended (record { config = t.config; steps = t.steps; ticks = s; last = t.last }) (drop (length t.steps) (t.steps ++ xs)) (drop (length t.ticks) (t.ticks ++ ts))) (take-append_seam t.ticks ts)
+    ∙ ap (λ (s : List ℕ). appended (record { config = t.config; steps = t.steps; ticks = s; last = t.last })
+    (drop (length t.steps) (t.steps ++ xs)) (drop (length t.ticks) (t.ticks ++ ts))) (take-append_seam t.ticks ts)
     ∙ ap (λ (s : List Step). appended t s (drop (length t.ticks) (t.ticks ++ ts))) (drop-append_seam t.steps xs)
     ∙ ap (λ (s : List ℕ). appended t xs s) (drop-append_seam t.ticks ts)
 
 -- all steps are checked
 pub rest-end : (config : Setup) (placed : Ticked) (n last : ℕ) → n ≡ length placed.steps → length placed.ticks ≡ length placed.steps
     → rest_of config placed n last ≡ Ok (record { config = config; steps = placed.steps; ticks = placed.ticks; last = last })
-rest-end config placed n last e each =
-    appended-none (front_of config placed n last) (drop n placed.steps) (drop n placed.ticks) (ap length (drop_all n placed.steps (omega (arith, e))))
-    ∙ ap (λ (s : List Step). Ok (record { config = config; steps = s; ticks = take n placed.ticks; last = last })) (take_all n placed.steps (omega (arith, e)))
-    ∙ ap (λ (s : List ℕ). Ok (record { config = config; steps = placed.steps; ticks = s; last = last })) (take_all n placed.ticks (omega (arith, e, each)))
+rest-end config placed n last e each = appended-none
+    (front_of config placed n last) (drop n placed.steps) (drop n placed.ticks) (ap length (drop_all n placed.steps (omega (arith, e))))
+    ∙ ap (λ (s : List Step). Ok (record { config = config; steps = s; ticks = take n placed.ticks; last = last }))
+    (take_all n placed.steps (omega (arith, e))) ∙ ap (λ (s : List ℕ).
+    Ok (record { config = config; steps = placed.steps; ticks = s; last = last })) (take_all n placed.ticks (omega (arith, e, each)))

@@ -13,7 +13,8 @@ phi_positive set trace g f None h = omega arith
 phi_positive set trace g f (Some w) h = let l = h.0 in omega arith
 
 -- no smaller bound holds than the one with its named gap
-phi_least : (set : ℕ) (trace : Recorded) (g f : ℕ) (o : Option Gap) → NamesGap set trace g f o → (e : ℕ) → 1 ≤ e → PhiHolds set trace g e → f ≤ e
+phi_least : (set : ℕ) (trace : Recorded) (g f : ℕ) (o : Option Gap)
+    → NamesGap set trace g f o → (e : ℕ) → 1 ≤ e → PhiHolds set trace g e → f ≤ e
 phi_least set trace g f None h e p holds = omega arith
 phi_least set trace g f (Some w) h e p holds = elim (cases_lt e f) [
   | inl low ↦ absurd (GapRefutes-sound set trace g e w (IsNamedGap-refutes set trace g f e w low h.1) holds)
@@ -38,8 +39,8 @@ pub record IsLongestOver (set : ℕ) (trace : Recorded) (x f q until : ℕ) : Ty
   pub least : (u : Gap) → IsGap set trace u → u.from ≡ x → x + f ≤ u.to + 1 → u.to + 1 ≡ until → q ≤ u.proc
 
 -- if it refutes the bound, it is longer than all that begin later
-gaps_longer : (set : ℕ) (trace : Recorded) (x f q until : ℕ) (o : Option Gap) → KnowsGaps set trace (x + 1) f o → IsLongestOver set trace x f q until → f ≤ until - x
-    → KnowsGaps set trace x (until - x + 1) (Some (record { proc = q; from = x; to = until - 1 }))
+gaps_longer : (set : ℕ) (trace : Recorded) (x f q until : ℕ) (o : Option Gap) → KnowsGaps set trace (x + 1) f o → IsLongestOver
+    set trace x f q until → f ≤ until - x → KnowsGaps set trace x (until - x + 1) (Some (record { proc = q; from = x; to = until - 1 }))
 gaps_longer set trace x f q until o k l h =
     let positive = phi_positive set trace (x + 1) f o k.named in
     let above : x < until = omega arith in
@@ -64,7 +65,8 @@ gaps_longer set trace x f q until o k l h =
     }
 
 -- if it doesn't, no gap that begins at x is as long as the named one
-gaps_kept : (set : ℕ) (trace : Recorded) (x f q until : ℕ) (o : Option Gap) → KnowsGaps set trace (x + 1) f o → IsLongestOver set trace x f q until → until - x < f → KnowsGaps set trace x f o
+gaps_kept : (set : ℕ) (trace : Recorded) (x f q until : ℕ) (o : Option Gap)
+    → KnowsGaps set trace (x + 1) f o → IsLongestOver set trace x f q until → until - x < f → KnowsGaps set trace x f o
 gaps_kept set trace x f q until o k l h = record {
   shorter = λ w i a. elim (cases_eq w.from x) [
     | inl e ↦ elim (l.longest w i e) [ inl short ↦ omega (arith, short, e, h) | inr short ↦ omega (arith, short, e) ]
@@ -80,7 +82,8 @@ gaps_kept set trace x f q until o k l h = record {
       gap = named.gap;
       from = omega arith;
       long = named.long;
-      greatest = λ v i a e. elim (cases_lt x v.from) [ inl later ↦ named.greatest v i (omega (arith, later)) e | inr b ↦ (let low : v.from ≤ w.from = omega (arith, b, from) in low) ];
+      greatest = λ v i a e. elim (cases_lt x v.from)
+          [ inl later ↦ named.greatest v i (omega (arith, later)) e | inr b ↦ (let low : v.from ≤ w.from = omega (arith, b, from) in low) ];
       least = named.least;
     },
   )
@@ -98,8 +101,8 @@ pub GapsLowered-with_over : (set : ℕ) (t : Recorded) (x q until : ℕ) (level 
     → IsLongestOver set t x level.phi q until → KnowsGaps set t (x + 1) level.phi level.gap
     → GapsLowered set t x level (with_gap level q x until)
 GapsLowered-with_over set t x q until level longest k = go (nat_le level.phi (until - x)) refl where
-  go : (b : Bool) → nat_le level.phi (until - x) ≡ b
-      → GapsLowered set t x level (cond b (record { delta = level.delta; miss = level.miss; phi = until - x + 1; gap = Some (record { proc = q; from = x; to = until - 1 }) }) level)
+  go : (b : Bool) → nat_le level.phi (until - x) ≡ b → GapsLowered set t x level (cond b (record
+      { delta = level.delta; miss = level.miss; phi = until - x + 1; gap = Some (record { proc = q; from = x; to = until - 1 }) }) level)
   go true e = let h = leb-true level.phi (until - x) e in record {
     gaps = gaps_longer set t x level.phi q until level.gap k longest h;
     phi = omega arith;
@@ -116,8 +119,10 @@ GapsLowered-with_over set t x q until level longest k = go (nat_le level.phi (un
   }
 
 -- so it does with that of the member whose next step comes last
-pub GapsLowered-with_gap : (set : ℕ) (t : Recorded) (x q : ℕ) (next : List ℕ) (level : Level) → 1 ≤ x → IsWithin set t.config.n → AreNextSteps set t x next → IsLatest set next (length next) q
+pub GapsLowered-with_gap : (set : ℕ) (t : Recorded) (x q : ℕ) (next : List ℕ) (level : Level)
+    → 1 ≤ x → IsWithin set t.config.n → AreNextSteps set t x next → IsLatest set next (length next) q
     → KnowsGaps set t (x + 1) level.phi level.gap → GapsLowered set t x level (with_gap level q x (get_or next q 0))
 GapsLowered-with_gap set t x q next level start within known latest k =
     let l = IsLongest-from_latest set t x q next start within known latest in
-    GapsLowered-with_over set t x q (get_or next q 0) level (record { gap = l.gap; longest = λ w i e. inl (l.longest w i e); least = λ w i e long. l.least w i e }) k
+    GapsLowered-with_over set t x q (get_or next q 0) level
+    (record { gap = l.gap; longest = λ w i e. inl (l.longest w i e); least = λ w i e long. l.least w i e }) k

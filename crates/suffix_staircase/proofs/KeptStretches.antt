@@ -107,7 +107,8 @@ pub record IsRepeated (old : List Stretch) (count : ℕ) (new : List Stretch) : 
   pub levels : levels_in new ≡ repeated count (levels_in old)
   pub stretches : AreInOrder new
 
-replicate_onto : (k n : ℕ) (level : Level) (rest : List Level) → replicate (k + n) level ++ rest ≡ replicate k level ++ (replicate n level ++ rest)
+replicate_onto : (k n : ℕ) (level : Level) (rest : List Level)
+    → replicate (k + n) level ++ rest ≡ replicate k level ++ (replicate n level ++ rest)
 replicate_onto zero n level rest = let none : 0 + n ≡ n = omega arith in rw none refl
 replicate_onto (suc k) n level rest =
     let next : suc k + n ≡ suc (k + n) = omega arith in

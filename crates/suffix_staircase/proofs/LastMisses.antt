@@ -22,11 +22,13 @@ taker_receives c steps x b place a w h t = go t.0.act refl t.2 where
   go (Receive ends ids) e m = record {
     ids = ids;
     ends = ends;
-    step = t.1 ∙ ap (λ (v : Act). let z : Step = record { proc = t.0.proc; act = v } in Some z) e ∙ ap (λ (q : ℕ). let z : Step = record { proc = q; act = Receive ends ids } in Some z) proc;
+    step = t.1 ∙ ap (λ (v : Act). let z : Step = record { proc = t.0.proc; act = v } in Some z) e
+        ∙ ap (λ (q : ℕ). let z : Step = record { proc = q; act = Receive ends ids } in Some z) proc;
   }
 
 -- a message has one receiver
-pub message_unique : (set : ℕ) (steps : List Step) (x a b q : ℕ) → step_at steps x ≡ Some (record { proc = a; act = Send b }) → IsMessage set steps x q → q ≡ b
+pub message_unique : (set : ℕ) (steps : List Step) (x a b q : ℕ)
+    → step_at steps x ≡ Some (record { proc = a; act = Send b }) → IsMessage set steps x q → q ≡ b
 message_unique set steps x a b q h m =
     let same = ap (λ (z : Step). z.act) (same_step steps x _ _ m.sent h) in
     cc
@@ -38,14 +40,16 @@ IsLastMissByNumber-from_last : (set : ℕ) (steps : List Step) (x b high r : ℕ
     → IsLastMissByNumber set steps x r
 IsLastMissByNumber-from_last set steps x b high r m undelivered below l = record {
   found = λ h. let f = l.found h in record { to = b; message = m; receive = f.2; late = f.0; undelivered = λ d. undelivered d f.1 };
-  last = λ y i. l.last y (subst (λ (q : ℕ). IsReceiveOf steps y q) (message_unique set steps x _ b _ m.sent i.message) i.receive) i.late (below y i);
+  last = λ y i. l.last y (subst (λ (q : ℕ). IsReceiveOf steps y q) (message_unique set steps x _ b _ m.sent i.message) i.receive) i.late
+      (below y i);
 }
 
 -- the last miss of a message is in the notes
-pub IsLastMissByNumber-from_known : (set : ℕ) (t : Recorded) (x b : ℕ) (r : Receives) → IsWellFormed t.config t.steps → b ≤ t.config.n → IsMessage set t.steps x b → KnowsReceives set t x r
-    → IsLastMissByNumber set t.steps x (last_missed r x b)
+pub IsLastMissByNumber-from_known : (set : ℕ) (t : Recorded) (x b : ℕ) (r : Receives) → IsWellFormed t.config t.steps
+    → b ≤ t.config.n → IsMessage set t.steps x b → KnowsReceives set t x r → IsLastMissByNumber set t.steps x (last_missed r x b)
 IsLastMissByNumber-from_known set t x b r w within m k = go (get_or r.links.items x 0 == 0) refl where
-  go : (none : Bool) → (get_or r.links.items x 0 == 0) ≡ none → IsLastMissByNumber set t.steps x (cond none (get_or r.last.items b 0) (get_or r.links.items (get_or r.links.items x 0) 0))
+  go : (none : Bool) → (get_or r.links.items x 0 == 0) ≡ none
+      → IsLastMissByNumber set t.steps x (cond none (get_or r.last.items b 0) (get_or r.links.items (get_or r.links.items x 0) 0))
   go true e =
       let none : get_or r.links.items x 0 ≡ 0 = eqb-true _ _ e in
       IsLastMissByNumber-from_last set t.steps x b (length t.steps + 1) (get_or r.last.items b 0) m
@@ -54,8 +58,12 @@ IsLastMissByNumber-from_known set t x b r w within m k = go (get_or r.links.item
       (k.last b within m.receiver)
   go false e =
       let some = eqb-false _ _ e in
-      let f = (k.taken x b m.receiver (m.from, m.sent)).found (let positive : 0 < get_or r.links.items x 0 = omega (arith, some) in positive) in
+      let f = (k.taken x b m.receiver (m.from, m.sent)).found
+      (let positive : 0 < get_or r.links.items x 0 = omega (arith, some) in positive) in
       IsLastMissByNumber-from_last set t.steps x b (get_or r.links.items x 0) (get_or r.links.items (get_or r.links.items x 0) 0) m
       (λ d l. omega (arith, w.once d.place (get_or r.links.items x 0) x d.takes f.1, d.until, l))
-      (λ y i. elim (cases_lt y (get_or r.links.items x 0)) [ inl l ↦ l | inr late ↦ absurd (i.undelivered (record { place = get_or r.links.items x 0; after = f.0; until = late; takes = f.1 })) ])
+      (λ y i. elim (cases_lt y (get_or r.links.items x 0)) [
+        | inl l ↦ l
+        | inr late ↦ absurd (i.undelivered (record { place = get_or r.links.items x 0; after = f.0; until = late; takes = f.1 }))
+      ])
       (k.before b (get_or r.links.items x 0) m.receiver (taker_receives t.config t.steps x b _ _ w m.sent f.1) f.0)

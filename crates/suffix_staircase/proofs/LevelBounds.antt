@@ -26,7 +26,8 @@ KnowsGaps-after_all set t = record {
 }
 
 -- what is known of misses and gaps makes a level the least bounds with their named witnesses
-pub IsLevelAt-from_known : (set : ℕ) (t : Recorded) (g : ℕ) (level : Level) → 1 ≤ g → KnowsMisses set t g level.delta level.miss → KnowsGaps set t g level.phi level.gap → IsLevelAt set t g level
+pub IsLevelAt-from_known : (set : ℕ) (t : Recorded) (g : ℕ) (level : Level)
+    → 1 ≤ g → KnowsMisses set t g level.delta level.miss → KnowsGaps set t g level.phi level.gap → IsLevelAt set t g level
 IsLevelAt-from_known set t g level start misses gaps = record {
   delta = IsDelta-from_misses set t g level.delta level.miss misses;
   miss = misses.named;
@@ -95,9 +96,10 @@ pub record IsSameButLevel (old new : Pass) : Type 0 where
   pub next_steps : new.next_steps ≡ old.next_steps
 
 -- one tick back by the longest gap that begins there
-pub TickLowered-with_gap : (set : ℕ) (t : Recorded) (done high g : ℕ) (old new : Pass) (levels : List Level) → IsTimed t → IsWithin set t.config.n → done ≤ length t.steps → AreIdleUpTo t done high
-    → tick_of t done < g → g ≤ high → KnowsTicksFrom set t done (g + 1) old levels → IsSameButLevel old new
-    → new.level ≡ with_gap old.level old.next_steps.latest g (get_or old.next_steps.by_processor.items old.next_steps.latest 0) → TickLowered set t done g new levels
+pub TickLowered-with_gap : (set : ℕ) (t : Recorded) (done high g : ℕ) (old new : Pass) (levels : List Level)
+    → IsTimed t → IsWithin set t.config.n → done ≤ length t.steps → AreIdleUpTo t done high
+    → tick_of t done < g → g ≤ high → KnowsTicksFrom set t done (g + 1) old levels → IsSameButLevel old new → new.level ≡ with_gap old.level
+    old.next_steps.latest g (get_or old.next_steps.by_processor.items old.next_steps.latest 0) → TickLowered set t done g new levels
 TickLowered-with_gap set t done high g old new levels time within inside idle low up known same is =
     let border = IsBorder-between t time done high g inside idle low up in
     let steps = known.steps in
@@ -118,14 +120,16 @@ TickLowered-with_gap set t done high g old new levels time within inside idle lo
           misses = misses;
         };
         gaps = lowered.gaps;
-        each = AreLevelsFrom-before set t g new.level levels (IsLevelAt-from_known set t g new.level start (KnowsMisses-at_border set t time done g _ _ border misses) lowered.gaps) known.each;
+        each = AreLevelsFrom-before set t g new.level levels (IsLevelAt-from_known set t g new.level start
+            (KnowsMisses-at_border set t time done g _ _ border misses) lowered.gaps) known.each;
         falling = StandsBefore-itself new.level;
       };
     }
 
 -- one step back the ticks that are known stay known
-pub KnowsTicksFrom-step : (set : ℕ) (t : Recorded) (k g : ℕ) (old new : Pass) (levels : List Level) → KnowsTicksFrom set t k g old levels → KnowsStepsAfter set t (k - 1) new
-    → StandsBefore new.level old.level → new.level.phi ≡ old.level.phi → new.level.gap ≡ old.level.gap → KnowsTicksFrom set t (k - 1) g new levels
+pub KnowsTicksFrom-step : (set : ℕ) (t : Recorded) (k g : ℕ) (old new : Pass) (levels : List Level)
+    → KnowsTicksFrom set t k g old levels → KnowsStepsAfter set t (k - 1) new → StandsBefore new.level old.level
+    → new.level.phi ≡ old.level.phi → new.level.gap ≡ old.level.gap → KnowsTicksFrom set t (k - 1) g new levels
 KnowsTicksFrom-step set t k g old new levels known steps falling phi gap = record {
   steps = steps;
   gaps = rw (phi, gap) known.gaps;

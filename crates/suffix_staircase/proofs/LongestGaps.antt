@@ -12,7 +12,8 @@ member_range mask p m =
     (omega (arith, ltb-true 0 p range.0), leb-true p MAX_MEMBER range.1)
 
 -- a gap from x on ends before the next step of its processor
-gap_until : (set : ℕ) (t : Recorded) (x : ℕ) (next : List ℕ) (w : Gap) → IsWithin set t.config.n → AreNextSteps set t x next → IsGap set t w → w.from ≡ x → w.to < get_or next w.proc 0
+gap_until : (set : ℕ) (t : Recorded) (x : ℕ) (next : List ℕ) (w : Gap)
+    → IsWithin set t.config.n → AreNextSteps set t x next → IsGap set t w → w.from ≡ x → w.to < get_or next w.proc 0
 gap_until set t x next w within k gap e = elim (cases_lt w.to (get_or next w.proc 0)) [
   | inl l ↦ l
   | inr h ↦ (let own = k.each w.proc (member_range set w.proc gap.member).0 (within w.proc gap.member) gap.member in
@@ -26,8 +27,8 @@ pub record IsLongest (set : ℕ) (trace : Recorded) (x q until : ℕ) : Type 0 w
   pub least : (w : Gap) → IsGap set trace w → w.from ≡ x → w.to + 1 ≡ until → q ≤ w.proc
 
 -- the member whose next step comes last has the longest gap
-pub IsLongest-from_latest : (set : ℕ) (t : Recorded) (x q : ℕ) (next : List ℕ) → 1 ≤ x → IsWithin set t.config.n → AreNextSteps set t x next → IsLatest set next (length next) q
-    → IsLongest set t x q (get_or next q 0)
+pub IsLongest-from_latest : (set : ℕ) (t : Recorded) (x q : ℕ) (next : List ℕ) → 1 ≤ x
+    → IsWithin set t.config.n → AreNextSteps set t x next → IsLatest set next (length next) q → IsLongest set t x q (get_or next q 0)
 IsLongest-from_latest set t x q next start within k latest = record {
   gap = gap q latest;
   longest = λ w i e.
@@ -40,7 +41,8 @@ IsLongest-from_latest set t x q next start within k latest = record {
     | inr h ↦ h
   ];
 } where
-  gap : (p : ℕ) → IsLatest set next (length next) p → x < get_or next p 0 → IsGap set t (record { proc = p; from = x; to = get_or next p 0 - 1 })
+  gap : (p : ℕ) → IsLatest set next (length next) p
+      → x < get_or next p 0 → IsGap set t (record { proc = p; from = x; to = get_or next p 0 - 1 })
   gap zero l h = absurd (omega (arith, k.zero, h))
   gap (suc p) l h =
       let member = l.member (omega arith) in

@@ -38,12 +38,13 @@ after_positive set t done d None h = omega arith
 after_positive set t done d (Some m) h = let l = h.0 in omega arith
 
 -- a miss by its two numbers
-same_sent : (set : ℕ) (t : Recorded) (x : ℕ) (m : Miss) → IsMiss set t m → m.sent ≡ x → IsMiss set t (record { sent = x; missed = m.missed })
+same_sent : (set : ℕ) (t : Recorded) (x : ℕ) (m : Miss)
+    → IsMiss set t m → m.sent ≡ x → IsMiss set t (record { sent = x; missed = m.missed })
 same_sent set t x m i e = subst (λ (n : ℕ). IsMiss set t (record { sent = n; missed = m.missed })) e i
 
 -- the last miss of message x is longer than all misses of later messages
-misses_longer : (set : ℕ) (t : Recorded) (x d r : ℕ) (o : Option Miss) → 1 ≤ x → KnowsMissesAfter set t x d o → IsLastMissOf set t x r → d ≤ tick_of t r - tick_of t x
-    → KnowsMissesAfter set t (x - 1) (tick_of t r - tick_of t x + 1) (Some (record { sent = x; missed = r }))
+misses_longer : (set : ℕ) (t : Recorded) (x d r : ℕ) (o : Option Miss) → 1 ≤ x → KnowsMissesAfter set t x d o → IsLastMissOf set t x r → d
+    ≤ tick_of t r - tick_of t x → KnowsMissesAfter set t (x - 1) (tick_of t r - tick_of t x + 1) (Some (record { sent = x; missed = r }))
 misses_longer set t x d r o low k l h =
     let positive = after_positive set t x d o k.named in
     let above : tick_of t x < tick_of t r = omega arith in
@@ -84,7 +85,8 @@ misses_kept set t x d r o low k l h = record {
       miss = named.miss;
       after = omega arith;
       long = named.long;
-      greatest = λ n i f e. elim (cases_lt x n.sent) [ inl later ↦ named.greatest n i later e | inr b ↦ (let low : n.sent ≤ m.sent = omega (arith, b, after) in low) ];
+      greatest = λ n i f e. elim (cases_lt x n.sent)
+          [ inl later ↦ named.greatest n i later e | inr b ↦ (let low : n.sent ≤ m.sent = omega (arith, b, after) in low) ];
     },
   )
 
@@ -96,11 +98,12 @@ pub record MissesLowered (set : ℕ) (trace : Recorded) (done : ℕ) (old new : 
   pub gap : new.gap ≡ old.gap
 
 -- one step back, the level takes the last miss of the message if its bound allows it no more
-pub MissesLowered-with_miss : (set : ℕ) (t : Recorded) (x r : ℕ) (level : Level) → 1 ≤ x → KnowsMissesAfter set t x level.delta level.miss → IsLastMissOf set t x r
+pub MissesLowered-with_miss : (set : ℕ) (t : Recorded) (x r : ℕ) (level : Level)
+    → 1 ≤ x → KnowsMissesAfter set t x level.delta level.miss → IsLastMissOf set t x r
     → MissesLowered set t (x - 1) level (with_miss level (record { sent = x; missed = r }) (tick_of t r - tick_of t x))
 MissesLowered-with_miss set t x r level low k l = go (nat_le level.delta (tick_of t r - tick_of t x)) refl where
-  go : (b : Bool) → nat_le level.delta (tick_of t r - tick_of t x) ≡ b
-      → MissesLowered set t (x - 1) level (cond b (record { delta = tick_of t r - tick_of t x + 1; miss = Some (record { sent = x; missed = r }); phi = level.phi; gap = level.gap }) level)
+  go : (b : Bool) → nat_le level.delta (tick_of t r - tick_of t x) ≡ b → MissesLowered set t (x - 1) level (cond b (record
+      { delta = tick_of t r - tick_of t x + 1; miss = Some (record { sent = x; missed = r }); phi = level.phi; gap = level.gap }) level)
   go true e = let h = leb-true level.delta (tick_of t r - tick_of t x) e in record {
     misses = misses_longer set t x level.delta r level.miss low k l h;
     falling = record { delta = omega arith; phi = omega arith; miss = λ same. absurd (omega (arith, same, h)); gap = λ same. refl };

@@ -13,7 +13,8 @@ pub record IsLastMissOf (set : ℕ) (trace : Recorded) (s r : ℕ) : Type 0 wher
   pub last : (y : ℕ) → IsMiss set trace (record { sent = s; missed = y }) → tick_of trace y ≤ tick_of trace r
 
 -- the taker of a message is its receiver, in a later tick than the Send's
-taker : (t : Recorded) → IsTrace t → (s a b k : ℕ) → step_at t.steps s ≡ Some (record { proc = a; act = Send b }) → (h : TakesAt t.steps k s) → (h.0.proc ≡ b) × (tick_of t s < tick_of t k)
+taker : (t : Recorded) → IsTrace t → (s a b k : ℕ) → step_at t.steps s ≡ Some (record { proc = a; act = Send b })
+    → (h : TakesAt t.steps k s) → (h.0.proc ≡ b) × (tick_of t s < tick_of t k)
 taker t w s a b k at h =
     let sent = (w.steps.earlier k s h.0 h.1 h.2).1 in
     let same = same_Some _ _ (sym sent.1 ∙ at) in
@@ -22,8 +23,8 @@ taker t w s a b k at h =
     (to, w.time.later k s h)
 
 -- for a Receive r of the message's receiver, delivered by the tick of r is delivered up to step r
-IsDelivered-numbers : (t : Recorded) → IsTrace t → (s a b r : ℕ) → step_at t.steps s ≡ Some (record { proc = a; act = Send b }) → IsReceiveOf t.steps r b
-    → IsDelivered t s (tick_of t r) ↔ IsDeliveredByNumber t.steps s r
+IsDelivered-numbers : (t : Recorded) → IsTrace t → (s a b r : ℕ) → step_at t.steps s ≡ Some (record { proc = a; act = Send b })
+    → IsReceiveOf t.steps r b → IsDelivered t s (tick_of t r) ↔ IsDeliveredByNumber t.steps s r
 IsDelivered-numbers t w s a b r at q = (
   λ h. (let k = taker t w s a b h.place at h.takes in record {
     place = h.place;
@@ -43,7 +44,8 @@ IsDelivered-numbers t w s a b r at q = (
 )
 
 -- a miss is one by number whose Receive is in a later tick
-IsMiss-numbers : (set : ℕ) (t : Recorded) → IsTrace t → (m : Miss) → IsMiss set t m ↔ (IsMissByNumber set t.steps m × (tick_of t m.sent < tick_of t m.missed))
+IsMiss-numbers : (set : ℕ) (t : Recorded) → IsTrace t
+    → (m : Miss) → IsMiss set t m ↔ (IsMissByNumber set t.steps m × (tick_of t m.sent < tick_of t m.missed))
 IsMiss-numbers set t w m = (
   λ i. (
     record {
@@ -65,7 +67,8 @@ IsMiss-numbers set t w m = (
 )
 
 -- the last Receive that misses a message by number is the last that misses it
-pub IsLastMissOf-from_numbers : (set : ℕ) (t : Recorded) → IsTrace t → (s r : ℕ) → IsLastMissByNumber set t.steps s r → IsLastMissOf set t s r
+pub IsLastMissOf-from_numbers : (set : ℕ) (t : Recorded)
+    → IsTrace t → (s r : ℕ) → IsLastMissByNumber set t.steps s r → IsLastMissOf set t s r
 IsLastMissOf-from_numbers set t w s r l = record {
   found = λ late. (IsMiss-numbers set t w (record { sent = s; missed = r })).1 (l.found (positive r late), late);
   last = λ y i. (let b = ((IsMiss-numbers set t w (record { sent = s; missed = y })).0 i).0 in

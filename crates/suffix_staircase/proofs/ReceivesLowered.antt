@@ -18,15 +18,21 @@ KnowsReceives-after_all set t r links first last = record {
   links_long = ap length links ∙ length-replicate (length t.steps + 1) 0;
   first_long = ap length first ∙ length-replicate (t.config.n + 1) 0;
   last_long = ap length last ∙ length-replicate (t.config.n + 1) 0;
-  taken = λ s p member m. rw (links, get_or-zeros) (record { found = λ p. absurd (omega arith); none = λ z y l h. absurd (omega (arith, l, step_at_within t.steps y h.0 h.1)) });
+  taken = λ s p member m. rw (links, get_or-zeros)
+      (record { found = λ p. absurd (omega arith); none = λ z y l h. absurd (omega (arith, l, step_at_within t.steps y h.0 h.1)) });
   before = λ p y member receive l. absurd (let inside = step_at_within t.steps y _ receive.step in omega (arith, l, inside));
   clear = λ p y receive l. rw (links, get_or-zeros) refl;
-  first = λ p h member. rw (first, get_or-zeros) (record { found = λ q. absurd (omega arith); first = λ y receive l. absurd (let inside = step_at_within t.steps y _ receive.step in omega (arith, l, inside)) });
-  last = λ p h member. rw (last, get_or-zeros) (record { found = λ q. absurd (omega arith); last = λ y receive l u. absurd (omega (arith, l, u)) });
+  first = λ p h member. rw (first, get_or-zeros) (record {
+    found = λ q. absurd (omega arith);
+    first = λ y receive l. absurd (let inside = step_at_within t.steps y _ receive.step in omega (arith, l, inside));
+  });
+  last = λ p h member.
+      rw (last, get_or-zeros) (record { found = λ q. absurd (omega arith); last = λ y receive l u. absurd (omega (arith, l, u)) });
 }
 
 -- a last Receive stays it back over a step that is no Receive of its processor
-pub IsLastReceive-lower : (steps : List Step) (p x high r : ℕ) → 1 ≤ x → (IsReceiveOf steps x p → ⊥) → IsLastReceive steps p x high r → IsLastReceive steps p (x - 1) high r
+pub IsLastReceive-lower : (steps : List Step) (p x high r : ℕ)
+    → 1 ≤ x → (IsReceiveOf steps x p → ⊥) → IsLastReceive steps p x high r → IsLastReceive steps p (x - 1) high r
 IsLastReceive-lower steps p x high r low other l = record {
   found = λ h. let f = l.found h in (omega (arith, f.0), f.1, f.2);
   last = λ y receive a b. elim (cases_eq y x) [
@@ -36,7 +42,8 @@ IsLastReceive-lower steps p x high r low other l = record {
 }
 
 -- so does a first Receive
-pub IsFirstReceive-lower : (steps : List Step) (p x r : ℕ) → 1 ≤ x → (IsReceiveOf steps x p → ⊥) → IsFirstReceive steps p x r → IsFirstReceive steps p (x - 1) r
+pub IsFirstReceive-lower : (steps : List Step) (p x r : ℕ)
+    → 1 ≤ x → (IsReceiveOf steps x p → ⊥) → IsFirstReceive steps p x r → IsFirstReceive steps p (x - 1) r
 IsFirstReceive-lower steps p x r low other l = record {
   found = λ h. let f = l.found h in (omega (arith, f.0), f.1);
   first = λ y receive a. elim (cases_eq y x) [
@@ -46,7 +53,8 @@ IsFirstReceive-lower steps p x r low other l = record {
 }
 
 -- the Receive that takes a message stays it back over a step that doesn't take it
-pub IsTaker-lower : (steps : List Step) (x s place : ℕ) → 1 ≤ x → (TakesAt steps x s → ⊥) → IsTaker steps x s place → IsTaker steps (x - 1) s place
+pub IsTaker-lower : (steps : List Step) (x s place : ℕ)
+    → 1 ≤ x → (TakesAt steps x s → ⊥) → IsTaker steps x s place → IsTaker steps (x - 1) s place
 IsTaker-lower steps x s place low other l = record {
   found = λ h. let f = l.found h in (omega (arith, f.0), f.1);
   none = λ z y a. elim (cases_eq y x) [
@@ -63,7 +71,8 @@ send_takes_none steps x a b s h t =
     omega (arith, none.1)
 
 -- back over a step that takes no message to a member, and is no Receive of one, nothing changes
-KnowsReceives-lower : (set : ℕ) (t : Recorded) (x : ℕ) (r : Receives) → 1 ≤ x → ((s p : ℕ) → IsTrue (has_proc set p) → IsSentTo t.steps s p → ¬ TakesAt t.steps x s)
+KnowsReceives-lower : (set : ℕ) (t : Recorded) (x : ℕ) (r : Receives)
+    → 1 ≤ x → ((s p : ℕ) → IsTrue (has_proc set p) → IsSentTo t.steps s p → ¬ TakesAt t.steps x s)
     → ((p : ℕ) → IsTrue (has_proc set p) → ¬ IsReceiveOf t.steps x p) → KnowsReceives set t x r → KnowsReceives set t (x - 1) r
 KnowsReceives-lower set t x r low untaken other k = record {
   links_long = k.links_long;
@@ -80,9 +89,10 @@ KnowsReceives-lower set t x r low untaken other k = record {
 }
 
 -- back over a Send nothing changes
-pub KnowsReceives-send : (set : ℕ) (t : Recorded) (x a b : ℕ) (r : Receives) → step_at t.steps x ≡ Some (record { proc = a; act = Send b }) → KnowsReceives set t x r → KnowsReceives set t (x - 1) r
-KnowsReceives-send set t x a b r h k =
-    KnowsReceives-lower set t x r (step_at_within t.steps x _ h).0 (λ s p member m. send_takes_none t.steps x a b s h) (λ p member. send_is_no_receive t.steps x a b p h) k
+pub KnowsReceives-send : (set : ℕ) (t : Recorded) (x a b : ℕ) (r : Receives)
+    → step_at t.steps x ≡ Some (record { proc = a; act = Send b }) → KnowsReceives set t x r → KnowsReceives set t (x - 1) r
+KnowsReceives-send set t x a b r h k = KnowsReceives-lower set t x r (step_at_within t.steps x _ h).0
+    (λ s p member m. send_takes_none t.steps x a b s h) (λ p member. send_is_no_receive t.steps x a b p h) k
 
 -- nor back over a step of a processor that is no member
 pub KnowsReceives-other : (set : ℕ) (t : Recorded) (x : ℕ) (y : Step) (r : Receives) → IsWellFormed t.config t.steps

@@ -21,7 +21,8 @@ step_or_zero steps (suc k) l = inr (found steps k (omega arith)) where
   found (x ∷ steps) (suc k) h = found steps k (let m : suc k < suc (length steps) = h in omega arith)
 
 -- each tick after that of a step, up to the next step's, is a border
-pub IsBorder-between : (t : Recorded) → IsTimed t → (done high g : ℕ) → done ≤ length t.steps → AreIdleUpTo t done high → tick_of t done < g → g ≤ high → IsBorder t done g
+pub IsBorder-between : (t : Recorded) → IsTimed t → (done high g : ℕ)
+    → done ≤ length t.steps → AreIdleUpTo t done high → tick_of t done < g → g ≤ high → IsBorder t done g
 IsBorder-between t time done high g inside idle low within = record {
   end = let until = idle.until in omega arith;
   above = λ k x h l. (omega (arith, idle.later k x h l));
@@ -60,7 +61,8 @@ AreIdleUpTo-step t time k low high = elim (step_or_zero t.steps k high) [
 ]
 
 -- at a border the misses known after a step are those of the messages from the tick on
-pub KnowsMisses-at_border : (set : ℕ) (t : Recorded) → IsTimed t → (done g d : ℕ) (o : Option Miss) → IsBorder t done g → KnowsMissesAfter set t done d o → KnowsMisses set t g d o
+pub KnowsMisses-at_border : (set : ℕ) (t : Recorded)
+    → IsTimed t → (done g d : ℕ) (o : Option Miss) → IsBorder t done g → KnowsMissesAfter set t done d o → KnowsMisses set t g d o
 KnowsMisses-at_border set t time done g d o b k = record {
   shorter = λ m i f. k.shorter m i (b.below m.sent _ i.message.sent f);
   named = go o k.named;
@@ -73,7 +75,8 @@ KnowsMisses-at_border set t time done g d o b k = record {
       miss = i;
       from = b.above m.sent _ i.message.sent named.after;
       long = named.long;
-      latest = λ n j f e. ticks_rise t time n.sent m.sent _ _ j.message.sent i.message.sent (named.greatest n j (b.below n.sent _ j.message.sent f) e);
+      latest = λ n j f e. ticks_rise t time n.sent m.sent _ _ j.message.sent i.message.sent
+          (named.greatest n j (b.below n.sent _ j.message.sent f) e);
       greatest = λ n j e l. (let from = b.above m.sent _ i.message.sent named.after in
           named.greatest n j (b.below n.sent _ j.message.sent (omega (arith, from, e))) l);
     },
@@ -87,12 +90,14 @@ IsNextStep-at_border t p done g next b n = record {
     | inr l ↦ (let s = n.step l in let a = b.above s.0 _ s.2.1 s.1 in omega (arith, a, s.3))
   ];
   until = n.until;
-  silent = λ x f u s. (let low = n.first s.place (b.below s.place _ s.step.1 (omega (arith, s.tick, f))) s.step in omega (arith, low, s.tick, u));
+  silent = λ x f u s. (let low = n.first s.place (b.below s.place _ s.step.1 (omega (arith, s.tick, f))) s.step in
+      omega (arith, low, s.tick, u));
   step = λ l. (let s = n.step l in record { place = s.0; step = s.2; tick = s.3 });
 }
 
 -- so for all members
-pub AreNextSteps-at_border : (set : ℕ) (t : Recorded) (done g : ℕ) (next : List ℕ) → IsBorder t done g → AreNextTicks (λ p. IsTrue (has_proc set p)) t done next → AreNextSteps set t g next
+pub AreNextSteps-at_border : (set : ℕ) (t : Recorded) (done g : ℕ) (next : List ℕ)
+    → IsBorder t done g → AreNextTicks (λ p. IsTrue (has_proc set p)) t done next → AreNextSteps set t g next
 AreNextSteps-at_border set t done g next b k = record {
   long = k.long;
   zero = k.zero;

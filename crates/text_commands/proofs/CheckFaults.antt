@@ -22,31 +22,38 @@ pub record IsCutTo (claim : Claim) (text : List ℕ) (t reported : Recorded) : T
 
 -- the fault of a check, in a trace text and a certificate
 abbrev pub IsCheckFault : Claim → List ℕ → List ℕ → Option (List ℕ) → Option (List ℕ) → Fault → Type 0
-IsCheckFault claim certificate text before after w = IsServeFault (IsAnswerTo (IsLineOn claim certificate)) (IsUnanswered (IsUnchecked claim certificate)) text before after w
+IsCheckFault claim certificate text before after w =
+    IsServeFault (IsAnswerTo (IsLineOn claim certificate)) (IsUnanswered (IsUnchecked claim certificate)) text before after w
 
 -- a fault in what was read is one in what was there to be read, if that is known
-pub check-served : (claim : Claim) (certificate text : List ℕ) (before after known other : Option (List ℕ)) (w : Fault) → IfSome known (λ xs. text ≡ xs)
-    → IfSome other (λ xs. certificate ≡ xs) → IsCheckFault claim certificate text before after w
+pub check-served : (claim : Claim) (certificate text : List ℕ) (before after known other : Option (List ℕ)) (w : Fault)
+    → IfSome known (λ xs. text ≡ xs) → IfSome other (λ xs. certificate ≡ xs) → IsCheckFault claim certificate text before after w
     → IfSome known (λ xs. IfSome other (λ ys. IsCheckFault claim ys xs before after w))
 check-served claim certificate text before after known other w all whole h =
     of_known (λ xs. IfSome other (λ ys. IsCheckFault claim ys xs before after w)) text known all
     (of_known (λ ys. IsCheckFault claim ys text before after w) certificate other whole h)
 
 -- the certificate is refused
-pub certificate-served : (claim : Claim) (certificate text : List ℕ) (t reported : Recorded) (before after : Option (List ℕ)) (w : Fault) → IsCutTo claim text t reported
-    → IsBadCertificate certificate w → IsCheckFault claim certificate text before after w
+pub certificate-served : (claim : Claim) (certificate text : List ℕ) (t reported : Recorded) (before after : Option (List ℕ)) (w : Fault)
+    → IsCutTo claim text t reported → IsBadCertificate certificate w → IsCheckFault claim certificate text before after w
 certificate-served claim certificate text t reported before after (fault.Certificate reason) c h =
     record { trace = t; read = c.read; holds = (record { within = c.within; reported = reported; until_is = c.until; holds = h.0 }, h.1) }
 certificate-served claim certificate text t reported before after fault.Memory c h = tt
 certificate-served claim certificate text t reported before after w c h = absurd h
 
-pub certificate-told : (claim : Claim) (certificate : List ℕ) (w : Fault) → IsBadCertificate certificate w → IsFaultOf (IsToldOfChecks claim) w
+pub certificate-told : (claim : Claim) (certificate : List ℕ) (w : Fault)
+    → IsBadCertificate certificate w → IsFaultOf (IsToldOfChecks claim) w
 certificate-told claim certificate (fault.Certificate reason) h = h.1
 certificate-told claim certificate fault.Memory h = tt
 certificate-told claim certificate w h = absurd h
 
 -- the verdict by what the trace is cut to is the verdict by the trace
-pub judged-on : (claim : Claim) (certificate text : List ℕ) (t reported : Recorded) (v : Verdict) → IsCutTo claim text t reported → reported.config.n ≡ t.config.n
+pub judged-on : (claim : Claim) (certificate text : List ℕ) (t reported : Recorded) (v : Verdict)
+    → IsCutTo claim text t reported → reported.config.n ≡ t.config.n
     → IsJudged (named claim.correct reported.config.n) certificate v reported → IsVerdictOn claim.correct claim.until certificate v t
-judged-on claim certificate text t reported v c count h =
-    record { within = c.within; reported = reported; until_is = c.until; holds = subst (λ n. IsJudged (named claim.correct n) certificate v reported) count h }
+judged-on claim certificate text t reported v c count h = record {
+  within = c.within;
+  reported = reported;
+  until_is = c.until;
+  holds = subst (λ n. IsJudged (named claim.correct n) certificate v reported) count h;
+}

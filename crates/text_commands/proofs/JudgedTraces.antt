@@ -23,8 +23,8 @@ formula-declined j decisions t text (Refused why) r is same within bad = (within
 formula-declined j decisions t text Memory r is same within bad = tt
 
 -- why there are no decisions is why they aren't judged, if what is asked for is in order
-pub undecided-declined : (j : Judging) (text : List ℕ) (t : Recorded) (r : Bool) (w : Fault) → j.replay ≡ r → HasFormula j t → HasStart j.start t
-    → IsDeclined (IsUndecided r text t) w → IsDeclined (IsUnjudged j text t) w
+pub undecided-declined : (j : Judging) (text : List ℕ) (t : Recorded) (r : Bool) (w : Fault)
+    → j.replay ≡ r → HasFormula j t → HasStart j.start t → IsDeclined (IsUndecided r text t) w → IsDeclined (IsUnjudged j text t) w
 undecided-declined j text t r fault.Memory e asked started u = tt
 undecided-declined j text t true (fault.NotARun number due) e asked started u = (asked, started, rw e u)
 undecided-declined j text t false (fault.NotARun number due) e asked started u = absurd u

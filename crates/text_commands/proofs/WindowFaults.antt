@@ -23,7 +23,8 @@ use Rattle.text_commands.specs.Serving.{IsFaultOf, IsReadFault, IsServeFault}
 use Rattle.text_commands.specs.Windows.{IsRefusalOfWindow, IsToldOfWindow, IsUnreadWindow, IsUntoldOfWindow, IsWindowTold, IsWindowless}
 
 -- the fault of a refusal has its cause in the window
-pub refused-untold : (form : ImportForm) (o : Options) (w : LogWindow) (why : LogError) → IsRefusalOfWindow form o w why → IsUntoldOfWindow form o w (fault_of_log why)
+pub refused-untold : (form : ImportForm) (o : Options) (w : LogWindow) (why : LogError)
+    → IsRefusalOfWindow form o w why → IsUntoldOfWindow form o w (fault_of_log why)
 refused-untold form o w no_log.Memory h = tt
 refused-untold form o w why h = (h, λ e. absurd (cc e))
 
@@ -34,24 +35,29 @@ log-unread : (o : Options) (from : LogEnd) (known : Option (List ℕ)) (why : Lo
 log-unread o from known no_log.Memory h = tt
 log-unread o from known why h = (h, λ e. absurd (cc e))
 
-pub refused-unread : (o : Options) (from : LogEnd) (known : Option (List ℕ)) (e : WindowError) (why : LogError) → e ≡ unread.Log why → IfSome known (IsWindowRefusal o.unit from o.until e)
-    → IsUnreadWindow o from known (fault_of_log why)
-refused-unread o from known e why is h = log-unread o from known why (subst (λ (x : WindowError). IfSome known (IsWindowRefusal o.unit from o.until x)) is h)
+pub refused-unread : (o : Options) (from : LogEnd) (known : Option (List ℕ)) (e : WindowError) (why : LogError)
+    → e ≡ unread.Log why → IfSome known (IsWindowRefusal o.unit from o.until e) → IsUnreadWindow o from known (fault_of_log why)
+refused-unread o from known e why is h = log-unread o from known why
+    (subst (λ (x : WindowError). IfSome known (IsWindowRefusal o.unit from o.until x)) is h)
 
 -- and then no read failed
 log-faultless : (old new : ℕ) (why : LogError) → new ≡ old → IsReadFault old new (fault_of_log why)
 log-faultless old new no_log.Memory same = same
 log-faultless old new why same = same
 
-pub refused-faultless : (A : Type 0) (old new : ℕ) (e : WindowError) (why : LogError) → e ≡ unread.Log why → new ≡ faults_after_rows {A = A} (Err e) old → IsReadFault old new (fault_of_log why)
-refused-faultless A old new e why is h = log-faultless old new why (subst (λ (x : WindowError). new ≡ faults_after_rows {A = A} (Err x) old) is h)
+pub refused-faultless : (A : Type 0) (old new : ℕ) (e : WindowError) (why : LogError)
+    → e ≡ unread.Log why → new ≡ faults_after_rows {A = A} (Err e) old → IsReadFault old new (fault_of_log why)
+refused-faultless A old new e why is h = log-faultless old new why
+    (subst (λ (x : WindowError). new ≡ faults_after_rows {A = A} (Err x) old) is h)
 
 -- a failed read is counted
-pub unread-rose : (A : Type 0) (old new : ℕ) (e : WindowError) → e ≡ unread.Read → new ≡ faults_after_rows {A = A} (Err e) old → Rose old new
+pub unread-rose : (A : Type 0) (old new : ℕ) (e : WindowError)
+    → e ≡ unread.Read → new ≡ faults_after_rows {A = A} (Err e) old → Rose old new
 unread-rose A old new e is h = rose_by_one old old new refl (subst (λ (x : WindowError). new ≡ faults_after_rows {A = A} (Err x) old) is h)
 
 -- a window isn't read
-pub unread-served : (form : ImportForm) (o : Options) (from : LogEnd) (Told : List ℕ → Type 0) (before after known : Option (List ℕ)) (w : Fault) → IsUnreadWindow o from known w
+pub unread-served : (form : ImportForm) (o : Options)
+    (from : LogEnd) (Told : List ℕ → Type 0) (before after known : Option (List ℕ)) (w : Fault) → IsUnreadWindow o from known w
     → IfSome known (λ text. IsServeFault (IsWindowTold form o from Told) (IsWindowless form o from) text before after w)
 unread-served form o from Told before after None w h = tt
 unread-served form o from Told before after (Some text) fault.Read h = tt
@@ -59,13 +65,15 @@ unread-served form o from Told before after (Some text) fault.Memory h = tt
 unread-served form o from Told before after (Some text) (fault.Log reason) h = (inl h.0, h.1)
 unread-served form o from Told before after (Some text) w h = absurd h
 
-pub unread-told : (o : Options) (from : LogEnd) (known : Option (List ℕ)) (w : Fault) → IsUnreadWindow o from known w → IsFaultOf IsToldOfLogs w
+pub unread-told : (o : Options) (from : LogEnd) (known : Option (List ℕ)) (w : Fault)
+    → IsUnreadWindow o from known w → IsFaultOf IsToldOfLogs w
 unread-told o from known fault.Read h = tt
 unread-told o from known fault.Memory h = tt
 unread-told o from known (fault.Log reason) h = h.1
 unread-told o from known w h = absurd h
 
-pub unread-unwritten : {T : Type 0} (writer : Counting T) (o : Options) (from : LogEnd) (known : Option (List ℕ)) (w : Fault) → IsUnreadWindow o from known w → IsWriteFault writer writer w
+pub unread-unwritten : {T : Type 0} (writer : Counting T) (o : Options) (from : LogEnd) (known : Option (List ℕ)) (w : Fault)
+    → IsUnreadWindow o from known w → IsWriteFault writer writer w
 unread-unwritten writer o from known fault.Read h = refl
 unread-unwritten writer o from known fault.Memory h = refl
 unread-unwritten writer o from known (fault.Log reason) h = refl
@@ -78,20 +86,24 @@ pub untold-served : (form : ImportForm) (o : Options) (from : LogEnd) (Told : Li
     → IfSome known (λ text. IsServeFault (IsWindowTold form o from Told) (IsWindowless form o from) text before after w)
 untold-served form o from Told before after None window w is h = tt
 untold-served form o from Told before after (Some text) window fault.Memory is h = tt
-untold-served form o from Told before after (Some text) window (fault.Log reason) is h = (inr (window, subst (λ xs. IsWindow o.unit from o.until xs window) is.is is.window, h.0), h.1)
+untold-served form o from Told before after (Some text) window (fault.Log reason) is h =
+    (inr (window, subst (λ xs. IsWindow o.unit from o.until xs window) is.is is.window, h.0), h.1)
 untold-served form o from Told before after (Some text) window w is h = absurd h
 
-pub untold-told : (form : ImportForm) (o : Options) (window : LogWindow) (w : Fault) → IsUntoldOfWindow form o window w → IsFaultOf IsToldOfLogs w
+pub untold-told : (form : ImportForm) (o : Options) (window : LogWindow) (w : Fault)
+    → IsUntoldOfWindow form o window w → IsFaultOf IsToldOfLogs w
 untold-told form o window fault.Memory h = tt
 untold-told form o window (fault.Log reason) h = h.1
 untold-told form o window w h = absurd h
 
-pub untold-faultless : (old new : ℕ) (form : ImportForm) (o : Options) (window : LogWindow) (w : Fault) → IsUntoldOfWindow form o window w → new ≡ old → IsReadFault old new w
+pub untold-faultless : (old new : ℕ) (form : ImportForm) (o : Options) (window : LogWindow) (w : Fault)
+    → IsUntoldOfWindow form o window w → new ≡ old → IsReadFault old new w
 untold-faultless old new form o window fault.Memory h same = same
 untold-faultless old new form o window (fault.Log reason) h same = same
 untold-faultless old new form o window w h same = absurd h
 
-pub untold-unwritten : {T : Type 0} (writer : Counting T) (form : ImportForm) (o : Options) (window : LogWindow) (w : Fault) → IsUntoldOfWindow form o window w → IsWriteFault writer writer w
+pub untold-unwritten : {T : Type 0} (writer : Counting T) (form : ImportForm) (o : Options) (window : LogWindow) (w : Fault)
+    → IsUntoldOfWindow form o window w → IsWriteFault writer writer w
 untold-unwritten writer form o window fault.Memory h = refl
 untold-unwritten writer form o window (fault.Log reason) h = refl
 untold-unwritten writer form o window w h = absurd h
@@ -101,4 +113,5 @@ pub now_told : (form : ImportForm) (o : Options) (Told : List ℕ → Type 0) (n
     (out : List ℕ) → IsToldOfWindow form o (λ n. notes ≡ n) w out → Told notes → IsToldOfWindow form o Told w out
 now_told forms.Trace o Told notes w out t h = record { import = t.import; exact = t.exact; written = t.written; told = subst Told t.told h }
 now_told forms.Table o Told notes w out t h = record { import = t.import; exact = t.exact; told = subst Told t.told h }
-now_told forms.Ticks o Told notes w out t h = record { kind = t.kind; rows = t.rows; exact = t.exact; written = t.written; told = subst Told t.told h }
+now_told forms.Ticks o Told notes w out t h =
+    record { kind = t.kind; rows = t.rows; exact = t.exact; written = t.written; told = subst Told t.told h }

@@ -24,18 +24,20 @@ of_all P None p = tt
 of_all P (Some xs) p = p xs
 
 -- an answer isn't written whole
-pub cut : (Gives : List ℕ → List ℕ → Type 0) (Refuses : List ℕ → Fault → Type 0) (text out : List ℕ) (before after : Option (List ℕ)) (w : Fault)
-    → Gives text out → Refuses text fault.Memory → IsUntold w out before after → IsServeFault Gives Refuses text before after w
+pub cut : (Gives : List ℕ → List ℕ → Type 0) (Refuses : List ℕ → Fault → Type 0) (text out : List ℕ) (before after : Option (List ℕ))
+    (w : Fault) → Gives text out → Refuses text fault.Memory → IsUntold w out before after → IsServeFault Gives Refuses text before after w
 cut Gives Refuses text out before after fault.Memory gives memory h = memory
 cut Gives Refuses text out before after (fault.Write n) gives memory h = (out, gives, h.0, h.1)
 cut Gives Refuses text out before after w gives memory h = absurd h
 
 -- what a text's writer answers is what is reported about a text
-pub front-untold : (e : WriteError) (out : List ℕ) (before after : Option (List ℕ)) → WroteFront e out before after → IsUntold (fault_of_write e) out before after
+pub front-untold : (e : WriteError) (out : List ℕ) (before after : Option (List ℕ))
+    → WroteFront e out before after → IsUntold (fault_of_write e) out before after
 front-untold (unwritten.Write n) out before after h = h
 front-untold unwritten.Memory out before after h = absurd h
 
-pub before-untold : (e : WriteError) (out : List ℕ) (before after : Option (List ℕ)) → WroteBefore e out before after → IsUntold (fault_of_write e) out before after
+pub before-untold : (e : WriteError) (out : List ℕ) (before after : Option (List ℕ))
+    → WroteBefore e out before after → IsUntold (fault_of_write e) out before after
 before-untold (unwritten.Write n) out before after h = h
 before-untold unwritten.Memory out before after h = tt
 

@@ -28,7 +28,8 @@ push-other (y ∷ xs) x (suc k) l = push-other xs x k (omega arith)
 
 -- who is in a list is in it with one number more, and so is that number
 pub in-more : (q x : ℕ) (xs : List ℕ) → IsIn q xs → IsIn q (xs ++ x ∷ [])
-in-more q x xs i = record { k = i.k; within = (let n = length_push xs x in let l = i.within in omega arith); at = push-other xs x i.k i.within ∙ i.at }
+in-more q x xs i =
+    record { k = i.k; within = (let n = length_push xs x in let l = i.within in omega arith); at = push-other xs x i.k i.within ∙ i.at }
 
 pub in-last : (x : ℕ) (xs : List ℕ) → IsIn x (xs ++ x ∷ [])
 in-last x xs = record { k = length xs; within = (let n = length_push xs x in omega arith); at = push-same xs x }
@@ -43,7 +44,8 @@ in-less q x xs n i = go (cases_lt i.k (length xs)) where
       let e : i.k ≡ length xs = omega arith in
       absurd (n (sym i.at ∙ ap (slice_index (xs ++ x ∷ [])) e ∙ push-same xs x))
 
-pub inside-less : (m x : ℕ) (xs : List ℕ) → ((k : ℕ) → k < length (xs ++ x ∷ []) → slice_index (xs ++ x ∷ []) k < m) → (k : ℕ) → k < length xs → slice_index xs k < m
+pub inside-less : (m x : ℕ) (xs : List ℕ) → ((k : ℕ) → k < length (xs ++ x ∷ []) → slice_index (xs ++ x ∷ []) k < m)
+    → (k : ℕ) → k < length xs → slice_index xs k < m
 inside-less m x xs h k l = let a = h k (let n = length_push xs x in omega arith) in let b = push-other xs x k l in omega arith
 
 -- a 0 that is set is one 0 less
@@ -99,10 +101,13 @@ walked-start events heads met waits ranks awake f e1 e2 e3 e4 = record {
   none : (i : ℕ) → slice_index ranks i ≡ 0
   none i = ap (λ xs. slice_index xs i) e3 ∙ zero-each (length events) i
 
-module _ (events : List Event) (heads met waits ranks order awake : List ℕ) (p : ℕ) (lp : p < MAX_PROCESSORS) (w : IsWalked events heads met waits ranks order (awake ++ p ∷ [])) where
-  still : (q : ℕ) → ¬ (q ≡ p) → slice_index heads q < length events → q < MAX_PROCESSORS → IsIn q awake ⊎ IsWaiting events ranks (slice_index heads q) (slice_index waits q)
+module _ (events : List Event) (heads met waits ranks order awake : List ℕ)
+    (p : ℕ) (lp : p < MAX_PROCESSORS) (w : IsWalked events heads met waits ranks order (awake ++ p ∷ [])) where
+  still : (q : ℕ) → ¬ (q ≡ p) → slice_index heads q < length events
+      → q < MAX_PROCESSORS → IsIn q awake ⊎ IsWaiting events ranks (slice_index heads q) (slice_index waits q)
   still q n b l = go (w.asleep q l b) where
-    go : IsIn q (awake ++ p ∷ []) ⊎ IsWaiting events ranks (slice_index heads q) (slice_index waits q) → IsIn q awake ⊎ IsWaiting events ranks (slice_index heads q) (slice_index waits q)
+    go : IsIn q (awake ++ p ∷ []) ⊎ IsWaiting events ranks (slice_index heads q) (slice_index waits q)
+        → IsIn q awake ⊎ IsWaiting events ranks (slice_index heads q) (slice_index waits q)
     go (inl i) = inl (in-less q p awake n i)
     go (inr i) = inr i
 
@@ -123,7 +128,8 @@ module _ (events : List Event) (heads met waits ranks order awake : List ℕ) (p
   }
 
   -- a processor that waits for a message
-  pub walked-waits : (m s : ℕ) → AreMet events ranks (slice_index heads p) m → IsWaiting events ranks (slice_index heads p) s → IsWalked events heads (set met p m) (set waits p s) ranks order awake
+  pub walked-waits : (m s : ℕ) → AreMet events ranks (slice_index heads p) m
+      → IsWaiting events ranks (slice_index heads p) s → IsWalked events heads (set met p m) (set waits p s) ranks order awake
   walked-waits m s k i = record {
     wide = (w.wide.0, length-set met p m ∙ w.wide.1, length-set waits p s ∙ w.wide.2);
     long = w.long;
@@ -137,18 +143,21 @@ module _ (events : List Event) (heads met waits ranks order awake : List ℕ) (p
     asleep = λ q l b. asleep q l b (cases_eq q p);
     inside = inside-less MAX_PROCESSORS p awake w.inside;
   } where
-    known : (q : ℕ) → q < MAX_PROCESSORS → slice_index heads q < length events → (q ≡ p) ⊎ ¬ (q ≡ p) → AreMet events ranks (slice_index heads q) (slice_index (set met p m) q)
+    known : (q : ℕ) → q < MAX_PROCESSORS → slice_index heads q < length events
+        → (q ≡ p) ⊎ ¬ (q ≡ p) → AreMet events ranks (slice_index heads q) (slice_index (set met p m) q)
     known q l b (inl e) = subst (λ r. AreMet events ranks (slice_index heads r) (slice_index (set met p m) r)) (sym e)
         (subst (λ x. AreMet events ranks (slice_index heads p) x)
         (sym (get_or-set_same met p m 0 (let a = w.wide.1 in omega arith))) k)
     known q l b (inr n) = subst (λ x. AreMet events ranks (slice_index heads q) x) (sym (get_or-set_other met p q m 0 n)) (w.known q l b)
 
-    asleep : (q : ℕ) → q < MAX_PROCESSORS → slice_index heads q < length events → (q ≡ p) ⊎ ¬ (q ≡ p) → IsIn q awake ⊎ IsWaiting events ranks (slice_index heads q) (slice_index (set waits p s) q)
+    asleep : (q : ℕ) → q < MAX_PROCESSORS → slice_index heads q < length events
+        → (q ≡ p) ⊎ ¬ (q ≡ p) → IsIn q awake ⊎ IsWaiting events ranks (slice_index heads q) (slice_index (set waits p s) q)
     asleep q l b (inl e) = inr
         (subst (λ r. IsWaiting events ranks (slice_index heads r) (slice_index (set waits p s) r)) (sym e)
         (subst (λ x. IsWaiting events ranks (slice_index heads p) x)
         (sym (get_or-set_same waits p s 0 (let a = w.wide.2 in omega arith))) i))
-    asleep q l b (inr n) = subst (λ x. IsIn q awake ⊎ IsWaiting events ranks (slice_index heads q) x) (sym (get_or-set_other waits p q s 0 n)) (still q n b l)
+    asleep q l b (inr n) = subst (λ x. IsIn q awake ⊎ IsWaiting events ranks (slice_index heads q) x)
+        (sym (get_or-set_other waits p q s 0 n)) (still q n b l)
 
   module _ (nexts now : List ℕ) (x : AreNexts events nexts) (b : slice_index heads p < length events)
       (sent : (s : ℕ) → IsSentTo events (slice_index heads p) s → 0 < slice_index ranks s)
@@ -253,7 +262,8 @@ module _ (events : List Event) (heads met waits ranks order awake : List ℕ) (p
     same-head : (q : ℕ) → ¬ (q ≡ p) → slice_index (set heads p (slice_index nexts h)) q ≡ slice_index heads q
     same-head q n = get_or-set_other heads p q (slice_index nexts h) 0 n
 
-    next-own : (i : ℕ) → i < length events → ¬ (i ≡ h) → IsFrom events h i → (slice_index nexts h < length events) × IsFrom events (slice_index nexts h) i
+    next-own : (i : ℕ) → i < length events → ¬ (i ≡ h)
+        → IsFrom events h i → (slice_index nexts h < length events) × IsFrom events (slice_index nexts h) i
     next-own i l n (inl e) = absurd (n e)
     next-own i l n (inr o) = x.first h i l o
 
@@ -263,7 +273,8 @@ module _ (events : List Event) (heads met waits ranks order awake : List ℕ) (p
         × IsFrom events (slice_index (set heads p (slice_index nexts h)) (index_at events i)) i
     next i l n z (inl e) =
         let f = subst (λ q. IsFrom events (slice_index heads q) i) e (w.next i l z).1 in
-        let s : slice_index (set heads p (slice_index nexts h)) (index_at events i) ≡ slice_index nexts h = ap (slice_index (set heads p (slice_index nexts h))) e ∙ new-head in
+        let s : slice_index (set heads p (slice_index nexts h)) (index_at events i)
+        ≡ slice_index nexts h = ap (slice_index (set heads p (slice_index nexts h))) e ∙ new-head in
         subst (λ k. (k < length events) × IsFrom events k i) (sym s) (next-own i l n f)
     next i l n z (inr d) = subst (λ k. (k < length events) × IsFrom events k i) (sym (same-head (index_at events i) d)) (w.next i l z)
 
@@ -287,24 +298,29 @@ module _ (events : List Event) (heads met waits ranks order awake : List ℕ) (p
         → (index_at events (slice_index (set heads p (slice_index nexts h)) q) ≡ q)
         × (slice_index (set ranks h (length order + 1)) (slice_index (set heads p (slice_index nexts h)) q) ≡ 0)
     head q l (inl e) a =
-        let s : slice_index (set heads p (slice_index nexts h)) q ≡ slice_index nexts h = ap (slice_index (set heads p (slice_index nexts h))) e ∙ new-head in
+        let s : slice_index (set heads p (slice_index nexts h)) q
+        ≡ slice_index nexts h = ap (slice_index (set heads p (slice_index nexts h))) e ∙ new-head in
         let o = x.own h b (omega arith) in
-        subst (λ k. (index_at events k ≡ q) × (slice_index (set ranks h (length order + 1)) k ≡ 0)) (sym s) ((let f = o.own in let i = index-h in omega arith), later-unplaced (slice_index nexts h) o)
+        subst (λ k. (index_at events k ≡ q) × (slice_index (set ranks h (length order + 1)) k ≡ 0))
+        (sym s) ((let f = o.own in let i = index-h in omega arith), later-unplaced (slice_index nexts h) o)
     head q l (inr n) a =
         let s = same-head q n in
         let r = w.head q l (omega arith) in
         let d : ¬ (slice_index heads q ≡ h) = (λ e. n (sym r.0 ∙ ap (index_at events) e ∙ index-h)) in
-        subst (λ k. (index_at events k ≡ q) × (slice_index (set ranks h (length order + 1)) k ≡ 0)) (sym s) (r.0, same-rank (slice_index heads q) d ∙ r.1)
+        subst (λ k. (index_at events k ≡ q) × (slice_index (set ranks h (length order + 1)) k ≡ 0))
+        (sym s) (r.0, same-rank (slice_index heads q) d ∙ r.1)
 
     known : (q : ℕ) → q < MAX_PROCESSORS → (q ≡ p) ⊎ ¬ (q ≡ p)
         → slice_index (set heads p (slice_index nexts h)) q < length events
         → AreMet events (set ranks h (length order + 1)) (slice_index (set heads p (slice_index nexts h)) q)
         (slice_index (set met p 0) q)
-    known q l (inl e) a k s below at i = absurd (let z = ap (slice_index (set met p 0)) e ∙ get_or-set_same met p 0 0 (let n = w.wide.1 in omega arith) in omega arith)
+    known q l (inl e) a k s below at i = absurd (let z = ap (slice_index (set met p 0)) e
+        ∙ get_or-set_same met p 0 0 (let n = w.wide.1 in omega arith) in omega arith)
     known q l (inr n) a k s below at i =
         let m = get_or-set_other met p q 0 0 n in
         let g = same-head q n in
-        rank-kept s (w.known q l (omega arith) k s (omega arith) (subst (λ j. slice_index_or (messages_at events j) k None ≡ Some s) g at) i)
+        rank-kept s
+        (w.known q l (omega arith) k s (omega arith) (subst (λ j. slice_index_or (messages_at events j) k None ≡ Some s) g at) i)
 
     asleep : (q : ℕ) → q < MAX_PROCESSORS → (q ≡ p) ⊎ ¬ (q ≡ p)
         → slice_index (set heads p (slice_index nexts h)) q < length events
@@ -330,11 +346,13 @@ module _ (events : List Event) (heads met waits ranks order awake : List ℕ) (p
       go (inr i) = wait i (cases_eq (slice_index waits q) h)
 
     -- one event more is placed
-    pub walked-placed : IsWalked events (set heads p (slice_index nexts h)) (set met p 0) waits (set ranks h (length order + 1)) (order ++ h ∷ []) now
+    pub walked-placed : IsWalked events (set heads p (slice_index nexts h))
+        (set met p 0) waits (set ranks h (length order + 1)) (order ++ h ∷ []) now
     walked-placed = record {
       wide = (length-set heads p (slice_index nexts h) ∙ w.wide.0, length-set met p 0 ∙ w.wide.1, w.wide.2);
       long = length-set ranks h (length order + 1) ∙ w.long;
-      left = (let n = length_push order h in let z = zeros-set ranks h (length order + 1) (let l = w.long in omega arith) unplaced (omega arith) in let l = w.left in omega arith);
+      left = (let n = length_push order h in let z =
+          zeros-set ranks h (length order + 1) (let l = w.long in omega arith) unplaced (omega arith) in let l = w.left in omega arith);
       placed = λ k l. placed k (cases_lt k (length order)) l;
       ranked = λ i l. ranked i (cases_eq i h) l;
       after = λ i j l c. after i j (cases_eq i h) l c;
@@ -359,15 +377,21 @@ walked-stuck events heads met waits ranks order awake o none w i l z = go (w.nex
       ⊎ IsWaiting events ranks (slice_index heads (index_at events i)) (slice_index waits (index_at events i))
       → (j : ℕ) × IsCause events i j × (slice_index ranks j ≡ 0)
   wait e (inl n) = absurd (let b = n.within in omega arith)
-  wait e (inr h) = (slice_index waits (index_at events i), inr (subst (λ k. IsSentTo events k (slice_index waits (index_at events i))) (sym e) h.sent), h.unplaced)
+  wait e (inr h) = (
+    slice_index waits (index_at events i),
+    inr (subst (λ k. IsSentTo events k (slice_index waits (index_at events i))) (sym e) h.sent),
+    h.unplaced,
+  )
 
   go : IsFrom events (slice_index heads (index_at events i)) i → (j : ℕ) × IsCause events i j × (slice_index ranks j ≡ 0)
   go (inl e) = wait e (w.asleep (index_at events i) p within)
   go (inr c) = (slice_index heads (index_at events i), inl c, (w.head (index_at events i) p within).1)
 
 -- what the code reads of an event's messages
-pub messages-read : (events : List Event) (i : ℕ) (e : Event) (ms : List (Option ℕ)) → i < length events → e ≡ get_or events i e → ms ≡ received_in (get_or events i e).act → ms ≡ messages_at events i
-messages-read events i e ms l h g = g ∙ ap (λ x. received_in x.act) (sym h) ∙ sym (ap (λ o. option_map_or (λ x. received_in x.act) o []) (slice_get_read events (length events) i e refl l h))
+pub messages-read : (events : List Event) (i : ℕ) (e : Event) (ms : List (Option ℕ))
+    → i < length events → e ≡ get_or events i e → ms ≡ received_in (get_or events i e).act → ms ≡ messages_at events i
+messages-read events i e ms l h g = g ∙ ap (λ x. received_in x.act) (sym h)
+    ∙ sym (ap (λ o. option_map_or (λ x. received_in x.act) o []) (slice_get_read events (length events) i e refl l h))
 
 -- a message whose Send isn't placed is waited for
 pub waits-here : (events : List Event) (ranks : List ℕ) (i k s : ℕ) (ms : List (Option ℕ)) → ms ≡ messages_at events i
@@ -385,7 +409,8 @@ pub met-more : (events : List Event) (ranks : List ℕ) (i k : ℕ) (ms : List (
 met-more events ranks i k ms m here h a s b at l = go (cases_lt a k) where
   go : (a < k) ⊎ (k ≤ a) → 0 < slice_index ranks s
   go (inl below) = h a s below at l
-  go (inr above) = let e : a ≡ k = omega arith in here s (subst (λ x. slice_index_or ms x None ≡ Some s) e (subst (λ xs. slice_index_or xs a None ≡ Some s) (sym m) at)) l
+  go (inr above) = let e : a ≡ k = omega arith in
+      here s (subst (λ x. slice_index_or ms x None ≡ Some s) e (subst (λ xs. slice_index_or xs a None ≡ Some s) (sym m) at)) l
 
 -- all are
 pub met-all : (events : List Event) (ranks : List ℕ) (i k : ℕ) (ms : List (Option ℕ)) → ms ≡ messages_at events i
@@ -396,15 +421,19 @@ met-all events ranks i k ms m l h s t =
     let b = f.1 in
     h f.0 s (omega arith) f.2 t.inside
 
-pub met-read : (events : List Event) (ranks read : List ℕ) (i j k m : ℕ) → read ≡ ranks → j ≡ i → m ≡ k → AreMet events ranks i k → AreMet events read j m
-met-read events ranks read i j k m e f g h = subst (λ xs. AreMet events xs j m) (sym e) (subst (λ x. AreMet events ranks x m) (sym f) (subst (λ x. AreMet events ranks i x) (sym g) h))
+pub met-read : (events : List Event) (ranks read : List ℕ) (i j k m : ℕ)
+    → read ≡ ranks → j ≡ i → m ≡ k → AreMet events ranks i k → AreMet events read j m
+met-read events ranks read i j k m e f g h = subst
+    (λ xs. AreMet events xs j m) (sym e) (subst (λ x. AreMet events ranks x m) (sym f) (subst (λ x. AreMet events ranks i x) (sym g) h))
 
-pub waiting-read : (events : List Event) (ranks read : List ℕ) (i j s : ℕ) → read ≡ ranks → j ≡ i → IsWaiting events read j s → IsWaiting events ranks i s
+pub waiting-read : (events : List Event) (ranks read : List ℕ) (i j s : ℕ)
+    → read ≡ ranks → j ≡ i → IsWaiting events read j s → IsWaiting events ranks i s
 waiting-read events ranks read i j s e f h = subst (λ xs. IsWaiting events xs i s) e (subst (λ x. IsWaiting events read x s) f h)
 
 pub sent-read : (events : List Event) (ranks read : List ℕ) (i j : ℕ) → read ≡ ranks → j ≡ i
     → ((s : ℕ) → IsSentTo events j s → 0 < slice_index read s) → (s : ℕ) → IsSentTo events i s → 0 < slice_index ranks s
-sent-read events ranks read i j e f h = subst (λ xs. (s : ℕ) → IsSentTo events i s → 0 < slice_index xs s) e (subst (λ x. (s : ℕ) → IsSentTo events x s → 0 < slice_index read s) f h)
+sent-read events ranks read i j e f h = subst (λ xs. (s : ℕ) → IsSentTo events i s → 0 < slice_index xs s) e
+    (subst (λ x. (s : ℕ) → IsSentTo events x s → 0 < slice_index read s) f h)
 
 -- a processor that waits for a message is the one to whom it was sent
 pub waiting-for : (events : List Event) (heads waits ranks : List ℕ) (q h : ℕ) → AreOfProcessors events
@@ -414,7 +443,8 @@ pub waiting-for : (events : List Event) (heads waits ranks : List ℕ) (q h : �
 waiting-for events heads waits ranks q h o r own b w e =
     let a = (o (slice_index heads q) b).0 in
     let p : processor_at events (slice_index heads q) ≡ q + 1 = omega arith in
-    subst (λ x. is_for events x (q + 1) ≡ true) e (subst (λ x. is_for events (slice_index waits q) x ≡ true) p (r (slice_index heads q) (slice_index waits q) b w.sent))
+    subst (λ x. is_for events x (q + 1) ≡ true) e
+    (subst (λ x. is_for events (slice_index waits q) x ≡ true) p (r (slice_index heads q) (slice_index waits q) b w.sent))
 
 -- one event more, as the code places it
 pub placed-read : (events : List Event) (heads met waits ranks order awake nexts now grown : List ℕ) (p head rank : ℕ)
@@ -443,4 +473,5 @@ placed-less ranks awake now h rank l z r n = let e = zeros-set ranks h rank l z 
 
 pub range-more : (a n x : ℕ) → a + n ≡ x → range_with_len a (n + 1) ≡ range_with_len a n ++ x ∷ []
 range-more a zero x e = ap (λ y. y ∷ []) (omega arith)
-range-more a (suc n) x e = let s : suc (n + 1) ≡ suc n + 1 = omega arith in subst (λ k. range_with_len a k ≡ range_with_len a (suc n) ++ x ∷ []) s (ap (λ xs. a ∷ xs) (range-more (a + 1) n x (omega arith)))
+range-more a (suc n) x e = let s : suc (n + 1) ≡ suc n + 1 = omega arith in
+    subst (λ k. range_with_len a k ≡ range_with_len a (suc n) ++ x ∷ []) s (ap (λ xs. a ∷ xs) (range-more (a + 1) n x (omega arith)))

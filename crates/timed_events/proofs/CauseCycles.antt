@@ -39,7 +39,8 @@ pub record IsPath (events : List Event) (heads : List ℕ) (path : List Hop) (se
   pub taken : (k : ℕ) (d : Hop) → k < length path → IsSentTo events (get_or path k d).event (get_or path k d).message
   pub next : (k : ℕ) (d : Hop) → k + 1 < length path → IsFrom events (get_or path (k + 1) d).event (get_or path k d).message
   pub last : (d : Hop) → 0 < length path → IsFrom events (slice_index heads at) (get_or path (length path - 1) d).message
-  pub back : (q : ℕ) (d : Hop) → 0 < slice_index seen q → (slice_index seen q ≤ length path) × ((get_or path (slice_index seen q - 1) d).event ≡ slice_index heads q)
+  pub back : (q : ℕ) (d : Hop) → 0 < slice_index seen q
+      → (slice_index seen q ≤ length path) × ((get_or path (slice_index seen q - 1) d).event ≡ slice_index heads q)
 
 pub path-start : (events : List Event) (heads seen : List ℕ) (path : List Hop) (at : ℕ) → path ≡ []
     → seen ≡ replicate MAX_PROCESSORS 0 → at < MAX_PROCESSORS → slice_index heads at < length events
@@ -72,9 +73,11 @@ module _ (events : List Event) (heads met waits ranks order awake seen : List �
   index-inside : index_at events s < MAX_PROCESSORS
   index-inside = let x = (o s waiting.sent.inside).0 in let y = (o s waiting.sent.inside).1 in omega arith
 
-  taken : (k : ℕ) (d : Hop) → (k < length path) ⊎ (length path ≤ k) → k < length (path ++ hop ∷ []) → IsSentTo events (get_or (path ++ hop ∷ []) k d).event (get_or (path ++ hop ∷ []) k d).message
+  taken : (k : ℕ) (d : Hop) → (k < length path) ⊎ (length path ≤ k)
+      → k < length (path ++ hop ∷ []) → IsSentTo events (get_or (path ++ hop ∷ []) k d).event (get_or (path ++ hop ∷ []) k d).message
   taken k d (inl b) l = subst (λ h. IsSentTo events h.event h.message) (sym (pushed-other path hop d k b)) (p.taken k d b)
-  taken k d (inr b) l = let n = length_push path hop in subst (λ h. IsSentTo events h.event h.message) (sym (pushed-same path hop d k (omega arith))) waiting.sent
+  taken k d (inr b) l = let n = length_push path hop in
+      subst (λ h. IsSentTo events h.event h.message) (sym (pushed-same path hop d k (omega arith))) waiting.sent
 
   next : (k : ℕ) (d : Hop) → (k + 1 < length path) ⊎ (length path ≤ k + 1) → k + 1 < length (path ++ hop ∷ [])
       → IsFrom events (get_or (path ++ hop ∷ []) (k + 1) d).event (get_or (path ++ hop ∷ []) k d).message
@@ -95,15 +98,22 @@ module _ (events : List Event) (heads met waits ranks order awake seen : List �
       × ((get_or (path ++ hop ∷ []) (slice_index (set seen at (length path + 1)) q - 1) d).event ≡ slice_index heads q)
   back q d (inl e) b =
       let n = length_push path hop in
-      let r = ap (slice_index (set seen at (length path + 1))) e ∙ get_or-set_same seen at (length path + 1) 0 (let x = p.wide in let y = p.inside in omega arith) in
-      (omega arith, ap (λ h. h.event) (pushed-same path hop d (slice_index (set seen at (length path + 1)) q - 1) (omega arith)) ∙ ap (slice_index heads) (sym e))
+      let r = ap (slice_index (set seen at (length path + 1))) e
+      ∙ get_or-set_same seen at (length path + 1) 0 (let x = p.wide in let y = p.inside in omega arith) in (
+        omega arith,
+        ap (λ h. h.event) (pushed-same path hop d (slice_index (set seen at (length path + 1)) q - 1) (omega arith))
+            ∙ ap (slice_index heads) (sym e),
+      )
   back q d (inr m) b =
       let n = length_push path hop in
       let r = get_or-set_other seen at q (length path + 1) 0 m in
       let u = p.back q d (omega arith) in
       let u0 = u.0 in
-      let i : slice_index (set seen at (length path + 1)) q - 1 ≡ slice_index seen q - 1 = omega arith in
-      (omega arith, ap (λ k. (get_or (path ++ hop ∷ []) k d).event) i ∙ ap (λ h. h.event) (pushed-other path hop d (slice_index seen q - 1) (omega arith)) ∙ u.1)
+      let i : slice_index (set seen at (length path + 1)) q - 1 ≡ slice_index seen q - 1 = omega arith in (
+        omega arith,
+        ap (λ k. (get_or (path ++ hop ∷ []) k d).event) i
+            ∙ ap (λ h. h.event) (pushed-other path hop d (slice_index seen q - 1) (omega arith)) ∙ u.1,
+      )
 
   path-more : IsPath events heads (path ++ hop ∷ []) (set seen at (length path + 1)) (index_at events s)
   path-more = record {
@@ -112,7 +122,8 @@ module _ (events : List Event) (heads met waits ranks order awake seen : List �
     stuck = from.0;
     taken = λ k d l. taken k d (cases_lt k (length path)) l;
     next = λ k d l. next k d (cases_lt (k + 1) (length path)) l;
-    last = λ d l. (let n = length_push path hop in subst (λ h. IsFrom events (slice_index heads (index_at events s)) h.message) (sym (pushed-same path hop d (length (path ++ hop ∷ []) - 1) (omega arith))) from.1);
+    last = λ d l. (let n = length_push path hop in subst (λ h. IsFrom events (slice_index heads (index_at events s)) h.message)
+        (sym (pushed-same path hop d (length (path ++ hop ∷ []) - 1) (omega arith))) from.1);
     back = λ q d l. back q d (cases_eq q at) l;
   }
 
@@ -136,7 +147,8 @@ pub path-cycle : (events : List Event) (heads seen : List ℕ) (path hops : List
     → hops ≡ drop from path → IsCauseCycle events hops
 path-cycle events heads seen path hops at from p b e f = subst (λ xs. IsCauseCycle events xs) (sym f) (record {
   some = (let x = long in let y = within in omega arith);
-  taken = λ k d l. (let x = long in subst (λ h. IsSentTo events h.event h.message) (sym (dropped from k (from + k) path d refl)) (p.taken (from + k) d (omega arith)));
+  taken = λ k d l. (let x = long in
+      subst (λ h. IsSentTo events h.event h.message) (sym (dropped from k (from + k) path d refl)) (p.taken (from + k) d (omega arith)));
   next = λ k d l. (let x = long in let m : from + (k + 1) ≡ (from + k) + 1 = omega arith in
       subst (λ h. IsFrom events h.event (get_or (drop from path) k d).message)
       (sym (dropped from (k + 1) ((from + k) + 1) path d m))
@@ -148,9 +160,12 @@ path-cycle events heads seen path hops at from p b e f = subst (λ xs. IsCauseCy
       let u = (p.back at d b).1 in
       let i : slice_index seen at - 1 ≡ from = sym e in
       let v = ap (λ k. (get_or path k d).event) (sym i) ∙ u in
-      let first : (get_or (drop from path) 0 d).event ≡ slice_index heads at = ap (λ h. h.event) (dropped from 0 from path d (omega arith)) ∙ v in
-      let end : get_or (drop from path) (length (drop from path) - 1) d ≡ get_or path (length path - 1) d = dropped from (length (drop from path) - 1) (length path - 1) path d (omega arith) in
-      subst (λ i. IsFrom events i (get_or (drop from path) (length (drop from path) - 1) d).message) (sym first) (subst (λ h. IsFrom events (slice_index heads at) h.message) (sym end) (p.last d (omega arith))));
+      let first : (get_or (drop from path) 0 d).event
+      ≡ slice_index heads at = ap (λ h. h.event) (dropped from 0 from path d (omega arith)) ∙ v in
+      let end : get_or (drop from path) (length (drop from path) - 1) d
+      ≡ get_or path (length path - 1) d = dropped from (length (drop from path) - 1) (length path - 1) path d (omega arith) in
+      subst (λ i. IsFrom events i (get_or (drop from path) (length (drop from path) - 1) d).message)
+      (sym first) (subst (λ h. IsFrom events (slice_index heads at) h.message) (sym end) (p.last d (omega arith))));
 }) where
   long : length (drop from path) ≡ length path - from
   long = length-drop from path
@@ -170,19 +185,24 @@ module _ (events : List Event) (order : List ℕ) (hops : List Hop) (o : IsCausa
   message k = (get_or hops k none).message
 
   -- who is at u, and who at v
-  sent-below : (i j u v : ℕ) → IsSentTo events i j → u < length order → v < length order → slice_index order u ≡ i → slice_index order v ≡ j → v < u
-  sent-below i j u v t lu lv a b = causes-before events order v u o lv lu (subst (λ x. IsCause events x (slice_index order v)) (sym a) (subst (λ y. IsCause events i y) (sym b) (inr t)))
+  sent-below : (i j u v : ℕ) → IsSentTo events i j
+      → u < length order → v < length order → slice_index order u ≡ i → slice_index order v ≡ j → v < u
+  sent-below i j u v t lu lv a b = causes-before events order v u o lv lu
+      (subst (λ x. IsCause events x (slice_index order v)) (sym a) (subst (λ y. IsCause events i y) (sym b) (inr t)))
 
-  from-below : (i j u v : ℕ) → IsFrom events i j → u < length order → v < length order → slice_index order u ≡ i → slice_index order v ≡ j → u ≤ v
+  from-below : (i j u v : ℕ) → IsFrom events i j → u < length order
+      → v < length order → slice_index order u ≡ i → slice_index order v ≡ j → u ≤ v
   from-below i j u v (inl e) lu lv a b = (let s = o.part.apart u v lu lv (a ∙ sym e ∙ sym b) in omega arith)
-  from-below i j u v (inr f) lu lv a b = (let s = causes-before events order u v o lu lv (subst (λ x. IsCause events x (slice_index order u)) (sym b) (subst (λ y. IsCause events j y) (sym a) (inl f))) in omega arith)
+  from-below i j u v (inr f) lu lv a b = (let s = causes-before events order u v o lu lv
+      (subst (λ x. IsCause events x (slice_index order u)) (sym b) (subst (λ y. IsCause events j y) (sym a) (inl f))) in omega arith)
 
   from-inside : (i j : ℕ) → IsFrom events i j → j < length events → i < length events
   from-inside i j (inl e) l = omega arith
   from-inside i j (inr f) l = f.inside
 
   -- where the events of the cycle are: none behind the first
-  falls : (k u : ℕ) → k < length hops → u < length order → slice_index order u ≡ event 0 → (v : ℕ) × (v < length order) × (slice_index order v ≡ event k) × (v ≤ u)
+  falls : (k u : ℕ) → k < length hops → u < length order
+      → slice_index order u ≡ event 0 → (v : ℕ) × (v < length order) × (slice_index order v ≡ event k) × (v ≤ u)
   falls zero u l lu a = (u, lu, a, omega arith)
   falls (suc k) u l lu a =
       let r = falls k u (omega arith) lu a in
@@ -210,5 +230,6 @@ module _ (events : List Event) (order : List ℕ) (hops : List Hop) (o : IsCausa
       omega arith
 
 -- a processor that was seen has a place on the path
-pub path-back : (events : List Event) (heads seen : List ℕ) (path : List Hop) (at q : ℕ) → IsPath events heads path seen at → 0 < slice_index seen q → slice_index seen q ≤ length path
+pub path-back : (events : List Event) (heads seen : List ℕ) (path : List Hop) (at q : ℕ)
+    → IsPath events heads path seen at → 0 < slice_index seen q → slice_index seen q ≤ length path
 path-back events heads seen path at q p b = (p.back q (record { event = 0; message = 0 }) b).0

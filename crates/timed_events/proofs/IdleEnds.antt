@@ -31,7 +31,8 @@ module _ (n : ℕ) (events : List Event) (ticks order : List ℕ) (limit last : 
     };
   }
 
-  before-event : (p y : ℕ) → IsShortSilence events ticks limit p y → HasEventIn events ticks p (y + 1) → Contains idles (record { processor = p; tick = y })
+  before-event : (p y : ℕ) → IsShortSilence events ticks limit p y
+      → HasEventIn events ticks p (y + 1) → Contains idles (record { processor = p; tick = y })
   before-event p y s has =
       let f = place-found (length events) order has.place o.ordered.places has.inside in
       let own = ap (processor_at events) f.2 ∙ has.own in
@@ -56,7 +57,8 @@ module _ (n : ℕ) (events : List Event) (ticks order : List ℕ) (limit last : 
     each = All-weaker (IsNoted events ticks order limit (length order)) (IsIdleTick n events ticks last limit) idle-noted idles h.each;
     before = before-event;
     at_end = λ p l s. absurd (omega arith);
-    below = All-weaker (IsNoted events ticks order limit (length order)) (λ x. moment_of x.tick x.processor < moment_of last (0 + 1)) under idles h.each;
+    below = All-weaker (IsNoted events ticks order limit (length order))
+        (λ x. moment_of x.tick x.processor < moment_of last (0 + 1)) under idles h.each;
     rising = h.rising;
   }
 
@@ -79,10 +81,13 @@ module _ (n : ℕ) (events : List Event) (ticks lasts : List ℕ) (last limit en
   at-end p (inr above) b q =
       let e : ended + 1 ≡ p + 1 = omega arith in
       let f : p + 1 ≡ ended + 1 = omega arith in
-      let c = short-latest events ticks limit (ended + 1) (last + 1) since last latest refl (subst (λ v. IsShortSilence events ticks limit v last) f q) in
-      subst (λ (v : ℕ). let x : IdleTick = record { processor = v; tick = last } in Contains (noted idles ended since last limit) x) e (noted-new idles ended since last limit c.0 c.1)
+      let c = short-latest events ticks limit (ended + 1)
+      (last + 1) since last latest refl (subst (λ v. IsShortSilence events ticks limit v last) f q) in
+      subst (λ (v : ℕ). let x : IdleTick = record { processor = v; tick = last } in Contains (noted idles ended since last limit) x) e
+      (noted-new idles ended since last limit c.0 c.1)
 
-  lower : (x : IdleTick) → moment_of x.tick x.processor < moment_of last (ended + 1) → moment_of x.tick x.processor < moment_of last (ended + 1 + 1)
+  lower : (x : IdleTick) → moment_of x.tick x.processor < moment_of last (ended + 1)
+      → moment_of x.tick x.processor < moment_of last (ended + 1 + 1)
   lower x b = omega arith
 
   -- one processor more
@@ -102,10 +107,14 @@ module _ (n : ℕ) (events : List Event) (ticks lasts : List ℕ) (last limit en
 -- after the last processor
 pub ended-all : (n : ℕ) (events : List Event) (ticks lasts : List ℕ) (last limit : ℕ) (idles : List IdleTick)
     → HaveEnded n events ticks lasts last limit n idles → AreIdle n events ticks last limit idles
-ended-all n events ticks lasts last limit idles h = record { each = h.each; all = λ p y a b e. go p y a b e.silence e.ends; rising = h.rising } where
-  go : (p y : ℕ) → 1 ≤ p → p ≤ n → IsShortSilence events ticks limit p y → (y ≡ last) ⊎ HasEventIn events ticks p (y + 1) → Contains idles (record { processor = p; tick = y })
-  go p y a b s (inr has) = h.before p y s has
-  go p y a b s (inl e) =
-      let q : p ≡ (p - 1) + 1 = omega arith in
-      let c = h.at_end (p - 1) (omega arith) (subst (λ v. IsShortSilence events ticks limit v last) q (subst (λ v. IsShortSilence events ticks limit p v) e s)) in
-      subst (λ (x : IdleTick). Contains idles x) (ap₂ (λ (v w : ℕ). let x : IdleTick = record { processor = v; tick = w } in x) (sym q) (sym e)) c
+ended-all n events ticks lasts last limit idles h =
+    record { each = h.each; all = λ p y a b e. go p y a b e.silence e.ends; rising = h.rising } where
+      go : (p y : ℕ) → 1 ≤ p → p ≤ n → IsShortSilence events ticks limit p y
+          → (y ≡ last) ⊎ HasEventIn events ticks p (y + 1) → Contains idles (record { processor = p; tick = y })
+      go p y a b s (inr has) = h.before p y s has
+      go p y a b s (inl e) =
+          let q : p ≡ (p - 1) + 1 = omega arith in
+          let c = h.at_end (p - 1) (omega arith)
+          (subst (λ v. IsShortSilence events ticks limit v last) q (subst (λ v. IsShortSilence events ticks limit p v) e s)) in
+          subst (λ (x : IdleTick). Contains idles x)
+          (ap₂ (λ (v w : ℕ). let x : IdleTick = record { processor = v; tick = w } in x) (sym q) (sym e)) c

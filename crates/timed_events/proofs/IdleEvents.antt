@@ -59,23 +59,26 @@ nothing-goes n (Receive messages) h = tt
 message-passes : (events : List Event) (ticks : List ℕ) (r : ℕ → Bool) (i k s : ℕ)
     → is_for events s (processor_at events i) ≡ true → r s ≡ false → slice_index ticks s < slice_index ticks i
     → message_refusal events ticks r i k (Some s) ≡ None
-message-passes events ticks r i k s f n l = go (is_for events s (processor_at events i)) f (r s) n (nat_lt (slice_index ticks s) (slice_index ticks i)) (lt-ltb (slice_index ticks s) (slice_index ticks i) l) where
-  go : (u : Bool) → u ≡ true → (v : Bool) → v ≡ false → (w : Bool) → w ≡ true
-      → cond u (cond v (Some (EventError.ReceivedBefore i k))
-      (cond w None (Some (EventError.NotLater i k (late_hint events s i)))))
-      (Some (EventError.WrongReceiver i k)) ≡ None
-  go false p v q w t = absurd (cc)
-  go true p true q w t = absurd (cc)
-  go true p false q false t = absurd (cc)
-  go true p false q true t = refl
+message-passes events ticks r i k s f n l = go (is_for events s (processor_at events i)) f
+    (r s) n (nat_lt (slice_index ticks s) (slice_index ticks i)) (lt-ltb (slice_index ticks s) (slice_index ticks i) l) where
+      go : (u : Bool) → u ≡ true → (v : Bool) → v ≡ false → (w : Bool) → w ≡ true
+          → cond u (cond v (Some (EventError.ReceivedBefore i k))
+          (cond w None (Some (EventError.NotLater i k (late_hint events s i)))))
+          (Some (EventError.WrongReceiver i k)) ≡ None
+      go false p v q w t = absurd (cc)
+      go true p true q w t = absurd (cc)
+      go true p false q false t = absurd (cc)
+      go true p false q true t = refl
 
 any-same : (p q : ℕ → Bool) (n : ℕ) → ((j : ℕ) → j < n → p j ≡ q j) → any_below p n ≡ any_below q n
 any-same p q zero h = refl
 any-same p q (suc n) h = ap₂ (λ a b. a || b) (any-same p q n (λ j l. h j (omega arith))) (h n (omega arith))
 
-received-same : (xs ys : List Event) (i s : ℕ) → ((j : ℕ) → j < i → messages_at xs j ≡ messages_at ys j) → received_before xs i s ≡ received_before ys i s
+received-same : (xs ys : List Event) (i s : ℕ) → ((j : ℕ) → j < i → messages_at xs j ≡ messages_at ys j)
+    → received_before xs i s ≡ received_before ys i s
 unfolding received_before
-received-same xs ys i s h = any-same (λ j. list_any (is_message s) (messages_at xs j)) (λ j. list_any (is_message s) (messages_at ys j)) i (λ j l. ap (λ ms. list_any (is_message s) ms) (h j l))
+received-same xs ys i s h = any-same (λ j. list_any (is_message s) (messages_at xs j))
+    (λ j. list_any (is_message s) (messages_at ys j)) i (λ j l. ap (λ ms. list_any (is_message s) ms) (h j l))
 
 module _ (n : ℕ) (events added : List Event) (ticks : List ℕ) (last : ℕ) (idles : List IdleTick)
     (most : n ≤ MAX_PROCESSORS) (meant : AreMeant events n) (fit : AreFit events ticks last)
@@ -90,10 +93,12 @@ module _ (n : ℕ) (events added : List Event) (ticks : List ℕ) (last : ℕ) (
   nobody = record { processor = 0; tick = 0 }
 
   pub long-all : length all ≡ length events + length idles
-  long-all = let a = AllZip-long IsIdleReceive idles added r in let b : length all ≡ length events + length added = grind (arith, common_steps) in omega arith
+  long-all = let a = AllZip-long IsIdleReceive idles added r in
+      let b : length all ≡ length events + length added = grind (arith, common_steps) in omega arith
 
   long-ticks : length all_ticks ≡ length events + length idles
-  long-ticks = let a = length-map idles (λ (x : IdleTick). x.tick) in let b : length all_ticks ≡ length ticks + length (ticks_of idles) = grind (arith, common_steps) in let c = fit.long in omega arith
+  long-ticks = let a = length-map idles (λ (x : IdleTick). x.tick) in
+      let b : length all_ticks ≡ length ticks + length (ticks_of idles) = grind (arith, common_steps) in let c = fit.long in omega arith
 
   -- the events that were there before
   old-processor : (i : ℕ) → i < length events → processor_at all i ≡ processor_at events i
@@ -112,14 +117,16 @@ module _ (n : ℕ) (events added : List Event) (ticks : List ℕ) (last : ℕ) (
   old-moment i l = ap₂ moment_of (old-tick i l) (old-processor i l)
 
   -- those that were added
-  new-event : (i j : ℕ) → i ≡ length events + j → j < length idles → (e : Event) × (slice_get all i ≡ Some e) × IsIdleReceive (get_or idles j nobody) e
+  new-event : (i j : ℕ) → i ≡ length events + j → j < length idles
+      → (e : Event) × (slice_get all i ≡ Some e) × IsIdleReceive (get_or idles j nobody) e
   new-event i j e l = let a = received-at idles added j nobody r l in (a.0, get-right events added i j e ∙ a.1, a.2)
 
   new-processor : (i j : ℕ) → i ≡ length events + j → j < length idles → processor_at all i ≡ (get_or idles j nobody).processor
   new-processor i j e l = let a = new-event i j e l in ap (λ o. option_map_or (λ x. x.processor) o 0) a.1 ∙ a.2.own
 
   new-messages : (i j : ℕ) → i ≡ length events + j → j < length idles → messages_at all i ≡ []
-  new-messages i j e l = let a = new-event i j e l in ap (λ o. option_map_or (λ x. received_in x.act) o []) a.1 ∙ nothing-received a.0.act a.2.act
+  new-messages i j e l = let a = new-event i j e l in
+      ap (λ o. option_map_or (λ x. received_in x.act) o []) a.1 ∙ nothing-received a.0.act a.2.act
 
   new-tick : (i j : ℕ) → i ≡ length events + j → j < length idles → slice_index all_ticks i ≡ (get_or idles j nobody).tick
   new-tick i j e l =
@@ -130,32 +137,39 @@ module _ (n : ℕ) (events added : List Event) (ticks : List ℕ) (last : ℕ) (
       ∙ get_or-map (λ (x : IdleTick). x.tick) idles j nobody 0 l
 
   new-moment : (i j : ℕ) → i ≡ length events + j → j < length idles → moment_at all all_ticks i ≡ slice_index (moments_of idles) j
-  new-moment i j e l = ap₂ moment_of (new-tick i j e l) (new-processor i j e l) ∙ sym (get_or-map (λ (x : IdleTick). moment_of x.tick x.processor) idles j nobody 0 l)
+  new-moment i j e l = ap₂ moment_of (new-tick i j e l) (new-processor i j e l)
+      ∙ sym (get_or-map (λ (x : IdleTick). moment_of x.tick x.processor) idles j nobody 0 l)
 
   is-free : (j : ℕ) → j < length idles → IsFree n events ticks last (get_or idles j nobody)
   is-free j l = free j nobody l
 
   -- an event's messages may be received as before
-  old-passes : (i k : ℕ) → i < length events → k < length (messages_at events i) → message_refusal all all_ticks (was_received all i k) i k (slice_index_or (messages_at all i) k None) ≡ None
+  old-passes : (i k : ℕ) → i < length events → k < length (messages_at events i)
+      → message_refusal all all_ticks (was_received all i k) i k (slice_index_or (messages_at all i) k None) ≡ None
   old-passes i k l b =
       let m = named-may events ticks i k fit.passed l b in
       let s = m.0 in
       let inside = is_for-inside events s (processor_at events i) m.2.for in
       let for = ap (is_for all s) (old-processor i l) ∙ old-for s (processor_at events i) inside ∙ m.2.for in
-      let before = ap₂ (λ x y. x || y) (received-same all events i s (λ j a. old-messages j (omega arith))) (ap (λ ms. list_any (is_message s) (take k ms)) (old-messages i l)) ∙ m.2.new in
-      let later : slice_index all_ticks s < slice_index all_ticks i = (let x = old-tick s inside in let y = old-tick i l in let z = m.2.later in omega arith) in
+      let before = ap₂ (λ x y. x || y) (received-same all events i s (λ j a. old-messages j (omega arith)))
+      (ap (λ ms. list_any (is_message s) (take k ms)) (old-messages i l)) ∙ m.2.new in
+      let later : slice_index all_ticks s < slice_index all_ticks i =
+      (let x = old-tick s inside in let y = old-tick i l in let z = m.2.later in omega arith) in
       let at = ap (λ ms. slice_index_or ms k None) (old-messages i l) ∙ m.1 in
-      ap (message_refusal all all_ticks (was_received all i k) i k) at ∙ message-passes all all_ticks (was_received all i k) i k s for before later
+      ap (message_refusal all all_ticks (was_received all i k) i k) at
+      ∙ message-passes all all_ticks (was_received all i k) i k s for before later
 
   passes : (i : ℕ) → i < length all → (i < length events) ⊎ (length events ≤ i) → messages_refusal all all_ticks i ≡ None
   passes i l (inl old) = messages-none all all_ticks i (λ k b. old-passes i k old (let e = ap length (old-messages i old) in omega arith))
-  passes i l (inr new) = messages-none all all_ticks i (λ k b. absurd (let m = long-all in let e = ap length (new-messages i (i - length events) (omega arith) (omega arith)) in omega arith))
+  passes i l (inr new) = messages-none all all_ticks i (λ k b.
+      absurd (let m = long-all in let e = ap length (new-messages i (i - length events) (omega arith) (omega arith)) in omega arith))
 
   within-processors : (i : ℕ) → i < length events → (1 ≤ processor_at events i) × (processor_at events i ≤ MAX_PROCESSORS)
   within-processors i l = let a = (meant i l).least in let b = (meant i l).most in (omega arith, omega arith)
 
   -- an event isn't at the moment of an idle tick
-  apart-new : (j i b : ℕ) → j < length events → i ≡ length events + b → b < length idles → ¬ (moment_at all all_ticks j ≡ moment_at all all_ticks i)
+  apart-new : (j i b : ℕ) → j < length events → i ≡ length events + b
+      → b < length idles → ¬ (moment_at all all_ticks j ≡ moment_at all all_ticks i)
   apart-new j i b l e m same =
       let f = is-free b m in
       let f0 = f.least in
@@ -163,12 +177,14 @@ module _ (n : ℕ) (events added : List Event) (ticks : List ℕ) (last : ℕ) (
       let at : moment_of (slice_index ticks j) (processor_at events j) ≡ moment_of ((get_or idles b nobody).tick)
       ((get_or idles b nobody).processor) = sym (old-moment j l) ∙ same
       ∙ ap₂ moment_of (new-tick i b e m) (new-processor i b e m) in
-      let parts = moment-parts (slice_index ticks j) ((get_or idles b nobody).tick) (processor_at events j) ((get_or idles b nobody).processor) (within-processors j l) (f0, omega arith) at in
+      let parts = moment-parts (slice_index ticks j) ((get_or idles b nobody).tick)
+      (processor_at events j) ((get_or idles b nobody).processor) (within-processors j l) (f0, omega arith) at in
       f.free (record { place = j; inside = l; own = parts.1; at = parts.0 })
 
   own-moments : HaveOwnMoments all all_ticks
   own-moments j i b l = go (cases_lt i (length events)) (cases_lt j (length events)) where
-    go : (i < length events) ⊎ (length events ≤ i) → (j < length events) ⊎ (length events ≤ j) → ¬ (moment_at all all_ticks j ≡ moment_at all all_ticks i)
+    go : (i < length events) ⊎ (length events ≤ i)
+        → (j < length events) ⊎ (length events ≤ j) → ¬ (moment_at all all_ticks j ≡ moment_at all all_ticks i)
     go (inl old) c same =
         let first : j < length events = omega arith in
         let one = one-at_moment events ticks j i fit.passed first old (sym (old-moment j first) ∙ same ∙ old-moment i old) in
@@ -222,7 +238,8 @@ module _ (n : ℕ) (events added : List Event) (ticks : List ℕ) (last : ℕ) (
   }
 
 -- a tick in which a short silence ends is free
-idle-free : (n : ℕ) (events : List Event) (ticks : List ℕ) (last limit : ℕ) → AreFit events ticks last → (x : IdleTick) → IsIdleTick n events ticks last limit x → IsFree n events ticks last x
+idle-free : (n : ℕ) (events : List Event) (ticks : List ℕ) (last limit : ℕ)
+    → AreFit events ticks last → (x : IdleTick) → IsIdleTick n events ticks last limit x → IsFree n events ticks last x
 idle-free n events ticks last limit f x h = record {
   least = h.least;
   most = h.most;
@@ -236,9 +253,11 @@ idle-free n events ticks last limit f x h = record {
 
 pub all-free : (n : ℕ) (events : List Event) (ticks : List ℕ) (last limit : ℕ) (idles : List IdleTick)
     → AreFit events ticks last → AreIdle n events ticks last limit idles → All (IsFree n events ticks last) idles
-all-free n events ticks last limit idles f h = All-weaker (IsIdleTick n events ticks last limit) (IsFree n events ticks last) (idle-free n events ticks last limit f) idles h.each
+all-free n events ticks last limit idles f h = All-weaker
+    (IsIdleTick n events ticks last limit) (IsFree n events ticks last) (idle-free n events ticks last limit f) idles h.each
 
-zip-push : (idles : List IdleTick) (added : List Event) (x : IdleTick) (e : Event) → AreReceives idles added → IsIdleReceive x e → AreReceives (idles ++ x ∷ []) (added ++ e ∷ [])
+zip-push : (idles : List IdleTick) (added : List Event) (x : IdleTick) (e : Event)
+    → AreReceives idles added → IsIdleReceive x e → AreReceives (idles ++ x ∷ []) (added ++ e ∷ [])
 zip-push [] [] x e h r = (r, tt)
 zip-push [] (b ∷ added) x e h r = absurd h
 zip-push (a ∷ idles) [] x e h r = absurd h
@@ -250,7 +269,8 @@ pub grown-next : (events new : List Event) (idles : List IdleTick) (k : ℕ) (d 
     → IsGrown events (take (k + 1) idles) (new ++ e ∷ [])
 grown-next events new idles k d e l g r = record {
   added = g.added ++ e ∷ [];
-  receives = subst (λ xs. AreReceives xs (g.added ++ e ∷ [])) (sym more) (zip-push (take k idles) g.added (get_or idles k d) e g.receives r);
+  receives = subst (λ xs. AreReceives xs (g.added ++ e ∷ []))
+      (sym more) (zip-push (take k idles) g.added (get_or idles k d) e g.receives r);
   grown = ap (λ xs. xs ++ e ∷ []) g.grown ∙ append_assoc events g.added (e ∷ []);
 } where
   more : take (k + 1) idles ≡ take k idles ++ get_or idles k d ∷ []
@@ -260,13 +280,15 @@ module _ (n : ℕ) (events new : List Event) (ticks all : List ℕ) (last : ℕ)
     (most : n ≤ MAX_PROCESSORS) (meant : AreMeant events n) (fit : AreFit events ticks last)
     (free : All (IsFree n events ticks last) idles) (rising : AreRising idles) (g : IsGrown events idles new) where
   pub meant-grown : AreMeant new n
-  meant-grown = subst (λ xs. AreMeant xs n) (sym g.grown) (meant-all n events g.added ticks last idles most meant fit free rising g.receives)
+  meant-grown = subst (λ xs. AreMeant xs n) (sym g.grown)
+      (meant-all n events g.added ticks last idles most meant fit free rising g.receives)
 
   pub long-grown : length new ≡ length events + length idles
   long-grown = ap length g.grown ∙ long-all n events g.added ticks last idles most meant fit free rising g.receives
 
   pub fit-grown : all ≡ ticks ++ ticks_of idles → AreFit new all last
-  fit-grown e = subst (λ xs. AreFit xs all last) (sym g.grown) (subst (λ ts. AreFit (events ++ g.added) ts last) (sym e) (fit-all n events g.added ticks last idles most meant fit free rising g.receives))
+  fit-grown e = subst (λ xs. AreFit xs all last) (sym g.grown) (subst (λ ts. AreFit (events ++ g.added) ts last)
+      (sym e) (fit-all n events g.added ticks last idles most meant fit free rising g.receives))
 
   -- the same of slices of both lists
   pub fit-slices : (xs : List Event) (ys : List ℕ) → all ≡ ticks ++ ticks_of idles → xs ≡ new → ys ≡ all → AreFit xs ys last

@@ -14,7 +14,8 @@ use Rattle.timed_events.specs.IdleTicks.{HasEventIn, IsShortSilence, AreRising, 
 use Rattle.timed_events.specs.IdleWalks.{is_short, noted, IsLatestBefore}
 
 -- the ticks after the latest event before t are a silence
-pub latest-short : (events : List Event) (ticks : List ℕ) (limit p t u y : ℕ) → IsLatestBefore events ticks p t u → t ≡ y + 1 → u < y → y ≤ u + limit → IsShortSilence events ticks limit p y
+pub latest-short : (events : List Event) (ticks : List ℕ) (limit p t u y : ℕ)
+    → IsLatestBefore events ticks p t u → t ≡ y + 1 → u < y → y ≤ u + limit → IsShortSilence events ticks limit p y
 latest-short events ticks limit p t u y h e some short = record {
   since = u;
   from = h.from;
@@ -24,7 +25,8 @@ latest-short events ticks limit p t u y h e some short = record {
 }
 
 -- a silence up to the tick before t begins after the latest event before t
-pub short-latest : (events : List Event) (ticks : List ℕ) (limit p t u y : ℕ) → IsLatestBefore events ticks p t u → t ≡ y + 1 → IsShortSilence events ticks limit p y → (u < y) × (y ≤ u + limit)
+pub short-latest : (events : List Event) (ticks : List ℕ) (limit p t u y : ℕ)
+    → IsLatestBefore events ticks p t u → t ≡ y + 1 → IsShortSilence events ticks limit p y → (u < y) × (y ≤ u + limit)
 short-latest events ticks limit p t u y h e s = go (cases_lt s.since u) (cases_lt u s.since) h.from s.from where
   some : s.since < y
   some = s.some
@@ -35,7 +37,8 @@ short-latest events ticks limit p t u y h e s = go (cases_lt s.since u) (cases_l
   below : u < t
   below = h.below
 
-  go : (s.since < u) ⊎ (u ≤ s.since) → (u < s.since) ⊎ (s.since ≤ u) → (u ≡ 0) ⊎ HasEventIn events ticks p u → (s.since ≡ 0) ⊎ HasEventIn events ticks p s.since → (u < y) × (y ≤ u + limit)
+  go : (s.since < u) ⊎ (u ≤ s.since) → (u < s.since) ⊎ (s.since ≤ u)
+      → (u ≡ 0) ⊎ HasEventIn events ticks p u → (s.since ≡ 0) ⊎ HasEventIn events ticks p s.since → (u < y) × (y ≤ u + limit)
   go (inl less) c (inl zero) g = absurd (omega arith)
   go (inl less) c (inr has) g = absurd (s.silent u less (let b = below in omega arith) has)
   go (inr more) (inl less) f (inl zero) = absurd (omega arith)
@@ -54,7 +57,8 @@ short-is since y limit h =
 is-short : (since y limit : ℕ) → since < y → y ≤ since + limit → is_short since y limit ≡ true
 is-short since y limit l m = ap₂ (λ a b. a && not b) (lt-ltb since y l) (le-ltb limit (y - since) (omega arith))
 
-rising-push : (xs : List IdleTick) (x : IdleTick) → AreRising xs → All (λ y. moment_of y.tick y.processor < moment_of x.tick x.processor) xs → AreRising (xs ++ x ∷ [])
+rising-push : (xs : List IdleTick) (x : IdleTick) → AreRising xs
+    → All (λ y. moment_of y.tick y.processor < moment_of x.tick x.processor) xs → AreRising (xs ++ x ∷ [])
 rising-push xs x r below j k l m = go (cases_lt k (length xs)) where
   long : length (xs ++ x ∷ []) ≡ length xs + 1
   long = grind (arith, common_steps)
@@ -66,7 +70,8 @@ rising-push xs x r below j k l m = go (cases_lt k (length xs)) where
       ∙ sym (get_or-map (λ (y : IdleTick). moment_of y.tick y.processor) xs i x 0 b)
 
   old-below : (i : ℕ) → i < length xs → slice_index (moments_of xs) i < moment_of x.tick x.processor
-  old-below i b = subst (λ t. t < moment_of x.tick x.processor) (sym (get_or-map (λ (y : IdleTick). moment_of y.tick y.processor) xs i x 0 b)) (below i x b)
+  old-below i b = subst (λ t. t < moment_of x.tick x.processor)
+      (sym (get_or-map (λ (y : IdleTick). moment_of y.tick y.processor) xs i x 0 b)) (below i x b)
 
   new : slice_index (moments_of (xs ++ x ∷ [])) (length xs) ≡ moment_of x.tick x.processor
   new =
@@ -103,5 +108,6 @@ module _ (xs : List IdleTick) (index since y limit : ℕ) where
   pub noted-new : since < y → y ≤ since + limit → Contains (noted xs index since y limit) new
   noted-new a b = subst (λ t. Contains (cond t (xs ++ new ∷ []) xs) new) (sym (is-short since y limit a b)) (Contains-push xs new)
 
-  pub noted-rising : AreRising xs → (since < y → y ≤ since + limit → All (λ x. moment_of x.tick x.processor < moment_of new.tick new.processor) xs) → AreRising (noted xs index since y limit)
+  pub noted-rising : AreRising xs → (since < y → y ≤ since + limit
+      → All (λ x. moment_of x.tick x.processor < moment_of new.tick new.processor) xs) → AreRising (noted xs index since y limit)
   noted-rising r h = by AreRising (λ a b. rising-push xs new r (h a b)) r

@@ -34,7 +34,8 @@ module _ (events : List Event) (ticks order : List ℕ) (o : AreInOrder events t
   earlier m k p b l e f = let r = o.ordered.rising m k b l in omega arith
 
   -- the processor whose last tick this is
-  last-own : (k index last : ℕ) → k ≤ length order → (r : IsLastAmong events ticks order k index last) → processor_at events (slice_index order r.m) ≡ index + 1
+  last-own : (k index last : ℕ) → k ≤ length order
+      → (r : IsLastAmong events ticks order k index last) → processor_at events (slice_index order r.m) ≡ index + 1
   last-own k index last l r =
       let b = r.before in
       let i = inside r.m (omega arith) in
@@ -49,7 +50,8 @@ module _ (events : List Event) (ticks order : List ℕ) (o : AreInOrder events t
       record { place = slice_index order r.m; inside = inside r.m (omega arith); own = last-own k index last l r; at = sym r.is }
 
   module _ (limit k : ℕ) (lasts : List ℕ) (idles : List IdleTick) (h : IsWalkedTo events ticks order limit k lasts idles) where
-    from-last : (index : ℕ) → k ≤ length order → (slice_index lasts index ≡ 0) ⊎ HasEventIn events ticks (index + 1) (slice_index lasts index)
+    from-last : (index : ℕ) → k ≤ length order → (slice_index lasts index ≡ 0)
+        ⊎ HasEventIn events ticks (index + 1) (slice_index lasts index)
     from-last index l = go (h.source index) where
       go : (slice_index lasts index ≡ 0) ⊎ IsLastAmong events ticks order k index (slice_index lasts index)
           → (slice_index lasts index ≡ 0) ⊎ HasEventIn events ticks (index + 1) (slice_index lasts index)
@@ -57,7 +59,8 @@ module _ (events : List Event) (ticks order : List ℕ) (o : AreInOrder events t
       go (inr r) = inr (last-has k index (slice_index lasts index) l r)
 
     -- an event of the first k is no later than the last tick of its processor
-    no-later : (m index : ℕ) → m < k → processor_at events (slice_index order m) ≡ index + 1 → slice_index ticks (slice_index order m) ≤ slice_index lasts index
+    no-later : (m index : ℕ) → m < k → processor_at events (slice_index order m) ≡ index + 1
+        → slice_index ticks (slice_index order m) ≤ slice_index lasts index
     no-later m index b e =
         let a = h.after m b in
         let s : index_at events (slice_index order m) ≡ index = omega arith in
@@ -74,7 +77,8 @@ module _ (events : List Event) (ticks order : List ℕ) (o : AreInOrder events t
           quiet z f.0 a b f.1 (ap (processor_at events) f.2 ∙ has.own) (ap (slice_index ticks) f.2 ∙ has.at)
           (cases_lt f.0 k) (cases_lt k f.0));
     } where
-      under : (slice_index lasts index ≡ 0) ⊎ IsLastAmong events ticks order k index (slice_index lasts index) → slice_index lasts index < slice_index ticks (slice_index order k)
+      under : (slice_index lasts index ≡ 0) ⊎ IsLastAmong events ticks order k index (slice_index lasts index)
+          → slice_index lasts index < slice_index ticks (slice_index order k)
       under (inl z) = let f = o.first (slice_index order k) (inside k l) in omega arith
       under (inr r) =
           let c = earlier r.m k (index + 1) r.before l (last-own k index (slice_index lasts index) (omega arith) r) e in
@@ -92,7 +96,8 @@ module _ (events : List Event) (ticks order : List ℕ) (o : AreInOrder events t
           omega arith
 
     -- the last tick of a processor, if all events come before
-    pub latest-end : (index last : ℕ) → length order ≡ k → ((i : ℕ) → i < length events → slice_index ticks i ≤ last) → IsLatestBefore events ticks (index + 1) (last + 1) (slice_index lasts index)
+    pub latest-end : (index last : ℕ) → length order ≡ k → ((i : ℕ) → i < length events → slice_index ticks i ≤ last)
+        → IsLatestBefore events ticks (index + 1) (last + 1) (slice_index lasts index)
     latest-end index last l within = record {
       from = from-last index (omega arith);
       below = under (h.source index);
@@ -103,7 +108,8 @@ module _ (events : List Event) (ticks order : List ℕ) (o : AreInOrder events t
           let t = ap (slice_index ticks) f.2 ∙ has.at in
           omega arith);
     } where
-      under : (slice_index lasts index ≡ 0) ⊎ IsLastAmong events ticks order k index (slice_index lasts index) → slice_index lasts index < last + 1
+      under : (slice_index lasts index ≡ 0) ⊎ IsLastAmong events ticks order k index (slice_index lasts index)
+          → slice_index lasts index < last + 1
       under (inl z) = omega arith
       under (inr r) =
           let b = r.before in
@@ -111,9 +117,11 @@ module _ (events : List Event) (ticks order : List ℕ) (o : AreInOrder events t
           let d = r.is in
           omega arith
 
-    module _ (index since tick : ℕ) (l : k < length order) (p : processor_at events (slice_index order k) ≡ index + 1) (s : since ≡ slice_index lasts index) (t : tick ≡ slice_index ticks (slice_index order k)) where
+    module _ (index since tick : ℕ) (l : k < length order) (p : processor_at events (slice_index order k) ≡ index + 1)
+        (s : since ≡ slice_index lasts index) (t : tick ≡ slice_index ticks (slice_index order k)) where
       latest : IsLatestBefore events ticks (index + 1) tick since
-      latest = subst (λ u. IsLatestBefore events ticks (index + 1) tick u) (sym s) (subst (λ v. IsLatestBefore events ticks (index + 1) v (slice_index lasts index)) (sym t) (latest-at index l p))
+      latest = subst (λ u. IsLatestBefore events ticks (index + 1) tick u)
+          (sym s) (subst (λ v. IsLatestBefore events ticks (index + 1) v (slice_index lasts index)) (sym t) (latest-at index l p))
 
       from-one : 1 ≤ tick
       from-one = let f = o.first (slice_index order k) (inside k l) in omega arith
@@ -124,7 +132,8 @@ module _ (events : List Event) (ticks order : List ℕ) (o : AreInOrder events t
       more-noted : (x : IdleTick) → IsNoted events ticks order limit k x → IsNoted events ticks order limit (k + 1) x
       more-noted x n = record { m = n.m; before = (let b = n.before in omega arith); own = n.own; next = n.next; silence = n.silence }
 
-      new-noted : since < tick - 1 → tick - 1 ≤ since + limit → IsNoted events ticks order limit (k + 1) (record { processor = index + 1; tick = tick - 1 })
+      new-noted : since < tick - 1 → tick - 1 ≤ since + limit
+          → IsNoted events ticks order limit (k + 1) (record { processor = index + 1; tick = tick - 1 })
       new-noted a b = record {
         m = k;
         before = omega arith;
@@ -152,11 +161,13 @@ module _ (events : List Event) (ticks order : List ℕ) (o : AreInOrder events t
           let tm = ap (λ j. slice_index ticks (slice_index order j)) same in
           let ty : tick ≡ y + 1 = omega arith in
           let yt : tick - 1 ≡ y = omega arith in
-          let c = short-latest events ticks limit (index + 1) tick since y latest ty (subst (λ v. IsShortSilence events ticks limit v y) pm q) in
+          let c = short-latest events ticks limit (index + 1) tick since y latest ty
+          (subst (λ v. IsShortSilence events ticks limit v y) pm q) in
           let c0 = c.0 in
           let c1 = c.1 in
           let n = noted-new idles index since (tick - 1) limit (omega arith) (omega arith) in
-          subst (λ (x : IdleTick). Contains (noted idles index since (tick - 1) limit) x) (ap₂ (λ (v w : ℕ). let x : IdleTick = record { processor = v; tick = w } in x) (sym pm) yt) n
+          subst (λ (x : IdleTick). Contains (noted idles index since (tick - 1) limit) x)
+          (ap₂ (λ (v w : ℕ). let x : IdleTick = record { processor = v; tick = w } in x) (sym pm) yt) n
 
       after-next : (m : ℕ) → (m < k) ⊎ (k ≤ m) → (index_at events (slice_index order m) ≡ index)
           ⊎ ¬ (index_at events (slice_index order m) ≡ index) → m < k + 1
@@ -170,7 +181,8 @@ module _ (events : List Event) (ticks order : List ℕ) (o : AreInOrder events t
           let q0 = q.0 in
           let c = earlier m k (index + 1) below l (omega arith) p in
           omega arith
-      after-next m (inl below) (inr n) b = let v = get_or-set_other lasts index (index_at events (slice_index order m)) tick 0 n in let a = h.after m below in omega arith
+      after-next m (inl below) (inr n) b = let v = get_or-set_other lasts index (index_at events (slice_index order m)) tick 0 n in
+          let a = h.after m below in omega arith
       after-next m (inr beyond) c b =
           let same : m ≡ k = omega arith in
           let tm = ap (λ j. slice_index ticks (slice_index order j)) same in
@@ -188,7 +200,8 @@ module _ (events : List Event) (ticks order : List ℕ) (o : AreInOrder events t
           let w = get_or-set_same lasts index tick 0 (let x = low in let y = h.wide in omega arith) in
           inr (record { m = k; before = omega arith; own = (let q = p in omega arith); is = v ∙ w ∙ t })
       source-next i (inr n) (inl z) = inl (get_or-set_other lasts index i tick 0 n ∙ z)
-      source-next i (inr n) (inr r) = inr (record { m = r.m; before = (let b = r.before in omega arith); own = r.own; is = get_or-set_other lasts index i tick 0 n ∙ r.is })
+      source-next i (inr n) (inr r) = inr
+          (record { m = r.m; before = (let b = r.before in omega arith); own = r.own; is = get_or-set_other lasts index i tick 0 n ∙ r.is })
 
       -- one event more
       pub walked-next : IsWalkedTo events ticks order limit (k + 1) (set lasts index tick) (noted idles index since (tick - 1) limit)

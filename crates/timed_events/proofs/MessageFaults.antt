@@ -16,18 +16,21 @@ use Rattle.timed_events.proofs.PassedEvents.{own-passed}
 use Rattle.timed_events.proofs.RankedEvents.{named-at, messages-none, least-moments}
 
 -- two tests that agree on the events find the same reason
-pub message_fault-same : (events : List Event) (r t : ℕ → Bool) (i k : ℕ) (m : Option ℕ) → ((s : ℕ) → s < length events → r s ≡ t s) → message_fault events r i k m ≡ message_fault events t i k m
+pub message_fault-same : (events : List Event) (r t : ℕ → Bool) (i k : ℕ) (m : Option ℕ)
+    → ((s : ℕ) → s < length events → r s ≡ t s) → message_fault events r i k m ≡ message_fault events t i k m
 message_fault-same events r t i k None h = refl
 message_fault-same events r t i k (Some s) h = go (is_for events s (processor_at events i)) refl where
   rest : Bool → Option EventError
   rest v = cond v (Some (ReceivedBefore i k)) None
 
-  go : (b : Bool) → is_for events s (processor_at events i) ≡ b → cond b (rest (r s)) (Some (WrongReceiver i k)) ≡ cond b (rest (t s)) (Some (WrongReceiver i k))
+  go : (b : Bool) → is_for events s (processor_at events i) ≡ b
+      → cond b (rest (r s)) (Some (WrongReceiver i k)) ≡ cond b (rest (t s)) (Some (WrongReceiver i k))
   go true e = ap rest (h s (is_for-inside events s (processor_at events i) e))
   go false e = refl
 
 -- the first reason against the events is the first against one
-pub faulty-event : (events : List Event) (i : ℕ) (e : EventError) → i < length events → first_of (message_faults events) i ≡ None → message_faults events i ≡ Some e → first_fault events ≡ Some e
+pub faulty-event : (events : List Event) (i : ℕ) (e : EventError)
+    → i < length events → first_of (message_faults events) i ≡ None → message_faults events i ≡ Some e → first_fault events ≡ Some e
 unfolding first_fault
 faulty-event events i e l h m = first_of-found (message_faults events) i (length events) e l h m
 
@@ -40,7 +43,8 @@ fault-none events i k h l b = first_of-each
     (λ k. message_fault events (was_received events i k) i k (slice_index_or (messages_at events i) k None))
     (length (messages_at events i)) k (first_of-each (message_faults events) (length events) i h l) b
 
-fault-for : (events : List Event) (r : ℕ → Bool) (i k s : ℕ) → message_fault events r i k (Some s) ≡ None → is_for events s (processor_at events i) ≡ true
+fault-for : (events : List Event) (r : ℕ → Bool) (i k s : ℕ)
+    → message_fault events r i k (Some s) ≡ None → is_for events s (processor_at events i) ≡ true
 fault-for events r i k s h = go (is_for events s (processor_at events i)) refl h where
   go : (u : Bool) → is_for events s (processor_at events i) ≡ u
       → cond u (cond (r s) (Some (ReceivedBefore i k)) None) (Some (WrongReceiver i k)) ≡ None
@@ -52,7 +56,8 @@ fault-for events r i k s h = go (is_for events s (processor_at events i)) refl h
 pub received-by : (events : List Event) → first_fault events ≡ None → AreRightlyReceived events
 received-by events h i s l t =
     let f = named-at (messages_at events i) s t.taken in
-    fault-for events (was_received events i f.0) i f.0 s (subst (λ m. message_fault events (was_received events i f.0) i f.0 m ≡ None) f.2 (fault-none events i f.0 h l f.1))
+    fault-for events (was_received events i f.0) i f.0 s
+    (subst (λ m. message_fault events (was_received events i f.0) i f.0 m ≡ None) f.2 (fault-none events i f.0 h l f.1))
 
 -- a message that is received later than it was sent
 passes-later : (events : List Event) (ticks : List ℕ) (r : ℕ → Bool) (i k : ℕ) (m : Option ℕ)
@@ -62,7 +67,8 @@ passes-later : (events : List Event) (ticks : List ℕ) (r : ℕ → Bool) (i k 
 passes-later events ticks r i k None h f = absurd (cc)
 passes-later events ticks r i k (Some s) h f =
     let b = is_for-inside events s (processor_at events i) (fault-for events r i k s h) in
-    go (is_for events s (processor_at events i)) (r s) (nat_lt (slice_index ticks s) (slice_index ticks i)) (lt-ltb (slice_index ticks s) (slice_index ticks i) (f s refl b)) h where
+    go (is_for events s (processor_at events i)) (r s)
+    (nat_lt (slice_index ticks s) (slice_index ticks i)) (lt-ltb (slice_index ticks s) (slice_index ticks i) (f s refl b)) h where
       go : (u v z : Bool) → z ≡ true
           → cond u (cond v (Some (ReceivedBefore i k)) None) (Some (WrongReceiver i k)) ≡ None
           → cond u (cond v (Some (ReceivedBefore i k)) (cond z None (Some (NotLater i k (late_hint events s i)))))
@@ -73,7 +79,8 @@ passes-later events ticks r i k (Some s) h f =
       go true false false t e = absurd (cc)
 
 -- no event is refused in the ticks to which they are spread
-pub passes-spread : (events : List Event) (own ticks : List ℕ) → first_fault events ≡ None → AreOfProcessors events → AreLeast events own ticks → events_refusal events ticks ≡ None
+pub passes-spread : (events : List Event) (own ticks : List ℕ)
+    → first_fault events ≡ None → AreOfProcessors events → AreLeast events own ticks → events_refusal events ticks ≡ None
 passes-spread events own ticks p o h =
     own-passed events ticks
     (λ i l. messages-none events ticks i

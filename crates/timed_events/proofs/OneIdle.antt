@@ -47,16 +47,19 @@ least-first x y xs ys h w = go (w.each x zero (omega arith)) where
   go (zero, l, e) = let f = ap moment e in omega arith
   go (suc k, l, e) = let u = h.up x zero (suc k) (omega arith) l in let f = ap moment e in omega arith
 
-same-first : (x y : IdleTick) (xs ys : List IdleTick) → AreAscending (x ∷ xs) → AreAscending (y ∷ ys) → AreAmong (x ∷ xs) (y ∷ ys) → AreAmong (y ∷ ys) (x ∷ xs) → x ≡ y
+same-first : (x y : IdleTick) (xs ys : List IdleTick)
+    → AreAscending (x ∷ xs) → AreAscending (y ∷ ys) → AreAmong (x ∷ xs) (y ∷ ys) → AreAmong (y ∷ ys) (x ∷ xs) → x ≡ y
 same-first x y xs ys g h u v = go (u.each x zero (omega arith)) where
   go : (k : ℕ) × (k < length (y ∷ ys)) × (get_or (y ∷ ys) k x ≡ x) → x ≡ y
   go (zero, l, e) = sym e
-  go (suc k, l, e) = let m = least-first y x ys xs g v in let r = h.up x zero (suc k) (omega arith) l in let f = ap moment e in absurd (omega arith)
+  go (suc k, l, e) = let m = least-first y x ys xs g v in
+      let r = h.up x zero (suc k) (omega arith) l in let f = ap moment e in absurd (omega arith)
 
 tail-found : (x y d : IdleTick) (xs ys : List IdleTick) (j : ℕ) → AreAscending (x ∷ xs) → x ≡ y → j < length xs
     → (k : ℕ) × (k < length (y ∷ ys)) × (get_or (y ∷ ys) k d ≡ get_or xs j d)
     → (k : ℕ) × (k < length ys) × (get_or ys k d ≡ get_or xs j d)
-tail-found x y d xs ys j h e l (zero, m, f) = let u = h.up d zero (suc j) (omega arith) (omega arith) in let g = ap moment f in let i = ap moment e in absurd (omega arith)
+tail-found x y d xs ys j h e l (zero, m, f) = let u = h.up d zero (suc j) (omega arith) (omega arith) in
+    let g = ap moment f in let i = ap moment e in absurd (omega arith)
 tail-found x y d xs ys j h e l (suc k, m, f) = (k, omega arith, f)
 
 among-tail : (x y : IdleTick) (xs ys : List IdleTick) → AreAscending (x ∷ xs) → x ≡ y → AreAmong (x ∷ xs) (y ∷ ys) → AreAmong xs ys
@@ -71,7 +74,8 @@ one-list [] (y ∷ ys) g h u v = absurd (none-among y ys v)
 one-list (x ∷ xs) [] g h u v = absurd (none-among x xs u)
 one-list (x ∷ xs) (y ∷ ys) g h u v =
     let e = same-first x y xs ys g h u v in
-    ap₂ (λ z zs. z ∷ zs) e (one-list xs ys (ascending-tail x xs g) (ascending-tail y ys h) (among-tail x y xs ys g e u) (among-tail y x ys xs h (sym e) v))
+    ap₂ (λ z zs. z ∷ zs) e
+    (one-list xs ys (ascending-tail x xs g) (ascending-tail y ys h) (among-tail x y xs ys g e u) (among-tail y x ys xs h (sym e) v))
 
 module _ (n : ℕ) (events : List Event) (ticks : List ℕ) (last limit : ℕ) where
   among : (a b : List IdleTick) → AreIdle n events ticks last limit a → AreIdle n events ticks last limit b → AreAmong a b
@@ -120,7 +124,8 @@ same-added [] [] (y ∷ ys) g h = absurd h
 same-added [] (x ∷ xs) ys g h = absurd g
 same-added (i ∷ idles) [] ys g h = absurd g
 same-added (i ∷ idles) (x ∷ xs) [] g h = absurd h
-same-added (i ∷ idles) (x ∷ xs) (y ∷ ys) g h = (record { own = g.0.own ∙ sym h.0.own; act = nothing-same x.act y.act g.0.act h.0.act }, same-added idles xs ys g.1 h.1)
+same-added (i ∷ idles) (x ∷ xs) (y ∷ ys) g h =
+    (record { own = g.0.own ∙ sym h.0.own; act = nothing-same x.act y.act g.0.act h.0.act }, same-added idles xs ys g.1 h.1)
 
 same-all : (events xs ys : List Event) → AllZip IsSame xs ys → AllZip IsSame (events ++ xs) (events ++ ys)
 same-all [] xs ys h = h
@@ -133,7 +138,8 @@ same-processor (x ∷ xs) [] i h = absurd h
 same-processor (x ∷ xs) (y ∷ ys) zero h = h.0.own
 same-processor (x ∷ xs) (y ∷ ys) (suc i) h = same-processor xs ys i h.1
 
-same-event : (xs ys : List Event) (i : ℕ) (x : Event) → AllZip IsSame xs ys → slice_get xs i ≡ Some x → (y : Event) × (slice_get ys i ≡ Some y) × IsSame x y
+same-event : (xs ys : List Event) (i : ℕ) (x : Event)
+    → AllZip IsSame xs ys → slice_get xs i ≡ Some x → (y : Event) × (slice_get ys i ≡ Some y) × IsSame x y
 same-event [] ys i x h e = absurd (cc)
 same-event (z ∷ xs) [] i x h e = absurd h
 same-event (z ∷ xs) (y ∷ ys) zero x h e = (y, refl, subst (λ v. IsSame v y) (same_Some z x e) h.0)
@@ -145,25 +151,29 @@ same-does numbers (Send to) (Receive messages) s e h = absurd e
 same-does numbers (Receive messages) (Send to) s e h = absurd e
 same-does numbers (Receive messages) (Receive others) s e h = (h.0, h.1, subst (λ ms. AreIdsOf numbers ms h.0) e h.2)
 
-same-step : (xs ys : List Event) (numbers : List ℕ) (place : ℕ) (s : Step) → AllZip IsSame xs ys → IsStepAt xs numbers place s → IsStepAt ys numbers place s
+same-step : (xs ys : List Event) (numbers : List ℕ) (place : ℕ) (s : Step)
+    → AllZip IsSame xs ys → IsStepAt xs numbers place s → IsStepAt ys numbers place s
 same-step xs ys numbers place s h t =
     let f = same-event xs ys place t.event h t.at in
     record { event = f.0; at = f.1; proc = t.proc ∙ f.2.own; does = same-does numbers t.event.act f.0.act s.act f.2.act t.does }
 
-same-steps : (xs ys : List Event) (numbers places : List ℕ) (steps : List Step) → AllZip IsSame xs ys → AllZip (IsStepAt xs numbers) places steps → AllZip (IsStepAt ys numbers) places steps
+same-steps : (xs ys : List Event) (numbers places : List ℕ) (steps : List Step)
+    → AllZip IsSame xs ys → AllZip (IsStepAt xs numbers) places steps → AllZip (IsStepAt ys numbers) places steps
 same-steps xs ys numbers [] [] h t = t
 same-steps xs ys numbers [] (s ∷ steps) h t = absurd t
 same-steps xs ys numbers (p ∷ places) [] h t = absurd t
 same-steps xs ys numbers (p ∷ places) (s ∷ steps) h t = (same-step xs ys numbers p s h t.0, same-steps xs ys numbers places steps h t.1)
 
 -- events that make the same steps have the same trace
-same-trace : (n : ℕ) (xs ys : List Event) (ticks : List ℕ) (last : ℕ) (trace : Recorded) → AllZip IsSame xs ys → IsTraceOf n xs ticks last trace → IsTraceOf n ys ticks last trace
+same-trace : (n : ℕ) (xs ys : List Event) (ticks : List ℕ) (last : ℕ) (trace : Recorded)
+    → AllZip IsSame xs ys → IsTraceOf n xs ticks last trace → IsTraceOf n ys ticks last trace
 same-trace n xs ys ticks last trace h t = record {
   order = t.order;
   numbers = t.numbers;
   ordered = record {
     places = subst (λ k. IsPermutation (range_with_len 0 k) t.order) (sym (AllZip-long IsSame xs ys h)) t.ordered.places;
-    rising = λ j k l m. (let a = at (slice_index t.order j) in let b = at (slice_index t.order k) in let r = t.ordered.rising j k l m in omega arith);
+    rising = λ j k l m. (let a = at (slice_index t.order j) in
+        let b = at (slice_index t.order k) in let r = t.ordered.rising j k l m in omega arith);
   };
   numbered = t.numbered;
   has = record { config = t.has.config; steps = same-steps xs ys t.numbers t.order trace.steps h t.has.steps; timed = t.has.timed };
@@ -187,7 +197,8 @@ IsIdleTimed-unique spread n events clock limit a b new more s t =
     let ticks = AreTicks-unique spread events clock t.ticks s.ticks s.passed t.are s.are in
     let idle = subst (λ xs. AreIdle n events xs (last_of events clock xs) limit t.idles) ticks t.idle in
     let idles = AreIdle-unique n events s.ticks (last_of events clock s.ticks) limit t.idles s.idles idle s.idle in
-    let filled = subst (λ is. IsFilled n events more s.ticks (last_of events clock s.ticks) is b.trace) idles (subst (λ xs. IsFilled n events more xs (last_of events clock xs) t.idles b.trace) ticks t.filled) in
+    let filled = subst (λ is. IsFilled n events more s.ticks (last_of events clock s.ticks) is b.trace) idles
+    (subst (λ xs. IsFilled n events more xs (last_of events clock xs) t.idles b.trace) ticks t.filled) in
     let trace = filled-once n events new more s.ticks (last_of events clock s.ticks) s.idles a.trace b.trace s.filled filled in
     let moved = s.moved ∙ sym (ap (moved_of (time_ticks events clock)) ticks) ∙ sym t.moved in
     let added = s.added ∙ sym (ap length idles) ∙ sym t.added in
@@ -208,6 +219,7 @@ steps-filled spread n events clock limit timed new places t p =
     let idles = AreIdle-unique n events t.ticks last limit p.idles t.idles idle t.idle in
     let all = t.ticks ++ ticks_of t.idles in
     let made = subst (λ es. IsTraceOf n es all last timed.trace) (sym t.filled.grown) t.filled.trace in
-    let ordered = subst (λ is. IsOrder new (t.ticks ++ ticks_of is) places) idles (subst (λ xs. IsOrder new (xs ++ ticks_of p.idles) places) ticks p.ordered) in
+    let ordered = subst (λ is. IsOrder new (t.ticks ++ ticks_of is) places) idles
+    (subst (λ xs. IsOrder new (xs ++ ticks_of p.idles) places) ticks p.ordered) in
     let order = IsOrder-unique new all made.order places made.ordered ordered in
     record { ticks = all; numbers = made.numbers; has = subst (λ xs. HasSteps n new all made.numbers xs timed.trace) order made.has }

@@ -27,7 +27,8 @@ pub record AreChained (events : List Event) (order : List ℕ) (k : ℕ) (firsts
   pub first : (m : ℕ) → k ≤ m → m < length order
       → (slice_index firsts (index_at events (slice_index order m)) < length events)
       × IsFrom events (slice_index firsts (index_at events (slice_index order m))) (slice_index order m)
-  pub next_own : (m : ℕ) → k ≤ m → m < length order → slice_index nexts (slice_index order m) < length events → IsOwnBefore events (slice_index nexts (slice_index order m)) (slice_index order m)
+  pub next_own : (m : ℕ) → k ≤ m → m < length order → slice_index nexts (slice_index order m) < length events
+      → IsOwnBefore events (slice_index nexts (slice_index order m)) (slice_index order m)
   pub next : (m j : ℕ) → k ≤ m → m < length order → j < length events → IsOwnBefore events j (slice_index order m)
       → (slice_index nexts (slice_index order m) < length events)
       × IsFrom events (slice_index nexts (slice_index order m)) j
@@ -62,7 +63,8 @@ module _ (events : List Event) (order firsts nexts : List ℕ) (k p : ℕ) (o : 
   index-inside = let a = (r place here).0 in let b = (r place here).1 in let e = at in omega arith
 
   -- a later event of the processor comes after it
-  later-own : (m : ℕ) → k < m → m < length order → index_at events (slice_index order m) ≡ p → IsOwnBefore events (slice_index order m) place
+  later-own : (m : ℕ) → k < m → m < length order → index_at events (slice_index order m) ≡ p
+      → IsOwnBefore events (slice_index order m) place
   later-own m b lm e =
       let i = inside-order events order m o lm in
       let x = r place here in
@@ -81,26 +83,33 @@ module _ (events : List Event) (order firsts nexts : List ℕ) (k p : ℕ) (o : 
   new-next : slice_index (set nexts place (slice_index firsts p)) place ≡ slice_index firsts p
   new-next = get_or-set_same nexts place (slice_index firsts p) 0 (let w = h.long in let i = here in omega arith)
 
-  same-next : (m : ℕ) → k < m → m < length order → slice_index (set nexts place (slice_index firsts p)) (slice_index order m) ≡ slice_index nexts (slice_index order m)
-  same-next m b lm = get_or-set_other nexts place (slice_index order m) (slice_index firsts p) 0 (λ e. differ-in_order events order k m o b lm (sym e))
+  same-next : (m : ℕ) → k < m → m < length order → slice_index (set nexts place (slice_index firsts p)) (slice_index order m)
+      ≡ slice_index nexts (slice_index order m)
+  same-next m b lm = get_or-set_other nexts place (slice_index order m)
+      (slice_index firsts p) 0 (λ e. differ-in_order events order k m o b lm (sym e))
 
-  first_own : (q : ℕ) → q < MAX_PROCESSORS → (q ≡ p) ⊎ ¬ (q ≡ p) → slice_index (set firsts p place) q < length events → IsFoundFrom events order k q (slice_index (set firsts p place) q)
+  first_own : (q : ℕ) → q < MAX_PROCESSORS → (q ≡ p) ⊎ ¬ (q ≡ p)
+      → slice_index (set firsts p place) q < length events → IsFoundFrom events order k q (slice_index (set firsts p place) q)
   first_own q lq (inl e) b =
       let s = ap (slice_index (set firsts p place)) e ∙ new-first in
-      subst (λ i. IsFoundFrom events order k q i) (sym s) (record { m = k; from = omega arith; within = l; at = refl; own = sym at ∙ sym e })
+      subst (λ i. IsFoundFrom events order k q i) (sym s)
+      (record { m = k; from = omega arith; within = l; at = refl; own = sym at ∙ sym e })
   first_own q lq (inr n) b =
       let s = same-first q n in
       let f = h.first_own q lq (omega arith) in
-      subst (λ i. IsFoundFrom events order k q i) (sym s) (record { m = f.m; from = (let a = f.from in omega arith); within = f.within; at = f.at; own = f.own })
+      subst (λ i. IsFoundFrom events order k q i) (sym s)
+      (record { m = f.m; from = (let a = f.from in omega arith); within = f.within; at = f.at; own = f.own })
 
   first-later : (m : ℕ) → k < m → m < length order → (index_at events (slice_index order m) ≡ p)
       ⊎ ¬ (index_at events (slice_index order m) ≡ p)
       → (slice_index (set firsts p place) (index_at events (slice_index order m)) < length events)
       × IsFrom events (slice_index (set firsts p place) (index_at events (slice_index order m))) (slice_index order m)
   first-later m b lm (inl e) =
-      let s : slice_index (set firsts p place) (index_at events (slice_index order m)) ≡ place = ap (slice_index (set firsts p place)) e ∙ new-first in
+      let s : slice_index (set firsts p place) (index_at events (slice_index order m)) ≡ place = ap (slice_index (set firsts p place)) e
+      ∙ new-first in
       subst (λ i. (i < length events) × IsFrom events i (slice_index order m)) (sym s) (here, inr (later-own m b lm e))
-  first-later m b lm (inr n) = subst (λ i. (i < length events) × IsFrom events i (slice_index order m)) (sym (same-first (index_at events (slice_index order m)) n)) (h.first m (omega arith) lm)
+  first-later m b lm (inr n) = subst (λ i. (i < length events) × IsFrom events i (slice_index order m))
+      (sym (same-first (index_at events (slice_index order m)) n)) (h.first m (omega arith) lm)
 
   first : (m : ℕ) → (k < m) ⊎ (m ≤ k) → k ≤ m → m < length order
       → (slice_index (set firsts p place) (index_at events (slice_index order m)) < length events)
@@ -108,7 +117,8 @@ module _ (events : List Event) (order firsts nexts : List ℕ) (k p : ℕ) (o : 
   first m (inl b) a lm = first-later m b lm (cases_eq (index_at events (slice_index order m)) p)
   first m (inr b) a lm =
       let e : k ≡ m = omega arith in
-      let s : slice_index (set firsts p place) (index_at events place) ≡ place = ap (slice_index (set firsts p place)) (sym at) ∙ new-first in
+      let s : slice_index (set firsts p place) (index_at events place) ≡ place = ap (slice_index (set firsts p place)) (sym at)
+      ∙ new-first in
       subst (λ n. (slice_index (set firsts p place) (index_at events (slice_index order n)) < length events)
       × IsFrom events (slice_index (set firsts p place) (index_at events (slice_index order n)))
       (slice_index order n)) e (subst (λ i. (i < length events) × IsFrom events i place) (sym s) (here, inl refl))
@@ -116,13 +126,15 @@ module _ (events : List Event) (order firsts nexts : List ℕ) (k p : ℕ) (o : 
   next_own-here : slice_index firsts p < length events → IsOwnBefore events (slice_index firsts p) place
   next_own-here b =
       let f = h.first_own p index-inside b in
-      subst (λ i. IsOwnBefore events i place) f.at (later-own f.m (let a = f.from in omega arith) f.within (ap (index_at events) f.at ∙ f.own))
+      subst (λ i. IsOwnBefore events i place) f.at
+      (later-own f.m (let a = f.from in omega arith) f.within (ap (index_at events) f.at ∙ f.own))
 
   next_own : (m : ℕ) → (k < m) ⊎ (m ≤ k) → k ≤ m → m < length order
       → slice_index (set nexts place (slice_index firsts p)) (slice_index order m) < length events
       → IsOwnBefore events (slice_index (set nexts place (slice_index firsts p)) (slice_index order m))
       (slice_index order m)
-  next_own m (inl b) a lm c = let s = same-next m b lm in subst (λ i. IsOwnBefore events i (slice_index order m)) (sym s) (h.next_own m (omega arith) lm (omega arith))
+  next_own m (inl b) a lm c = let s = same-next m b lm in
+      subst (λ i. IsOwnBefore events i (slice_index order m)) (sym s) (h.next_own m (omega arith) lm (omega arith))
   next_own m (inr b) a lm c =
       let e : k ≡ m = omega arith in
       let f = ap (λ n. slice_index (set nexts place (slice_index firsts p)) (slice_index order n)) (sym e) ∙ new-next in
@@ -130,11 +142,13 @@ module _ (events : List Event) (order firsts nexts : List ℕ) (k p : ℕ) (o : 
       (slice_index order n)) e (subst (λ i. IsOwnBefore events i place) (sym new-next)
       (next_own-here (omega arith)))
 
-  next-here : (j : ℕ) → j < length events → IsOwnBefore events j place → (slice_index firsts p < length events) × IsFrom events (slice_index firsts p) j
+  next-here : (j : ℕ) → j < length events → IsOwnBefore events j place
+      → (slice_index firsts p < length events) × IsFrom events (slice_index firsts p) j
   next-here j lj b =
       let f = place-found (length events) order j o.places lj in
       let m = before-in_order events order k f.0 o l (subst (λ i. IsOwnBefore events i place) (sym f.2) b).earlier in
-      let c = subst (λ i. (slice_index firsts (index_at events i) < length events) × IsFrom events (slice_index firsts (index_at events i)) i) f.2 (h.first f.0 (omega arith) f.1) in
+      let c = subst (λ i. (slice_index firsts (index_at events i) < length events)
+      × IsFrom events (slice_index firsts (index_at events i)) i) f.2 (h.first f.0 (omega arith) f.1) in
       let e : index_at events j ≡ p = ap (λ q. q - 1) (sym b.own) ∙ sym at in
       subst (λ q. (slice_index firsts q < length events) × IsFrom events (slice_index firsts q) j) e c
 
@@ -142,11 +156,14 @@ module _ (events : List Event) (order firsts nexts : List ℕ) (k p : ℕ) (o : 
       → IsOwnBefore events j (slice_index order m)
       → (slice_index (set nexts place (slice_index firsts p)) (slice_index order m) < length events)
       × IsFrom events (slice_index (set nexts place (slice_index firsts p)) (slice_index order m)) j
-  next m j (inl b) a lm lj c = subst (λ i. (i < length events) × IsFrom events i j) (sym (same-next m b lm)) (h.next m j (omega arith) lm lj c)
+  next m j (inl b) a lm lj c = subst (λ i. (i < length events) × IsFrom events i j)
+      (sym (same-next m b lm)) (h.next m j (omega arith) lm lj c)
   next m j (inr b) a lm lj c =
       let e : m ≡ k = omega arith in
-      let f : slice_index (set nexts place (slice_index firsts p)) (slice_index order m) ≡ slice_index firsts p = ap (λ n. slice_index (set nexts place (slice_index firsts p)) (slice_index order n)) e ∙ new-next in
-      subst (λ i. (i < length events) × IsFrom events i j) (sym f) (next-here j lj (subst (λ n. IsOwnBefore events j (slice_index order n)) e c))
+      let f : slice_index (set nexts place (slice_index firsts p)) (slice_index order m)
+      ≡ slice_index firsts p = ap (λ n. slice_index (set nexts place (slice_index firsts p)) (slice_index order n)) e ∙ new-next in
+      subst (λ i. (i < length events) × IsFrom events i j)
+      (sym f) (next-here j lj (subst (λ n. IsOwnBefore events j (slice_index order n)) e c))
 
   pub chained-more : AreChained events order k (set firsts p place) (set nexts place (slice_index firsts p))
   chained-more = record {
@@ -159,7 +176,8 @@ module _ (events : List Event) (order firsts nexts : List ℕ) (k p : ℕ) (o : 
   }
 
 -- all events are in the sequences
-pub chained-firsts : (events : List Event) (order firsts nexts : List ℕ) → IsTimeOrder events order → AreChained events order 0 firsts nexts → AreFirsts events firsts
+pub chained-firsts : (events : List Event) (order firsts nexts : List ℕ)
+    → IsTimeOrder events order → AreChained events order 0 firsts nexts → AreFirsts events firsts
 chained-firsts events order firsts nexts o h = record {
   wide = h.wide;
   own = λ p l b. (h.first_own p l b).own;
@@ -168,10 +186,12 @@ chained-firsts events order firsts nexts o h = record {
       × IsFrom events (slice_index firsts (index_at events j)) j) f.2 (h.first f.0 (omega arith) f.1));
 }
 
-pub chained-nexts : (events : List Event) (order firsts nexts : List ℕ) → IsTimeOrder events order → AreChained events order 0 firsts nexts → AreNexts events nexts
+pub chained-nexts : (events : List Event) (order firsts nexts : List ℕ)
+    → IsTimeOrder events order → AreChained events order 0 firsts nexts → AreNexts events nexts
 chained-nexts events order firsts nexts o h = record {
   long = h.long;
-  own = λ i l b. (let f = place-found (length events) order i o.places l in subst (λ j. slice_index nexts j < length events → IsOwnBefore events (slice_index nexts j) j) f.2 (h.next_own f.0 (omega arith) f.1) b);
+  own = λ i l b. (let f = place-found (length events) order i o.places l in subst
+      (λ j. slice_index nexts j < length events → IsOwnBefore events (slice_index nexts j) j) f.2 (h.next_own f.0 (omega arith) f.1) b);
   first = λ i j lj b. (let f = place-found (length events) order i o.places b.inside in
       subst (λ n. IsOwnBefore events j n → (slice_index nexts n < length events)
       × IsFrom events (slice_index nexts n) j) f.2 (h.next f.0 j (omega arith) f.1 lj) b);
@@ -196,4 +216,5 @@ chained-step events order firsts nexts back p f o r l at e h =
 
 pub chained-end : (events : List Event) (order firsts nexts : List ℕ) (back : ℕ) → length order ≤ back
     → AreChained events order (length order - back) firsts nexts → AreChained events order 0 firsts nexts
-chained-end events order firsts nexts back l h = let e : length order - back ≡ 0 = omega arith in subst (λ k. AreChained events order k firsts nexts) e h
+chained-end events order firsts nexts back l h = let e : length order - back ≡ 0 = omega arith in
+    subst (λ k. AreChained events order k firsts nexts) e h

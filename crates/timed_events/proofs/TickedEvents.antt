@@ -16,24 +16,28 @@ use Rattle.timed_events.proofs.TimedFitting.{ticks-bounds, some-event}
 use Rattle.timed_events.proofs.MovedEvents.{greatest-first, moved-same}
 
 -- events whose times aren't refused, nor they in their ticks
-both-passed : (events : List Event) (clock : Clock) → timed_refusal events clock ≡ None → (times_refusal events clock ≡ None) × (events_refusal events (time_ticks events clock) ≡ None)
+both-passed : (events : List Event) (clock : Clock)
+    → timed_refusal events clock ≡ None → (times_refusal events clock ≡ None) × (events_refusal events (time_ticks events clock) ≡ None)
 both-passed events clock h = or_none (times_refusal events clock) (events_refusal events (time_ticks events clock)) h
 
 in-bounds : (events : List Event) (clock : Clock) (i : ℕ) → 0 < clock.width → timed_refusal events clock ≡ None
     → i < length events → (1 ≤ slice_index (time_ticks events clock) i)
     × (slice_index (time_ticks events clock) i ≤ last_tick events clock)
-in-bounds events clock i w h l = let b = ticks-bounds events clock (time_ticks events clock) i (some-event events i l) w (both-passed events clock h).0 refl l in (b.0, b.1)
+in-bounds events clock i w h l = let b = ticks-bounds events clock
+    (time_ticks events clock) i (some-event events i l) w (both-passed events clock h).0 refl l in (b.0, b.1)
 
 fit-in_time : (events : List Event) (clock : Clock) (ticks : List ℕ) (last : ℕ) → 0 < length events → 0 < clock.width
     → timed_refusal events clock ≡ None → ticks ≡ time_ticks events clock → last ≡ last_tick events clock
     → AreFit events ticks last
-fit-in_time events clock ticks last some w h e f = subst (λ l. AreFit events ticks l) (sym f) (subst (λ xs. AreFit events xs (last_tick events clock)) (sym e) (record {
-  long = length-map events (λ x. time_tick events clock x.time);
-  passed = (both-passed events clock h).1;
-  first = λ i l. (in-bounds events clock i w h l).0;
-  within = λ i l. (in-bounds events clock i w h l).1;
-  most = (ticks-bounds events clock (time_ticks events clock) 0 (some-event events 0 some) w (both-passed events clock h).0 refl some).2;
-}))
+fit-in_time events clock ticks last some w h e f =
+    subst (λ l. AreFit events ticks l) (sym f) (subst (λ xs. AreFit events xs (last_tick events clock)) (sym e) (record {
+      long = length-map events (λ x. time_tick events clock x.time);
+      passed = (both-passed events clock h).1;
+      first = λ i l. (in-bounds events clock i w h l).0;
+      within = λ i l. (in-bounds events clock i w h l).1;
+      most =
+          (ticks-bounds events clock (time_ticks events clock) 0 (some-event events 0 some) w (both-passed events clock h).0 refl some).2;
+    }))
 
 -- they are in the ticks of their times, and none moved
 pub ticked-in_time : (spread : Bool) (events : List Event) (clock : Clock) (ticked : EventTicks) → spread ≡ false

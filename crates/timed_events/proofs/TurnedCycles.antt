@@ -17,7 +17,8 @@ module _ (at : ℕ) (hops : List Hop) (inside : at ≤ length hops) where
   dropped-long = length-drop at hops
 
   pub turned-long : length (turned at hops) ≡ length hops
-  turned-long = let a = length-append (drop at hops) (take at hops) in let b = dropped-long in let c = length-take-le at hops inside in omega arith
+  turned-long = let a = length-append (drop at hops) (take at hops) in
+      let b = dropped-long in let c = length-take-le at hops inside in omega arith
 
   turned-left : (k i : ℕ) (d : Hop) → at + k ≡ i → i < length hops → get_or (turned at hops) k d ≡ get_or hops i d
   turned-left k i d e l =
@@ -34,12 +35,14 @@ module _ (at : ℕ) (hops : List Hop) (inside : at ≤ length hops) where
   -- each hop of the turned list is one of the others
   pub turned-some : (k : ℕ) → k < length hops → (i : ℕ) × (i < length hops) × ((d : Hop) → get_or (turned at hops) k d ≡ get_or hops i d)
   turned-some k l = go (cases_lt (at + k) (length hops)) where
-    go : (at + k < length hops) ⊎ (length hops ≤ at + k) → (i : ℕ) × (i < length hops) × ((d : Hop) → get_or (turned at hops) k d ≡ get_or hops i d)
+    go : (at + k < length hops) ⊎ (length hops ≤ at + k)
+        → (i : ℕ) × (i < length hops) × ((d : Hop) → get_or (turned at hops) k d ≡ get_or hops i d)
     go (inl b) = (at + k, b, λ d. turned-left k (at + k) d refl b)
     go (inr b) = (at + k - length hops, omega arith, λ d. turned-right k (at + k - length hops) d (omega arith) (omega arith))
 
   module _ (events : List Event) (c : IsCauseCycle events hops) where
-    taken : (k : ℕ) (d : Hop) → k < length (turned at hops) → IsSentTo events (get_or (turned at hops) k d).event (get_or (turned at hops) k d).message
+    taken : (k : ℕ) (d : Hop) → k < length (turned at hops)
+        → IsSentTo events (get_or (turned at hops) k d).event (get_or (turned at hops) k d).message
     taken k d l =
         let s = turned-some k (let n = turned-long in omega arith) in
         subst (λ h. IsSentTo events h.event h.message) (sym (s.2 d)) (c.taken s.0 d s.1)
@@ -48,18 +51,23 @@ module _ (at : ℕ) (hops : List Hop) (inside : at ≤ length hops) where
         → get_or (turned at hops) k d ≡ get_or hops m d
         → IsFrom events (get_or hops i d).event (get_or hops m d).message
         → IsFrom events (get_or (turned at hops) j d).event (get_or (turned at hops) k d).message
-    from-to j k i m d e f h = subst (λ x. IsFrom events x.event (get_or (turned at hops) k d).message) (sym e) (subst (λ y. IsFrom events (get_or hops i d).event y.message) (sym f) h)
+    from-to j k i m d e f h = subst (λ x. IsFrom events x.event (get_or (turned at hops) k d).message)
+        (sym e) (subst (λ y. IsFrom events (get_or hops i d).event y.message) (sym f) h)
 
     next-by : (k : ℕ) (d : Hop) → k + 1 < length hops → (at + k + 1 < length hops) ⊎ (length hops ≤ at + k + 1)
         → (at + k + 1 ≡ length hops) ⊎ ¬ (at + k + 1 ≡ length hops)
         → IsFrom events (get_or (turned at hops) (k + 1) d).event (get_or (turned at hops) k d).message
-    next-by k d l (inl b) e = from-to (k + 1) k (at + k + 1) (at + k) d (turned-left (k + 1) (at + k + 1) d (omega arith) b) (turned-left k (at + k) d refl (omega arith)) (c.next (at + k) d b)
-    next-by k d l (inr b) (inl e) = from-to (k + 1) k 0 (length hops - 1) d (turned-right (k + 1) 0 d (omega arith) (omega arith)) (turned-left k (length hops - 1) d (omega arith) (omega arith)) (c.closed d)
+    next-by k d l (inl b) e = from-to (k + 1) k (at + k + 1)
+        (at + k) d (turned-left (k + 1) (at + k + 1) d (omega arith) b) (turned-left k (at + k) d refl (omega arith)) (c.next (at + k) d b)
+    next-by k d l (inr b) (inl e) = from-to (k + 1) k 0 (length hops - 1) d
+        (turned-right (k + 1) 0 d (omega arith) (omega arith)) (turned-left k (length hops - 1) d (omega arith) (omega arith)) (c.closed d)
     next-by k d l (inr b) (inr n) =
         let i = at + k - length hops in
-        from-to (k + 1) k (i + 1) i d (turned-right (k + 1) (i + 1) d (omega arith) (omega arith)) (turned-right k i d (omega arith) (omega arith)) (c.next i d (omega arith))
+        from-to (k + 1) k (i + 1) i d (turned-right (k + 1) (i + 1) d (omega arith) (omega arith))
+        (turned-right k i d (omega arith) (omega arith)) (c.next i d (omega arith))
 
-    closed-by : (d : Hop) → (at < length hops) ⊎ (length hops ≤ at) → (at ≡ 0) ⊎ ¬ (at ≡ 0) → IsFrom events (get_or (turned at hops) 0 d).event (get_or (turned at hops) (length hops - 1) d).message
+    closed-by : (d : Hop) → (at < length hops) ⊎ (length hops ≤ at)
+        → (at ≡ 0) ⊎ ¬ (at ≡ 0) → IsFrom events (get_or (turned at hops) 0 d).event (get_or (turned at hops) (length hops - 1) d).message
     closed-by d (inr b) z = let s = c.some in
         from-to 0 (length hops - 1) 0 (length hops - 1) d (turned-right 0 0 d (omega arith) (omega arith))
         (turned-right (length hops - 1) (length hops - 1) d (omega arith) (omega arith)) (c.closed d)
@@ -77,8 +85,10 @@ module _ (at : ℕ) (hops : List Hop) (inside : at ≤ length hops) where
     turned-is = record {
       some = (let n = turned-long in let s = c.some in omega arith);
       taken = taken;
-      next = λ k d l. (let n = turned-long in next-by k d (omega arith) (cases_lt (at + k + 1) (length hops)) (cases_eq (at + k + 1) (length hops)));
-      closed = λ d. subst (λ n. IsFrom events (get_or (turned at hops) 0 d).event (get_or (turned at hops) (n - 1) d).message) (sym turned-long) (closed-by d (cases_lt at (length hops)) (cases_eq at 0));
+      next = λ k d l.
+          (let n = turned-long in next-by k d (omega arith) (cases_lt (at + k + 1) (length hops)) (cases_eq (at + k + 1) (length hops)));
+      closed = λ d. subst (λ n. IsFrom events (get_or (turned at hops) 0 d).event (get_or (turned at hops) (n - 1) d).message)
+          (sym turned-long) (closed-by d (cases_lt at (length hops)) (cases_eq at 0));
     }
 
 -- what the code takes of the hops from a place on are all of them
@@ -93,11 +103,13 @@ turned-count : (hops now : List Hop) → AreTurned hops now → length now ≡ l
 turned-count hops now t = ap length t.2 ∙ turned-long t.0 hops t.1
 
 -- a cycle that is turned is a cycle
-pub turned-cycle : (events : List Event) (cycle hops now : List Hop) → hops ≡ cycle → (0 < length cycle → IsCauseCycle events cycle) → AreTurned hops now → 0 < length now → IsCauseCycle events now
+pub turned-cycle : (events : List Event) (cycle hops now : List Hop)
+    → hops ≡ cycle → (0 < length cycle → IsCauseCycle events cycle) → AreTurned hops now → 0 < length now → IsCauseCycle events now
 turned-cycle events cycle hops now e c t l =
     let n = turned-count hops now t in
     let m = ap length e in
-    subst (λ xs. IsCauseCycle events xs) (sym t.2) (turned-is t.0 hops t.1 events (subst (λ xs. IsCauseCycle events xs) (sym e) (c (omega arith))))
+    subst (λ xs. IsCauseCycle events xs) (sym t.2)
+    (turned-is t.0 hops t.1 events (subst (λ xs. IsCauseCycle events xs) (sym e) (c (omega arith))))
 
 -- no hops are none before
 pub turned-none : (A : Type 0) (cycle hops now : List Hop) → hops ≡ cycle → (length cycle ≡ 0 → A) → AreTurned hops now → length now ≡ 0 → A
@@ -118,4 +130,5 @@ turned-least hops now at l e least = subst (λ xs. BeginsAtLeast xs) (sym e) (λ
 
 -- the least of the first k hops, or 0 if there are none
 abbrev pub IsLeastOf : List Hop → ℕ → ℕ → Type 0
-IsLeastOf hops k least = (least ≤ k) × ((j : ℕ) (d : Hop) → j < k → (least < length hops) × ((get_or hops least d).event ≤ (get_or hops j d).event))
+IsLeastOf hops k least = (least ≤ k)
+    × ((j : ℕ) (d : Hop) → j < k → (least < length hops) × ((get_or hops least d).event ≤ (get_or hops j d).event))

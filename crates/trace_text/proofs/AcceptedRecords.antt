@@ -45,13 +45,15 @@ AreRecordsOf records t = (v : Version) × HasTextsOf v t × (records ≡ trace_r
 abbrev pub LeadsTo : List (List (List ℕ)) → Stage → Type 0
 LeadsTo records Opening = records ≡ []
 LeadsTo records (Sized v n t) = records ≡ header_record v n t ∷ []
-LeadsTo records (Recording v t) = IsTextTrace t × HasTextsOf v t × (records ≡ header_record v t.config.n t.config.t ∷ init_record t.config.init ∷ step_records v t.ticks 1 t.steps)
+LeadsTo records (Recording v t) = IsTextTrace t × HasTextsOf v t
+    × (records ≡ header_record v t.config.n t.config.t ∷ init_record t.config.init ∷ step_records v t.ticks 1 t.steps)
 LeadsTo records (Ended t) = IsTextTrace t × AreRecordsOf records t
 
 -- a version is named by its field
 from_version : (field : List ℕ) (v : Version) → version_named field ≡ Some v → field ≡ version_field v
 from_version field v h = go (bytes_eq field (codes "1")) (bytes_eq field (codes "2")) refl refl h where
-  go : (a b : Bool) → bytes_eq field (codes "1") ≡ a → bytes_eq field (codes "2") ≡ b → cond a (Some One) (cond b (Some Two) None) ≡ Some v → field ≡ version_field v
+  go : (a b : Bool) → bytes_eq field (codes "1") ≡ a
+      → bytes_eq field (codes "2") ≡ b → cond a (Some One) (cond b (Some Two) None) ≡ Some v → field ≡ version_field v
   go true b d e k = let same : One ≡ v = cc k in rw (← same) (same-from_bytes_eq field (codes "1") d)
   go false true d e k = let same : Two ≡ v = cc k in rw (← same) (same-from_bytes_eq field (codes "2") e)
   go false false d e k = cc k
@@ -79,7 +81,8 @@ none_last true e h = refl
 none_last false e h = cc h
 
 -- a configuration that isn't refused is one
-IsSetup-from_none : (n t : ℕ) (values : List ℕ) → config_refusal n t (length values) ≡ None → IsSetup (record { n = n; t = t; init = values })
+IsSetup-from_none : (n t : ℕ) (values : List ℕ) → config_refusal n t (length values) ≡ None
+    → IsSetup (record { n = n; t = t; init = values })
 IsSetup-from_none n t values h =
     let size = none_cond (nat_lt n MIN_PROCESSORS || nat_lt MAX_PROCESSORS n) BadSize _ h in
     let faults = none_cond (nat_lt n (2 * t + 1)) BadFaults _ size.1 in
@@ -149,7 +152,11 @@ from_init records v n t fields s before h =
     let name = same-from_bytes_eq (field_of fields 0) (codes "init") first.0 in
     let whole : fields ≡ init_record values.0 = first_field fields 105 (codes "nit") name ∙ ap (λ r. codes "init" ∷ r) numbers.0 in
     rw (← stage) (
-      record { setup = IsSetup-from_none n t values.0 (none_is _ start.0); values = numbers.1; well_formed = record { steps = IsWellFormed-none config; time = IsTimed-none config } },
+      record {
+        setup = IsSetup-from_none n t values.0 (none_is _ start.0);
+        values = numbers.1;
+        well_formed = record { steps = IsWellFormed-none config; time = IsTimed-none config };
+      },
       HasTextsOf-none v config,
       append_one records (header_record v n t ∷ []) fields (init_record values.0) before whole,
     )
@@ -223,39 +230,42 @@ from_fields v at fields y h =
 whole_record : (v : Version) (at tick : ℕ) (x : Step) (fields : List (List ℕ)) → (length fields == step_fields v) ≡ true
     → field_of fields 0 ≡ decimal at → IsRead v at tick x fields → fields ≡ step_record v at tick x
 unfolding IsTickOf
-whole_record One at tick x fields count first h =
-    four_are fields (decimal at) (decimal x.proc) (op_text x.act) (arg_text x.act) (eqb-true (length fields) 4 count) first h.proc h.op h.arg
-whole_record Two at tick x fields count first h =
-    five_are fields (decimal at) (decimal tick) (decimal x.proc) (op_text x.act) (arg_text x.act) (eqb-true (length fields) 5 count) first h.tick h.proc h.op h.arg
+whole_record One at tick x fields count first h = four_are fields
+    (decimal at) (decimal x.proc) (op_text x.act) (arg_text x.act) (eqb-true (length fields) 4 count) first h.proc h.op h.arg
+whole_record Two at tick x fields count first h = five_are fields (decimal at)
+    (decimal tick) (decimal x.proc) (op_text x.act) (arg_text x.act) (eqb-true (length fields) 5 count) first h.tick h.proc h.op h.arg
 
 -- a step that the trace takes
-from_push : (v : Version) (t : Recorded) (tick : ℕ) (x : Step) (s : Stage) (r : Option PushError) → refusal_in t tick x ≡ r → pushed v t tick x r ≡ Ok s
-    → (refusal_in t tick x ≡ None) × (Recording v (with_step t tick x) ≡ s)
+from_push : (v : Version) (t : Recorded) (tick : ℕ) (x : Step) (s : Stage) (r : Option PushError)
+    → refusal_in t tick x ≡ r → pushed v t tick x r ≡ Ok s → (refusal_in t tick x ≡ None) × (Recording v (with_step t tick x) ≡ s)
 from_push v t tick x s None e h = (e, cc h)
 from_push v t tick x s (Some f) e h = cc h
 
 -- the records of the steps with one step more
-pub step_records-more : (v : Version) (ticks : List ℕ) (at : ℕ) (xs : List Step) (x : Step)
-    → step_records v ticks at (xs ++ x ∷ []) ≡ step_records v ticks at xs ++ step_record v (at + length xs) (tick_at ticks (at + length xs)) x ∷ []
+pub step_records-more : (v : Version) (ticks : List ℕ) (at : ℕ) (xs : List Step) (x : Step) → step_records v ticks at (xs ++ x ∷ [])
+    ≡ step_records v ticks at xs ++ step_record v (at + length xs) (tick_at ticks (at + length xs)) x ∷ []
 step_records-more v ticks at [] x = let e : at + 0 ≡ at = omega arith in rw e refl
 step_records-more v ticks at (y ∷ xs) x =
     let e : at + 1 + length xs ≡ at + suc (length xs) = omega arith in
     ap (λ r. step_record v at (tick_at ticks at) y ∷ r) (rw e at (step_records-more v ticks (at + 1) xs x))
 
 -- they don't change if a tick is added after those of the steps
-step_records-later : (v : Version) (ticks : List ℕ) (tick at : ℕ) (xs : List Step) → at + length xs ≤ length ticks + 1 → step_records v (ticks ++ tick ∷ []) at xs ≡ step_records v ticks at xs
+step_records-later : (v : Version) (ticks : List ℕ) (tick at : ℕ) (xs : List Step)
+    → at + length xs ≤ length ticks + 1 → step_records v (ticks ++ tick ∷ []) at xs ≡ step_records v ticks at xs
 step_records-later v ticks tick at [] room = refl
 step_records-later v ticks tick at (x ∷ xs) room =
     rw (tick_at-push_old ticks tick at (omega (arith, room)), step_records-later v ticks tick (at + 1) xs (omega (arith, room))) refl
 
 -- the records of the steps of a trace with one step more
-pushed-records : (v : Version) (t : Recorded) (tick : ℕ) (x : Step) → length t.ticks ≡ length t.steps
-    → step_records v (t.ticks ++ tick ∷ []) 1 (t.steps ++ x ∷ []) ≡ step_records v t.ticks 1 t.steps ++ step_record v (length t.steps + 1) tick x ∷ []
+pushed-records : (v : Version) (t : Recorded) (tick : ℕ) (x : Step) → length t.ticks ≡ length t.steps → step_records v
+    (t.ticks ++ tick ∷ []) 1 (t.steps ++ x ∷ []) ≡ step_records v t.ticks 1 t.steps ++ step_record v (length t.steps + 1) tick x ∷ []
 pushed-records v t tick x long =
     let e : 1 + length t.steps ≡ length t.steps + 1 = omega arith in
     let place : suc (length t.ticks) ≡ length t.steps + 1 = omega (arith, long) in
-    let last : tick_at (t.ticks ++ tick ∷ []) (length t.steps + 1) ≡ tick = subst (λ n. tick_at (t.ticks ++ tick ∷ []) n ≡ tick) place (tick_at-push_last t.ticks tick) in
-    rw (step_records-more v (t.ticks ++ tick ∷ []) 1 t.steps x, e, last, step_records-later v t.ticks tick 1 t.steps (omega (arith, long))) refl
+    let last : tick_at (t.ticks ++ tick ∷ []) (length t.steps + 1)
+    ≡ tick = subst (λ n. tick_at (t.ticks ++ tick ∷ []) n ≡ tick) place (tick_at-push_last t.ticks tick) in
+    rw (step_records-more v (t.ticks ++ tick ∷ []) 1 t.steps x, e, last, step_records-later v t.ticks tick 1 t.steps (omega (arith, long)))
+    refl
 
 HasTextsOf-push : (v : Version) (t : Recorded) (tick : ℕ) (x : Step) (fields : List (List ℕ)) → IsTrace t
     → HasTextsOf v t → IsTickOf v (length t.steps + 1) tick fields → HasTextsOf v (with_step t tick x)
@@ -280,10 +290,14 @@ from_step records v t fields s before h =
     let whole = whole_record v (length t.steps + 1) tick x fields count.0 first parts in
     let trace = before.0 in
     rw (← push.1) (
-      record { setup = trace.setup; values = trace.values; well_formed = IsTrace-push t tick x trace.well_formed (FitsIn-from_none t tick x trace.well_formed push.0) },
+      record {
+        setup = trace.setup;
+        values = trace.values;
+        well_formed = IsTrace-push t tick x trace.well_formed (FitsIn-from_none t tick x trace.well_formed push.0);
+      },
       HasTextsOf-push v t tick x fields trace.well_formed before.1 parts.tick,
-      append_one records _ fields (step_record v (length t.steps + 1) tick x) before.2 whole
-          ∙ ap (λ r. header_record v t.config.n t.config.t ∷ init_record t.config.init ∷ r) (sym (pushed-records v t tick x trace.well_formed.time.each)),
+      append_one records _ fields (step_record v (length t.steps + 1) tick x) before.2 whole ∙ ap (λ r. header_record
+          v t.config.n t.config.t ∷ init_record t.config.init ∷ r) (sym (pushed-records v t tick x trace.well_formed.time.each)),
     )
 
 -- a trace may end later
@@ -312,12 +326,21 @@ from_end records v t fields s before name h =
       whole : (n : ℕ) → (length fields == 2) ≡ true → field_of fields 1 ≡ decimal n → fields ≡ end_record n
       whole n two field = two_are fields (codes "end") (decimal n) (eqb-true (length fields) 2 two) name field
 
-      go : (v : Version) → (length fields == 2) ≡ true → LeadsTo records (Recording v t) → ended v t (field_of fields 1) ≡ Ok s → LeadsTo (records ++ fields ∷ []) s
+      go : (v : Version) → (length fields == 2) ≡ true
+          → LeadsTo records (Recording v t) → ended v t (field_of fields 1) ≡ Ok s → LeadsTo (records ++ fields ∷ []) s
       go One two before k =
           let number = passed (bytes_eq (field_of fields 1) (decimal (length t.steps))) _ _ s k in
           let stage : Ended t ≡ s = cc (number.1) in
           let count = same-from_bytes_eq (field_of fields 1) (decimal (length t.steps)) number.0 in
-          rw (← stage) (before.0, (One, before.1, append_one records _ fields (end_record t.last) before.2 (whole (length t.steps) two count ∙ ap end_record (sym before.1.end))))
+          rw (← stage) (
+            before.0,
+            (
+              One,
+              before.1,
+              append_one records _ fields
+                  (end_record t.last) before.2 (whole (length t.steps) two count ∙ ap end_record (sym before.1.end)),
+            ),
+          )
       go Two two before k =
           let last = read_part (number_of (field_of fields 1)) why.WrongEnd _ s k in
           let may = passed (may_end_in t last.0) _ _ s last.2 in
@@ -325,34 +348,45 @@ from_end records v t fields s before name h =
           let trace = before.0 in
           rw (← stage) (
             record { setup = trace.setup; values = trace.values; well_formed = IsTrace-with_last t last.0 trace.well_formed may.0 },
-            (Two, tt, append_one records _ fields (end_record last.0) before.2 (whole last.0 two (number_of-some (field_of fields 1) last.0 last.1).0)),
+            (
+              Two,
+              tt,
+              append_one records _ fields (end_record last.0) before.2
+                  (whole last.0 two (number_of-some (field_of fields 1) last.0 last.1).0),
+            ),
           )
 
 -- one record more
-from_record : (records : List (List (List ℕ))) (a : Stage) (fields : List (List ℕ)) (s : Stage) → LeadsTo records a → next_stage a fields ≡ Ok s → LeadsTo (records ++ fields ∷ []) s
+from_record : (records : List (List (List ℕ))) (a : Stage) (fields : List (List ℕ)) (s : Stage)
+    → LeadsTo records a → next_stage a fields ≡ Ok s → LeadsTo (records ++ fields ∷ []) s
 from_record records Opening fields s before h = rw before (from_header fields s h)
 from_record records (Sized v n t) fields s before h = from_init records v n t fields s before h
 from_record records (Recording v t) fields s before h = go (bytes_eq (field_of fields 0) (codes "end")) refl h where
-  go : (b : Bool) → bytes_eq (field_of fields 0) (codes "end") ≡ b → cond b (end_stage v t fields) (step_stage v t fields) ≡ Ok s → LeadsTo (records ++ fields ∷ []) s
+  go : (b : Bool) → bytes_eq (field_of fields 0) (codes "end") ≡ b
+      → cond b (end_stage v t fields) (step_stage v t fields) ≡ Ok s → LeadsTo (records ++ fields ∷ []) s
   go true e k = from_end records v t fields s before (same-from_bytes_eq (field_of fields 0) (codes "end") e) k
   go false e k = from_step records v t fields s before k
 from_record records (Ended t) fields s before h = cc h
 
 -- and so all records
-from_records : (records : List (List (List ℕ))) (a : Stage) (more : List (List (List ℕ))) (s : Stage) → LeadsTo records a → after_records next_stage a more ≡ Ok s → LeadsTo (records ++ more) s
+from_records : (records : List (List (List ℕ))) (a : Stage) (more : List (List (List ℕ))) (s : Stage)
+    → LeadsTo records a → after_records next_stage a more ≡ Ok s → LeadsTo (records ++ more) s
 from_records records a [] s before h = let same : a ≡ s = cc h in rw (append-nil records, ← same) before
 from_records records a (fields ∷ more) s before h =
     let next = read_result (next_stage a fields) _ s h in
-    rw (← append_assoc records (fields ∷ []) more) (from_records (records ++ fields ∷ []) next.0 more s (from_record records a fields next.0 before next.1) next.2)
+    rw (← append_assoc records (fields ∷ []) more)
+    (from_records (records ++ fields ∷ []) next.0 more s (from_record records a fields next.0 before next.1) next.2)
 
-at_end : (records : List (List (List ℕ))) (s : Stage) (t : Recorded) → LeadsTo records s → trace_at_end s ≡ Ok t → IsTextTrace t × AreRecordsOf records t
+at_end : (records : List (List (List ℕ))) (s : Stage) (t : Recorded)
+    → LeadsTo records s → trace_at_end s ≡ Ok t → IsTextTrace t × AreRecordsOf records t
 at_end records Opening t before h = cc h
 at_end records (Sized v n f) t before h = cc h
 at_end records (Recording v u) t before h = cc h
 at_end records (Ended u) t before h = let same : u ≡ t = cc h in subst (λ z. IsTextTrace z × AreRecordsOf records z) same before
 
 -- records that give a trace are its records, and it is a trace
-pub accepted-records : (records : List (List (List ℕ))) (t : Recorded) → trace_of_records records ≡ Ok t → IsTextTrace t × AreRecordsOf records t
+pub accepted-records : (records : List (List (List ℕ))) (t : Recorded)
+    → trace_of_records records ≡ Ok t → IsTextTrace t × AreRecordsOf records t
 accepted-records records t h =
     let s = read_result (after_records next_stage Opening records) _ t h in
     at_end records s.0 t (from_records [] Opening records s.0 refl s.1) s.2

@@ -11,7 +11,8 @@ use Rattle.trace_text.specs.ByteLoops.{bytes_read}
 use Rattle.trace_text.specs.Faults.{one_more, Rose}
 
 -- what was read, up to a read of nothing at the end, is all there was
-pub all_read : (a b c : Option (List ℕ)) (text buf : List ℕ) (n : ℕ) → Consumes a b text → Consumes b c (take n buf) → n ≡ 0 → IsAtEnd c → IfSome a (λ xs. text ≡ xs)
+pub all_read : (a b c : Option (List ℕ)) (text buf : List ℕ) (n : ℕ)
+    → Consumes a b text → Consumes b c (take n buf) → n ≡ 0 → IsAtEnd c → IfSome a (λ xs. text ≡ xs)
 all_read None b c text buf n h k z e = tt
 all_read (Some xs) None c text buf n h k z e = absurd h
 all_read (Some xs) (Some ys) None text buf n h k z e = absurd k
@@ -24,11 +25,13 @@ pub rest_of_text : (text : List ℕ) (n : ℕ) → take (length text - n) (drop 
 rest_of_text text n = take_all (length text - n) (drop n text) (rw (length-drop n text) (omega arith))
 
 -- what went out, and then more of the text
-pub wrote_more : (a b c : Option (List ℕ)) (text : List ℕ) (n k : ℕ) → Appends a b (take n text) → Appends b c (take k (take (length text - n) (drop n text))) → Appends a c (take (n + k) text)
+pub wrote_more : (a b c : Option (List ℕ)) (text : List ℕ) (n k : ℕ)
+    → Appends a b (take n text) → Appends b c (take k (take (length text - n) (drop n text))) → Appends a c (take (n + k) text)
 wrote_more None b c text n k h m = tt
 wrote_more (Some xs) None c text n k h m = absurd h
 wrote_more (Some xs) (Some ys) None text n k h m = absurd m
-wrote_more (Some xs) (Some ys) (Some zs) text n k h m = rw (rest_of_text text n) at m ∙ rw h (append_assoc xs (take n text) (take k (drop n text)) ∙ ap (λ r. xs ++ r) (sym (take-add n k text)))
+wrote_more (Some xs) (Some ys) (Some zs) text n k h m = rw (rest_of_text text n) at m
+    ∙ rw h (append_assoc xs (take n text) (take k (drop n text)) ∙ ap (λ r. xs ++ r) (sym (take-add n k text)))
 
 -- more bytes came than there was room for, so there were more than the limit
 pub too_many : (a b c : Option (List ℕ)) (text buf : List ℕ) (n limit : ℕ) → Consumes a b text
@@ -69,7 +72,8 @@ nothing_read None text e = tt
 nothing_read (Some xs) text e = rw e refl
 
 -- the length grows by the count of bytes taken
-pub length_grows : (before after n : ℕ) (whole : List ℕ) (taken : Bool) → n ≤ length whole → taken ≡ true → after ≡ (if taken then before + length (take n whole) else before) → after ≡ before + n
+pub length_grows : (before after n : ℕ) (whole : List ℕ) (taken : Bool)
+    → n ≤ length whole → taken ≡ true → after ≡ (if taken then before + length (take n whole) else before) → after ≡ before + n
 length_grows before after n whole taken bound t g = rw (t, length-take-le n whole bound) at g
 
 -- a write that took a byte isn't idle

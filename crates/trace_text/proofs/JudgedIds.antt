@@ -32,15 +32,16 @@ and_assoc false q r = refl
 
 rising-more-from : (x : ℕ) (ys : List ℕ) (z : ℕ) → is_rising_from x (ys ++ z ∷ []) ≡ (is_rising_from x ys && is_above_last (x ∷ ys) z)
 rising-more-from x [] z = and_true (nat_lt x z)
-rising-more-from x (y ∷ ys) z = ap (λ b. nat_lt x y && b) (rising-more-from y ys z) ∙ and_assoc (nat_lt x y) (is_rising_from y ys) (is_above_last (y ∷ ys) z)
+rising-more-from x (y ∷ ys) z = ap (λ b. nat_lt x y && b) (rising-more-from y ys z)
+    ∙ and_assoc (nat_lt x y) (is_rising_from y ys) (is_above_last (y ∷ ys) z)
 
 -- one more id
 rising-more : (xs : List ℕ) (z : ℕ) → is_rising (xs ++ z ∷ []) ≡ (is_rising xs && is_above_last xs z)
 rising-more [] z = refl
 rising-more (x ∷ xs) z = rising-more-from x xs z
 
-judged-on : (t : Bool) (y z : ℕ) (ys : List ℕ) → (t && is_rising_from y ys) ≡ true → (is_rising_from y ys ≡ true → judged_after y (ys ++ z ∷ []) ≡ ys ++ z ∷ [])
-    → (y ∷ cond t (judged_after y (ys ++ z ∷ [])) []) ≡ y ∷ (ys ++ z ∷ [])
+judged-on : (t : Bool) (y z : ℕ) (ys : List ℕ) → (t && is_rising_from y ys) ≡ true → (is_rising_from y ys ≡ true
+    → judged_after y (ys ++ z ∷ []) ≡ ys ++ z ∷ []) → (y ∷ cond t (judged_after y (ys ++ z ∷ [])) []) ≡ y ∷ (ys ++ z ∷ [])
 judged-on true y z ys e more = ap (λ l. y ∷ l) (more e)
 judged-on false y z ys e more = cc e
 
@@ -53,7 +54,8 @@ judged-last : (xs : List ℕ) (z : ℕ) → is_rising xs ≡ true → judged (xs
 judged-last [] z e = refl
 judged-last (x ∷ xs) z e = ap (λ l. x ∷ l) (judged-last-from x xs z e)
 
-judged-all-on : (t : Bool) (y : ℕ) (ys : List ℕ) → (t && is_rising_from y ys) ≡ true → (is_rising_from y ys ≡ true → judged_after y ys ≡ ys) → (y ∷ cond t (judged_after y ys) []) ≡ y ∷ ys
+judged-all-on : (t : Bool) (y : ℕ) (ys : List ℕ) → (t && is_rising_from y ys) ≡ true
+    → (is_rising_from y ys ≡ true → judged_after y ys ≡ ys) → (y ∷ cond t (judged_after y ys) []) ≡ y ∷ ys
 judged-all-on true y ys e more = ap (λ l. y ∷ l) (more e)
 judged-all-on false y ys e more = cc e
 
@@ -66,8 +68,8 @@ pub judged-all : (xs : List ℕ) → is_rising xs ≡ true → judged xs ≡ xs
 judged-all [] e = refl
 judged-all (x ∷ xs) e = ap (λ l. x ∷ l) (judged-all-from x xs e)
 
-judged-past-on : (t : Bool) (y z : ℕ) (ys : List ℕ) → (t && is_rising_from y ys) ≡ false → (is_rising_from y ys ≡ false → judged_after y (ys ++ z ∷ []) ≡ judged_after y ys)
-    → (y ∷ cond t (judged_after y (ys ++ z ∷ [])) []) ≡ y ∷ cond t (judged_after y ys) []
+judged-past-on : (t : Bool) (y z : ℕ) (ys : List ℕ) → (t && is_rising_from y ys) ≡ false → (is_rising_from y ys ≡ false → judged_after y
+    (ys ++ z ∷ []) ≡ judged_after y ys) → (y ∷ cond t (judged_after y (ys ++ z ∷ [])) []) ≡ y ∷ cond t (judged_after y ys) []
 judged-past-on true y z ys e more = ap (λ l. y ∷ l) (more e)
 judged-past-on false y z ys e more = refl
 
@@ -82,7 +84,8 @@ judged-past (x ∷ xs) z e = ap (λ l. x ∷ l) (judged-past-from x xs z e)
 pub kept-none : AreKept [] [] true
 kept-none = record { ids = refl; rising = refl }
 
-pub kept-more : (all kept : List ℕ) (id : ℕ) (rises : Bool) → AreKept all kept true → rises ≡ is_above_last kept id → AreKept (all ++ id ∷ []) (kept ++ id ∷ []) rises
+pub kept-more : (all kept : List ℕ) (id : ℕ) (rises : Bool)
+    → AreKept all kept true → rises ≡ is_above_last kept id → AreKept (all ++ id ∷ []) (kept ++ id ∷ []) rises
 kept-more all kept id rises h e =
     let whole : judged all ≡ all = judged-all all (sym h.rising) in
     let same : kept ≡ all = h.ids ∙ whole in
@@ -118,7 +121,8 @@ above-none (x ∷ ys) id e =
     let at : length (x ∷ ys) - 1 ≡ length ys = omega arith in
     absurd (above-none-of x ys id (rw at at e))
 
-rising-judged-on : (t : Bool) (y : ℕ) (ys : List ℕ) → is_rising_from y (judged_after y ys) ≡ is_rising_from y ys → (t && is_rising_from y (cond t (judged_after y ys) [])) ≡ (t && is_rising_from y ys)
+rising-judged-on : (t : Bool) (y : ℕ) (ys : List ℕ) → is_rising_from y (judged_after y ys) ≡ is_rising_from y ys
+    → (t && is_rising_from y (cond t (judged_after y ys) [])) ≡ (t && is_rising_from y ys)
 rising-judged-on true y ys h = h
 rising-judged-on false y ys h = refl
 
@@ -141,18 +145,21 @@ pushed-refused v t tick x y true false c d = refl
 pushed-refused v t tick x y false b c d = refl
 
 -- a Receive is pushed or refused as its judged ids say
-pushed-judged : (v : Version) (t : Recorded) (tick p : ℕ) (ends : Bool) (ids : List ℕ)
-    → pushed v t tick (record { proc = p; act = Receive ends (judged ids) }) (refusal_in t tick (record { proc = p; act = Receive ends (judged ids) }))
+pushed-judged : (v : Version) (t : Recorded) (tick p : ℕ) (ends : Bool) (ids : List ℕ) → pushed v t tick
+    (record { proc = p; act = Receive ends (judged ids) }) (refusal_in t tick (record { proc = p; act = Receive ends (judged ids) }))
     ≡ pushed v t tick (record { proc = p; act = Receive ends ids }) (refusal_in t tick (record { proc = p; act = Receive ends ids }))
 pushed-judged v t tick p ends ids = go (is_rising ids) refl where
-  go : (r : Bool) → is_rising ids ≡ r
-      → pushed v t tick (record { proc = p; act = Receive ends (judged ids) }) (refusal_in t tick (record { proc = p; act = Receive ends (judged ids) }))
+  go : (r : Bool) → is_rising ids ≡ r → pushed v t tick
+      (record { proc = p; act = Receive ends (judged ids) }) (refusal_in t tick (record { proc = p; act = Receive ends (judged ids) }))
       ≡ pushed v t tick (record { proc = p; act = Receive ends ids }) (refusal_in t tick (record { proc = p; act = Receive ends ids }))
-  go true e = ap (λ l. pushed v t tick (record { proc = p; act = Receive ends l }) (refusal_in t tick (record { proc = p; act = Receive ends l }))) (judged-all ids e)
+  go true e = ap (λ l. pushed v t tick (record { proc = p; act = Receive ends l })
+      (refusal_in t tick (record { proc = p; act = Receive ends l }))) (judged-all ids e)
   go false e =
       let f : is_rising (judged ids) ≡ false = rising-judged ids ∙ e in
-      rw (e, f) (pushed-refused v t tick (record { proc = p; act = Receive ends (judged ids) }) (record { proc = p; act = Receive ends ids })
-      (nat_lt (length t.steps) MAX_STEPS) (nat_lt 0 tick && may_end_in t tick) (is_proc t.config p) (comes_after_last t.steps t.ticks tick p))
+      rw (e, f)
+      (pushed-refused v t tick (record { proc = p; act = Receive ends (judged ids) }) (record { proc = p; act = Receive ends ids })
+      (nat_lt (length t.steps) MAX_STEPS) (nat_lt 0 tick && may_end_in t tick)
+      (is_proc t.config p) (comes_after_last t.steps t.ticks tick p))
 
 -- what a tick and a step lead to
 abbrev push : Version → Recorded → ℕ × Step → Result Stage TextError
@@ -166,8 +173,8 @@ receive-judged v t tick p ends e (Some ids) = pushed-judged v t tick p ends ids
 
 -- the steps of a record, by the options of what its fields say
 abbrev step_by : ℕ → (Operation → List ℕ → Option Act) → Option Operation → Option ℕ → Option ℕ → List ℕ → Result (ℕ × Step) TextError
-step_by at act o tick p arg =
-    ok_or o (BadOp at) >>= λ o. ok_or tick (BadNumber at) >>= λ tick. ok_or p (BadNumber at) >>= λ p. ok_or (act o arg) (BadNumber at) >>= λ a. Ok (tick, record { proc = p; act = a })
+step_by at act o tick p arg = ok_or o (BadOp at) >>= λ o. ok_or tick (BadNumber at)
+    >>= λ tick. ok_or p (BadNumber at) >>= λ p. ok_or (act o arg) (BadNumber at) >>= λ a. Ok (tick, record { proc = p; act = a })
 
 into : {A B C : Type 0} (r : Result A TextError) (f : A → B) (g : B → Result C TextError) → (r >>= λ a. Ok (f a)) >>= g ≡ r >>= λ a. g (f a)
 into (Ok a) f g = refl

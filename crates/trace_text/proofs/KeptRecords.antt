@@ -11,7 +11,8 @@ or_true : (b : Bool) → (b || true) ≡ true
 or_true true = refl
 or_true false = refl
 
-pub wants-numbered : (v : Version) (t : Recorded) (fields : List (List ℕ)) (result : Result ⊤ TextError) → is_numbered v (length t.steps + 1) fields ≡ true
-    → WantsOnlyWhere is_memory result (step_keeps v (length t.steps + 1) fields) → WantsOnlyWhere is_memory result (step_record_keeps v t fields)
+pub wants-numbered : (v : Version) (t : Recorded) (fields : List (List ℕ)) (result : Result ⊤ TextError)
+    → is_numbered v (length t.steps + 1) fields ≡ true → WantsOnlyWhere is_memory result (step_keeps v (length t.steps + 1) fields)
+    → WantsOnlyWhere is_memory result (step_record_keeps v t fields)
 wants-numbered v t fields (Ok x) at h = tt
 wants-numbered v t fields (Err e) at h = λ m. let kept = h m in rw (at, kept) (or_true (is_ok (step_stage v t fields)))

@@ -27,12 +27,14 @@ line-read (x ∷ y ∷ ys) tail two plain = rw (← row_text-plain false (x ∷ 
 Reached-lines : (rs : List (List (List ℕ))) → AreLines rs → Reached default_config st.StartRecord (text_of_records rs) rs st.StartRecord []
 unfolding Reached
 Reached-lines [] lines = (refl, refl)
-Reached-lines (r ∷ rs) lines = ((r, st.StartRecord, text_of_records rs), line-read r (text_of_records rs) lines.0 lines.1, refl, Reached-lines rs lines.2)
+Reached-lines (r ∷ rs) lines =
+    ((r, st.StartRecord, text_of_records rs), line-read r (text_of_records rs) lines.0 lines.1, refl, Reached-lines rs lines.2)
 
 pub end-read : next_record default_config st.StartRecord [] [] [] ≡ None
 unfolding next_record
 end-read = refl
 
 -- the text of such records, if it begins with no byte order mark, is read as these
-pub lines-read : (rs : List (List (List ℕ))) → AreLines rs → strip_bom (text_of_records rs) ≡ text_of_records rs → records_of_text (text_of_records rs) ≡ rs
+pub lines-read : (rs : List (List (List ℕ))) → AreLines rs
+    → strip_bom (text_of_records rs) ≡ text_of_records rs → records_of_text (text_of_records rs) ≡ rs
 lines-read rs lines no_mark = rw no_mark (are-records (text_of_records rs) rs (st.StartRecord, [], Reached-lines rs lines, end-read))

@@ -20,7 +20,8 @@ use Rattle.trace_text.specs.TextRefusals.{numbers_of, begins_with_number, parts_
 use Rattle.trace_text.proofs.Numbers.{own, number_of-decimal, number_of-some}
 
 -- one more field that is a number
-pub numbers_of-more : (fs : List (List ℕ)) (ns : List ℕ) (f : List ℕ) (n : ℕ) → numbers_of fs ≡ Some ns → number_of f ≡ Some n → numbers_of (fs ++ f ∷ []) ≡ Some (ns ++ n ∷ [])
+pub numbers_of-more : (fs : List (List ℕ)) (ns : List ℕ) (f : List ℕ) (n : ℕ)
+    → numbers_of fs ≡ Some ns → number_of f ≡ Some n → numbers_of (fs ++ f ∷ []) ≡ Some (ns ++ n ∷ [])
 numbers_of-more [] ns f n h k = let e : [] ≡ ns = cc in rw (← e, k) refl
 numbers_of-more (g ∷ fs) ns f n h k = first (λ ms b. numbers_of-more fs ms f n b k) (number_of g) (numbers_of fs) refl refl h where
   first : ((ms : List ℕ) → numbers_of fs ≡ Some ms → numbers_of (fs ++ f ∷ []) ≡ Some (ms ++ n ∷ []))
@@ -40,13 +41,15 @@ numbers_of-stops (g ∷ fs) rest f k = rw (numbers_of-stops fs rest f k) (none (
   none (Some n) = refl
 
 -- the field at the place k is read, after those before it
-pub numbers_of-turn : (fs : List (List ℕ)) (k : ℕ) (ns : List ℕ) (f : List ℕ) (n : ℕ) (d : List ℕ) → k < length fs → f ≡ get_or fs k d → numbers_of (take k fs) ≡ Some ns → number_of f ≡ Some n
-    → numbers_of (take (suc k) fs) ≡ Some (ns ++ n ∷ [])
+pub numbers_of-turn : (fs : List (List ℕ)) (k : ℕ) (ns : List ℕ) (f : List ℕ) (n : ℕ) (d : List ℕ) → k < length fs
+    → f ≡ get_or fs k d → numbers_of (take k fs) ≡ Some ns → number_of f ≡ Some n → numbers_of (take (suc k) fs) ≡ Some (ns ++ n ∷ [])
 numbers_of-turn fs k ns f n d l e h m = rw (take-suc fs k d l, ← e) (numbers_of-more (take k fs) ns f n h m)
 
-pub numbers_of-turn_none : (fs : List (List ℕ)) (k : ℕ) (f : List ℕ) (d : List ℕ) → k < length fs → f ≡ get_or fs k d → number_of f ≡ None → numbers_of fs ≡ None
+pub numbers_of-turn_none : (fs : List (List ℕ)) (k : ℕ) (f : List ℕ) (d : List ℕ)
+    → k < length fs → f ≡ get_or fs k d → number_of f ≡ None → numbers_of fs ≡ None
 numbers_of-turn_none fs k f d l e m =
-    let whole : fs ≡ take k fs ++ (f ∷ drop (suc k) fs) = sym (take-append-drop k fs) ∙ ap (λ r. take k fs ++ r) (drop-cons fs k d l ∙ ap (λ g. g ∷ drop (suc k) fs) (sym e)) in
+    let whole : fs ≡ take k fs ++ (f ∷ drop (suc k) fs) = sym (take-append-drop k fs)
+    ∙ ap (λ r. take k fs ++ r) (drop-cons fs k d l ∙ ap (λ g. g ∷ drop (suc k) fs) (sym e)) in
     ap numbers_of whole ∙ numbers_of-stops (take k fs) (drop (suc k) fs) f m
 
 -- the field of a place
@@ -59,7 +62,8 @@ field_of-get_or (f ∷ fs) (suc k) = field_of-get_or fs k
 -- the texts of numbers are read as these numbers
 pub numbers_of-decimals : (ns : List ℕ) → All (λ n. n < 2 ^ 64) ns → numbers_of (map decimal ns) ≡ Some ns
 numbers_of-decimals [] h = refl
-numbers_of-decimals (n ∷ ns) h = rw (number_of-decimal n (All-head (λ n. n < 2 ^ 64) n ns h), numbers_of-decimals ns (All-tail (λ n. n < 2 ^ 64) n ns h)) refl
+numbers_of-decimals (n ∷ ns) h =
+    rw (number_of-decimal n (All-head (λ n. n < 2 ^ 64) n ns h), numbers_of-decimals ns (All-tail (λ n. n < 2 ^ 64) n ns h)) refl
 
 -- and nothing else is
 pub numbers_of-some : (fs : List (List ℕ)) (ns : List ℕ) → numbers_of fs ≡ Some ns → (fs ≡ map decimal ns) × All (λ n. n < 2 ^ 64) ns
@@ -86,10 +90,12 @@ no_space (d ∷ ds) h = All-cons (λ c. (c == 32) ≡ false) d ds (go (d == 32) 
   go false e = refl
 
 -- numbers with one space between them are cut into their texts
-slice_split-decimals : (n : ℕ) (ns : List ℕ) → All (λ n. n < 2 ^ 64) (n ∷ ns) → slice_split (λ c. c == 32) (join_with_byte 32 (map decimal (n ∷ ns))) ≡ map decimal (n ∷ ns)
-slice_split-decimals n [] h = slice_split_none (λ c. c == 32) (decimal n) (no_space (decimal n) (digits_decimal own n (All-head (λ n. n < 2 ^ 64) n [] h)))
-slice_split-decimals n (m ∷ ns) h =
-    slice_split_at (λ c. c == 32) (decimal n) 32 (join_with_byte 32 (map decimal (m ∷ ns))) (no_space (decimal n) (digits_decimal own n (All-head (λ n. n < 2 ^ 64) n (m ∷ ns) h))) refl
+slice_split-decimals : (n : ℕ) (ns : List ℕ) → All (λ n. n < 2 ^ 64) (n ∷ ns)
+    → slice_split (λ c. c == 32) (join_with_byte 32 (map decimal (n ∷ ns))) ≡ map decimal (n ∷ ns)
+slice_split-decimals n [] h = slice_split_none (λ c. c == 32)
+    (decimal n) (no_space (decimal n) (digits_decimal own n (All-head (λ n. n < 2 ^ 64) n [] h)))
+slice_split-decimals n (m ∷ ns) h = slice_split_at (λ c. c == 32) (decimal n) 32
+    (join_with_byte 32 (map decimal (m ∷ ns))) (no_space (decimal n) (digits_decimal own n (All-head (λ n. n < 2 ^ 64) n (m ∷ ns) h))) refl
     ∙ ap (λ r. decimal n ∷ r) (slice_split-decimals m ns (All-tail (λ n. n < 2 ^ 64) n (m ∷ ns) h))
 
 -- the ids of a field that isn't empty
@@ -115,7 +121,8 @@ ids_of-one arg n h =
 
 pub ids_of-some : (arg ns : List ℕ) → ids_of arg ≡ Some ns → arg ≡ join_with_byte 32 (map decimal ns)
 ids_of-some [] ns h = let e : [] ≡ ns = cc in rw (← e) refl
-ids_of-some (b ∷ bs) ns h = sym (join_with_byte-slice_split 32 (b ∷ bs)) ∙ ap (λ fs. join_with_byte 32 fs) (numbers_of-some (slice_split (λ c. c == 32) (b ∷ bs)) ns h).0
+ids_of-some (b ∷ bs) ns h = sym (join_with_byte-slice_split 32 (b ∷ bs))
+    ∙ ap (λ fs. join_with_byte 32 fs) (numbers_of-some (slice_split (λ c. c == 32) (b ∷ bs)) ns h).0
 
 -- the same, of the fields after the first
 field_of-after_first : (fs : List (List ℕ)) (i : ℕ) → 1 ≤ i → field_of fs i ≡ get_or (drop 1 fs) (i - 1) []
@@ -133,20 +140,23 @@ pub values-turn : (fs : List (List ℕ)) (i : ℕ) (ns items f : List ℕ) (n : 
     → numbers_of (take (i + 1 - 1) (drop 1 fs)) ≡ Some items
 values-turn fs i ns items f n low high same before this e =
     let place : i + 1 - 1 ≡ suc (i - 1) = omega (arith, low) in
-    rw (place, e) (numbers_of-turn (drop 1 fs) (i - 1) ns f n [] (after_first-within fs i low high) (same ∙ field_of-after_first fs i low) before this)
+    rw (place, e) (numbers_of-turn (drop 1 fs) (i - 1) ns f n
+    [] (after_first-within fs i low high) (same ∙ field_of-after_first fs i low) before this)
 
-pub values-turn_none : (fs : List (List ℕ)) (i : ℕ) (f : List ℕ) → 1 ≤ i → i < length fs → f ≡ field_of fs i → number_of f ≡ None → numbers_of (drop 1 fs) ≡ None
-values-turn_none fs i f low high same none = numbers_of-turn_none (drop 1 fs) (i - 1) f [] (after_first-within fs i low high) (same ∙ field_of-after_first fs i low) none
+pub values-turn_none : (fs : List (List ℕ)) (i : ℕ) (f : List ℕ)
+    → 1 ≤ i → i < length fs → f ≡ field_of fs i → number_of f ≡ None → numbers_of (drop 1 fs) ≡ None
+values-turn_none fs i f low high same none = numbers_of-turn_none
+    (drop 1 fs) (i - 1) f [] (after_first-within fs i low high) (same ∙ field_of-after_first fs i low) none
 
 -- if a number was read, the first text is a number: it is this one, or it was read before
-pub begins_with_number-turn : (fs : List (List ℕ)) (k : ℕ) (f : List ℕ) (n : ℕ) (d : List ℕ) → (0 < k → IsTrue (begins_with_number fs)) → k < length fs
-    → f ≡ get_or fs k d → number_of f ≡ Some n → IsTrue (begins_with_number fs)
+pub begins_with_number-turn : (fs : List (List ℕ)) (k : ℕ) (f : List ℕ) (n : ℕ) (d : List ℕ)
+    → (0 < k → IsTrue (begins_with_number fs)) → k < length fs → f ≡ get_or fs k d → number_of f ≡ Some n → IsTrue (begins_with_number fs)
 begins_with_number-turn [] k f n d before l e h = absurd (omega (arith, l))
 begins_with_number-turn (g ∷ fs) zero f n d before l e h = let same : number_of g ≡ Some n = sym (ap number_of e) ∙ h in rw same refl
 begins_with_number-turn (g ∷ fs) (suc k) f n d before l e h = before (omega arith)
 
 -- the same, of the fields after the first
-pub begins_after_first-turn : (fs : List (List ℕ)) (i : ℕ) (f : List ℕ) (n : ℕ) → (1 < i → IsTrue (begins_with_number (drop 1 fs))) → 1 ≤ i → i < length fs
-    → f ≡ field_of fs i → number_of f ≡ Some n → IsTrue (begins_with_number (drop 1 fs))
-begins_after_first-turn fs i f n before low high e h =
-    begins_with_number-turn (drop 1 fs) (i - 1) f n [] (λ some. before (omega (arith, some))) (after_first-within fs i low high) (e ∙ field_of-after_first fs i low) h
+pub begins_after_first-turn : (fs : List (List ℕ)) (i : ℕ) (f : List ℕ) (n : ℕ) → (1 < i → IsTrue (begins_with_number (drop 1 fs)))
+    → 1 ≤ i → i < length fs → f ≡ field_of fs i → number_of f ≡ Some n → IsTrue (begins_with_number (drop 1 fs))
+begins_after_first-turn fs i f n before low high e h = begins_with_number-turn (drop 1 fs)
+    (i - 1) f n [] (λ some. before (omega (arith, some))) (after_first-within fs i low high) (e ∙ field_of-after_first fs i low) h

@@ -43,13 +43,15 @@ some-cond false d v n h = cc
 pub number_of-some : (field : List ℕ) (n : ℕ) → number_of field ≡ Some n → (field ≡ decimal n) × (n < 2 ^ 64)
 unfolding number_of
 number_of-some field n h =
-    let s = some-cond (nat_lt (digits_value 10 field) (2 ^ 64)) (bytes_eq field (decimal (digits_value 10 field))) (digits_value 10 field) n h in
+    let s = some-cond (nat_lt (digits_value 10 field) (2 ^ 64))
+    (bytes_eq field (decimal (digits_value 10 field))) (digits_value 10 field) n h in
     let same : field ≡ decimal (digits_value 10 field) = same-from_bytes_eq field _ s.1 in
     let small : digits_value 10 field < 2 ^ 64 = let t = s.0 in grind (arith, nat_tests) in
     (rw (← s.2) same, rw (← s.2) small)
 
 -- what reads a field's number so reads `number_of`
-pub number_of-read : (field : List ℕ) (r : Option ℕ) → IfSome r (λ n. n < 2 ^ 64) → IfSome r (λ n. field ≡ decimal n) → IfNone r ((n : ℕ) → n < 2 ^ 64 → field ≢ decimal n) → r ≡ number_of field
+pub number_of-read : (field : List ℕ) (r : Option ℕ) → IfSome r (λ n. n < 2 ^ 64)
+    → IfSome r (λ n. field ≡ decimal n) → IfNone r ((n : ℕ) → n < 2 ^ 64 → field ≢ decimal n) → r ≡ number_of field
 number_of-read field (Some n) small some none = sym (ap number_of some ∙ number_of-decimal n small)
 number_of-read field None small some none = go (number_of field) refl where
   go : (o : Option ℕ) → number_of field ≡ o → None ≡ o
@@ -68,4 +70,5 @@ bytes_eq-decimal field n m h e = go (m == n) refl where
       cc))
 
 pub bytes_eq-no_number : (field : List ℕ) (n : ℕ) → n < 2 ^ 64 → number_of field ≡ None → false ≡ bytes_eq field (decimal n)
-bytes_eq-no_number field n h e = sym (bytes_eq-other field (decimal n) (λ same. let value = sym e ∙ ap number_of same ∙ number_of-decimal n h in cc))
+bytes_eq-no_number field n h e =
+    sym (bytes_eq-other field (decimal n) (λ same. let value = sym e ∙ ap number_of same ∙ number_of-decimal n h in cc))

@@ -9,7 +9,8 @@ use Rattle.trace_text.specs.TraceTexts.{HasTextsOf, counts_from, is_one_per_tick
 
 counts-values : (at : ℕ) (ts : List ℕ) → counts_from at ts ≡ true → (i : ℕ) → i < length ts → slice_index_or ts i 0 ≡ at + i
 counts-values at [] h i l = absurd (omega (arith, l))
-counts-values at (t ∷ ts) h zero l = let p = and_parts (t == at) (counts_from (at + 1) ts) h in let e = eqb-true t at p.0 in omega (arith, e)
+counts-values at (t ∷ ts) h zero l = let p = and_parts (t == at) (counts_from (at + 1) ts) h in
+    let e = eqb-true t at p.0 in omega (arith, e)
 counts-values at (t ∷ ts) h (suc i) l =
     let p = and_parts (t == at) (counts_from (at + 1) ts) h in
     let more = counts-values (at + 1) ts p.1 i (let m : suc i < suc (length ts) = l in omega (arith, m)) in
@@ -19,7 +20,8 @@ values-count : (at : ℕ) (ts : List ℕ) → ((i : ℕ) → i < length ts → s
 values-count at [] h = refl
 values-count at (t ∷ ts) h =
     let first : t ≡ at = (let e = h zero (let l : 0 < suc (length ts) = omega arith in l) in omega (arith, e)) in
-    let more = values-count (at + 1) ts (λ i l. let e = h (suc i) (let m : suc i < suc (length ts) = omega (arith, l) in m) in omega (arith, e)) in
+    let more = values-count (at + 1) ts (λ i l. let e = h (suc i) (let m : suc i < suc (length ts) = omega (arith, l) in m) in
+    omega (arith, e)) in
     rw (eq-eqb t at first, more) refl
 
 pub IsOnePerTick-from_test : (t : Recorded) → IsTimed t → is_one_per_tick t ≡ true → IsOnePerTick t
@@ -34,7 +36,8 @@ IsOnePerTick-from_test t time h =
 pub test-from_IsOnePerTick : (t : Recorded) → IsTimed t → IsOnePerTick t → is_one_per_tick t ≡ true
 unfolding is_one_per_tick
 test-from_IsOnePerTick t time one =
-    let count = values-count 1 t.ticks (λ i l. let long = time.each in let e = one.each (suc i) (omega (arith, l, long)) in let f : slice_index_or t.ticks i 0 ≡ suc i = e in omega (arith, f)) in
+    let count = values-count 1 t.ticks (λ i l. let long = time.each in
+    let e = one.each (suc i) (omega (arith, l, long)) in let f : slice_index_or t.ticks i 0 ≡ suc i = e in omega (arith, f)) in
     rw (eq-eqb t.last (length t.steps) one.end, count) refl
 
 -- a trace with a step out of its turn, or an end elsewhere

@@ -11,7 +11,12 @@ use Rattle.trace_text.specs.Records.{record_line}
 use Rattle.trace_text.specs.RecordWriting.{our_writer, IsPlain, ArePlain}
 
 plain_digit : (d : ℕ) → d < 10 → needs_byte our_writer (48 + d) ≡ false
-plain_digit d l = rw (ne_eqb (48 + d) 44 (λ e. omega arith), ne_eqb (48 + d) 34 (λ e. omega arith), ne_eqb (48 + d) 13 (λ e. omega arith), ne_eqb (48 + d) 10 (λ e. omega arith)) refl
+plain_digit d l = rw (
+  ne_eqb (48 + d) 44 (λ e. omega arith),
+  ne_eqb (48 + d) 34 (λ e. omega arith),
+  ne_eqb (48 + d) 13 (λ e. omega arith),
+  ne_eqb (48 + d) 10 (λ e. omega arith),
+) refl
 
 digit-modulo : (n : ℕ) → n % 10 < 10
 digit-modulo n = omega arith
@@ -34,13 +39,16 @@ writer_of flexible = record default_writer { flexible = flexible }
 plain_text : (flexible : Bool) (field : List ℕ) → IsPlain field → field_text (writer_of flexible) field ≡ field
 plain_text flexible field plain = rw plain refl
 
-plain_rest : (flexible : Bool) (field : List ℕ) (rest : List (List ℕ)) → ArePlain rest → field ++ fields_text (writer_of flexible) rest ≡ join_with_byte 44 (field ∷ rest)
+plain_rest : (flexible : Bool) (field : List ℕ) (rest : List (List ℕ))
+    → ArePlain rest → field ++ fields_text (writer_of flexible) rest ≡ join_with_byte 44 (field ∷ rest)
 unfolding fields_text
 plain_rest flexible field [] plain = append-nil field
-plain_rest flexible field (next ∷ rest) plain = rw (plain_text flexible next plain.0) (ap (λ (t : List ℕ). field ++ (44 ∷ t)) (plain_rest flexible next rest plain.1))
+plain_rest flexible field (next ∷ rest) plain = rw (plain_text flexible next plain.0)
+    (ap (λ (t : List ℕ). field ++ (44 ∷ t)) (plain_rest flexible next rest plain.1))
 
 -- a record of plain fields, more than one, is written as its fields with commas
-pub row_text-plain : (flexible : Bool) (fields : List (List ℕ)) → 2 ≤ length fields → ArePlain fields → row_text (writer_of flexible) fields ≡ record_line fields
+pub row_text-plain : (flexible : Bool) (fields : List (List ℕ))
+    → 2 ≤ length fields → ArePlain fields → row_text (writer_of flexible) fields ≡ record_line fields
 unfolding is_blank
 row_text-plain flexible [] two plain = absurd (omega arith)
 row_text-plain flexible (field ∷ []) two plain = absurd (omega arith)

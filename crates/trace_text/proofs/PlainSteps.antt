@@ -53,10 +53,17 @@ pub record ArePlainFields (tick : Option ℕ) (operation proc arg : List ℕ) : 
   pub plain_proc : IsPlain proc
   pub plain_arg : IsPlain arg
 
-pub plain-step : (at : ℕ) (tick : Option ℕ) (operation proc arg : List ℕ) (x : ℕ × Step) → judged_of at tick operation proc arg ≡ Ok x → ArePlainFields tick operation proc arg
+pub plain-step : (at : ℕ) (tick : Option ℕ) (operation proc arg : List ℕ) (x : ℕ × Step)
+    → judged_of at tick operation proc arg ≡ Ok x → ArePlainFields tick operation proc arg
 plain-step at tick operation proc arg x h =
     let o = read_part (operation_of operation) (BadOp at) _ x h in
     let t = read_part tick (BadNumber at) _ x o.2 in
     let p = read_part (number_of proc) (BadNumber at) _ x t.2 in
     let a = read_part (judged_act_of o.0 arg) (BadNumber at) _ x p.2 in
-    record { value = t.0; is = t.1; plain_operation = plain-operation operation o.0 o.1; plain_proc = plain-number proc p.0 p.1; plain_arg = plain-arg o.0 arg a.0 a.1 }
+    record {
+      value = t.0;
+      is = t.1;
+      plain_operation = plain-operation operation o.0 o.1;
+      plain_proc = plain-number proc p.0 p.1;
+      plain_arg = plain-arg o.0 arg a.0 a.1;
+    }

@@ -27,18 +27,20 @@ IsTimed-front : (c : Setup) (xs ys : List Step) (ts us : List ℕ) (last : ℕ) 
     → IsTrace (record { config = c; steps = xs ++ ys; ticks = ts ++ us; last = last }) → IsTimed (so_far c xs ts)
 IsTimed-front c xs ys ts us last long w = record {
   each = long;
-  end = let high = tick_of-limit whole w.time (length xs) in let end = w.time.end in let e = same (length xs) (omega arith) in omega (arith, high, end, e);
+  end = let high = tick_of-limit whole w.time (length xs) in
+      let end = w.time.end in let e = same (length xs) (omega arith) in omega (arith, high, end, e);
   inside = λ k x h.
       let m = w.time.inside k x (step_at-prefix_old xs ys k x h) in
       let within = step_at_within xs k x h in
       let at = last_step xs k within.0 within.1 in
       let e = same k within.1 in
       let f = same (length xs) (omega arith) in
-      let up = ticks_rise whole w.time k (length xs) x at.0 (step_at-prefix_old xs ys k x h) (step_at-prefix_old xs ys (length xs) at.0 at.1) within.1 in
+      let up = ticks_rise whole w.time k (length xs) x at.0
+      (step_at-prefix_old xs ys k x h) (step_at-prefix_old xs ys (length xs) at.0 at.1) within.1 in
       let low = m.0 in
       (omega (arith, low, e), omega (arith, up, e, f));
-  order = λ j k a b l h g.
-      order j k a b (same j (step_at_within xs j a h).1) (same k (step_at_within xs k b g).1) (w.time.order j k a b l (step_at-prefix_old xs ys j a h) (step_at-prefix_old xs ys k b g));
+  order = λ j k a b l h g. order j k a b (same j (step_at_within xs j a h).1)
+      (same k (step_at_within xs k b g).1) (w.time.order j k a b l (step_at-prefix_old xs ys j a h) (step_at-prefix_old xs ys k b g));
   later = λ k s t.
       let m = w.time.later k s (TakesAt-prefix xs ys k s t) in
       let here = (step_at_within xs k t.0 t.1).1 in
@@ -53,25 +55,30 @@ IsTimed-front c xs ys ts us last long w = record {
   same : (k : ℕ) → k ≤ length xs → tick_at (ts ++ us) k ≡ tick_at ts k
   same k l = tick_kept (ts ++ us) ts (record { more = us; whole = refl }) k (omega (arith, l, long))
 
-  order : (j k : ℕ) (a b : Step) → tick_at (ts ++ us) j ≡ tick_at ts j → tick_at (ts ++ us) k ≡ tick_at ts k → ComesBefore whole j a k b → ComesBefore (so_far c xs ts) j a k b
+  order : (j k : ℕ) (a b : Step) → tick_at (ts ++ us) j ≡ tick_at ts j
+      → tick_at (ts ++ us) k ≡ tick_at ts k → ComesBefore whole j a k b → ComesBefore (so_far c xs ts) j a k b
   order j k a b e f (inl l) = inl (omega (arith, l, e, f))
   order j k a b e f (inr l) = inr (sym e ∙ l.0 ∙ f, l.1)
 
 -- and are well formed
 pub IsTrace-front : (c : Setup) (xs ys : List Step) (ts us : List ℕ) (last : ℕ) → length ts ≡ length xs
     → IsTrace (record { config = c; steps = xs ++ ys; ticks = ts ++ us; last = last }) → IsTrace (so_far c xs ts)
-IsTrace-front c xs ys ts us last long w = record { steps = IsWellFormed-prefix c xs ys w.steps; time = IsTimed-front c xs ys ts us last long w }
+IsTrace-front c xs ys ts us last long w =
+    record { steps = IsWellFormed-prefix c xs ys w.steps; time = IsTimed-front c xs ys ts us last long w }
 
 -- the next step is appended to those before it
-pub with_next : (c : Setup) (xs : List Step) (ts : List ℕ) (x : Step) (t : ℕ) → length ts ≡ length xs → with_step (so_far c xs ts) t x ≡ so_far c (xs ++ x ∷ []) (ts ++ t ∷ [])
+pub with_next : (c : Setup) (xs : List Step) (ts : List ℕ) (x : Step) (t : ℕ)
+    → length ts ≡ length xs → with_step (so_far c xs ts) t x ≡ so_far c (xs ++ x ∷ []) (ts ++ t ∷ [])
 with_next c xs ts x t long =
     let count = length-append xs (x ∷ []) in
     let place : suc (length ts) ≡ length (xs ++ x ∷ []) = omega (arith, count, long) in
-    let last : t ≡ tick_at (ts ++ t ∷ []) (length (xs ++ x ∷ [])) = subst (λ n. t ≡ tick_at (ts ++ t ∷ []) n) place (sym (tick_at-push_last ts t)) in
+    let last : t ≡ tick_at (ts ++ t ∷ []) (length (xs ++ x ∷ [])) =
+    subst (λ n. t ≡ tick_at (ts ++ t ∷ []) n) place (sym (tick_at-push_last ts t)) in
     ap (λ n. record { config = c; steps = xs ++ x ∷ []; ticks = ts ++ t ∷ []; last = n }) last
 
 -- and may be
-pub CanAppend-next : (c : Setup) (xs : List Step) (ts : List ℕ) (x : Step) (t : ℕ) → length ts ≡ length xs → IsTrace (so_far c (xs ++ x ∷ []) (ts ++ t ∷ [])) → CanAppend (so_far c xs ts) t x
+pub CanAppend-next : (c : Setup) (xs : List Step) (ts : List ℕ) (x : Step) (t : ℕ)
+    → length ts ≡ length xs → IsTrace (so_far c (xs ++ x ∷ []) (ts ++ t ∷ [])) → CanAppend (so_far c xs ts) t x
 CanAppend-next c xs ts x t long w =
     let same = with_next c xs ts x t long in
     let sound : IsTrace (with_step (so_far c xs ts) t x) = subst (λ (z : Recorded). IsTrace z) (sym same) w in

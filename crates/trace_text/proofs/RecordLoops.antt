@@ -31,11 +31,20 @@ pub bytes_left : Reader (Bor (List ℕ)) → ℕ
 bytes_left reader = length_of (source_of bytes_of reader)
 
 -- one more record
-pub HasRead-more : (text : List ℕ) (a b : Reader (Bor (List ℕ))) (done : List (List (List ℕ))) (fields : List (List ℕ))
-    → HasRead text a done → ReadRecord bytes_of a b true fields → b.first ≡ true → b.flexible ≡ a.flexible → HasRead text b (done ++ (fields ∷ []))
+pub HasRead-more : (text : List ℕ) (a b : Reader (Bor (List ℕ))) (done : List (List (List ℕ))) (fields : List (List ℕ)) → HasRead
+    text a done → ReadRecord bytes_of a b true fields → b.first ≡ true → b.flexible ≡ a.flexible → HasRead text b (done ++ (fields ∷ []))
 HasRead-more text a b done fields h r first same =
     let m = rows-more bytes_of a b fields default_config st.StartRecord (strip_bom text) h.left done h.config h.source h.reached r in
-    record { plain = r.3 ∙ h.plain; flexible = same ∙ h.flexible; ready = inl first; config = r.2 ∙ h.config; left = m.0; source = m.1; reached = m.2 }
+    record {
+      plain = r.3 ∙ h.plain;
+      flexible = same
+          ∙ h.flexible;
+      ready = inl first;
+      config = r.2 ∙ h.config;
+      left = m.0;
+      source = m.1;
+      reached = m.2;
+    }
 
 -- a record takes a byte
 pub HasRead-less : (text : List ℕ) (a b : Reader (Bor (List ℕ))) (done : List (List (List ℕ))) (fields : List (List ℕ))
@@ -43,7 +52,8 @@ pub HasRead-less : (text : List ℕ) (a b : Reader (Bor (List ℕ))) (done : Lis
 unfolding Reached bytes_left length_of
 HasRead-less text a b done fields h r =
     let m = rows-more bytes_of a b fields default_config a.state h.left h.left [] h.config h.source (refl, refl) r in
-    let less = reached-less a.state h.left fields b.state m.0 (reached-begins st.StartRecord (strip_bom text) done a.state h.left refl h.reached) m.2 in
+    let less = reached-less a.state h.left fields b.state m.0
+    (reached-begins st.StartRecord (strip_bom text) done a.state h.left refl h.reached) m.2 in
     rw (h.source, m.1) less
 
 -- if no record is left, all were read

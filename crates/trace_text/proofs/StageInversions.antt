@@ -11,16 +11,19 @@ passed true r e x h = (refl, h)
 passed false r e x h = cc h
 
 -- a part that was read, and what was made of it
-pub read_part : {A B : Type 0} (o : Option A) (e : TextError) (f : A → Result B TextError) (x : B) → ok_or o e >>= f ≡ Ok x → (a : A) × (o ≡ Some a) × (f a ≡ Ok x)
+pub read_part : {A B : Type 0} (o : Option A) (e : TextError) (f : A → Result B TextError) (x : B)
+    → ok_or o e >>= f ≡ Ok x → (a : A) × (o ≡ Some a) × (f a ≡ Ok x)
 read_part (Some a) e f x h = (a, refl, h)
 read_part None e f x h = cc h
 
-pub read_result : {A B : Type 0} (r : Result A TextError) (f : A → Result B TextError) (x : B) → r >>= f ≡ Ok x → (a : A) × (r ≡ Ok a) × (f a ≡ Ok x)
+pub read_result : {A B : Type 0} (r : Result A TextError) (f : A → Result B TextError) (x : B)
+    → r >>= f ≡ Ok x → (a : A) × (r ≡ Ok a) × (f a ≡ Ok x)
 read_result (Ok a) f x h = (a, refl, h)
 read_result (Err e) f x h = cc h
 
 -- a record of so many fields is their list
-four_fields : (fields : List (List ℕ)) → length fields ≡ 4 → fields ≡ field_of fields 0 ∷ field_of fields 1 ∷ field_of fields 2 ∷ field_of fields 3 ∷ []
+four_fields : (fields : List (List ℕ)) → length fields ≡ 4
+    → fields ≡ field_of fields 0 ∷ field_of fields 1 ∷ field_of fields 2 ∷ field_of fields 3 ∷ []
 unfolding field_at
 four_fields [] h = absurd (omega (arith, h))
 four_fields (a ∷ []) h = absurd (omega (arith, h))
@@ -40,7 +43,8 @@ pub four_are : (fields : List (List ℕ)) (a b c d : List ℕ) → length fields
     → field_of fields 1 ≡ b → field_of fields 2 ≡ c → field_of fields 3 ≡ d → fields ≡ a ∷ b ∷ c ∷ d ∷ []
 four_are fields a b c d l p q r s = let e = four_fields fields l in cc
 
-five_fields : (fields : List (List ℕ)) → length fields ≡ 5 → fields ≡ field_of fields 0 ∷ field_of fields 1 ∷ field_of fields 2 ∷ field_of fields 3 ∷ field_of fields 4 ∷ []
+five_fields : (fields : List (List ℕ)) → length fields ≡ 5
+    → fields ≡ field_of fields 0 ∷ field_of fields 1 ∷ field_of fields 2 ∷ field_of fields 3 ∷ field_of fields 4 ∷ []
 unfolding field_at
 five_fields [] h = absurd (omega (arith, h))
 five_fields (a ∷ []) h = absurd (omega (arith, h))
@@ -50,15 +54,17 @@ five_fields (a ∷ b ∷ c ∷ d ∷ []) h = absurd (omega (arith, h))
 five_fields (a ∷ b ∷ c ∷ d ∷ e ∷ []) h = refl
 five_fields (a ∷ b ∷ c ∷ d ∷ e ∷ f ∷ more) h = let l : suc (suc (suc (suc (suc (suc (length more)))))) ≡ 5 = h in absurd (omega (arith, l))
 
-pub five_are : (fields : List (List ℕ)) (a b c d e : List ℕ) → length fields ≡ 5 → field_of fields 0 ≡ a → field_of fields 1 ≡ b → field_of fields 2 ≡ c → field_of fields 3 ≡ d → field_of fields 4 ≡ e
-    → fields ≡ a ∷ b ∷ c ∷ d ∷ e ∷ []
+pub five_are : (fields : List (List ℕ)) (a b c d e : List ℕ) → length fields ≡ 5 → field_of fields 0 ≡ a
+    → field_of fields 1 ≡ b → field_of fields 2 ≡ c → field_of fields 3 ≡ d → field_of fields 4 ≡ e → fields ≡ a ∷ b ∷ c ∷ d ∷ e ∷ []
 five_are fields a b c d e l p q r s t = let f = five_fields fields l in cc
 
-pub two_are : (fields : List (List ℕ)) (a b : List ℕ) → length fields ≡ 2 → field_of fields 0 ≡ a → field_of fields 1 ≡ b → fields ≡ a ∷ b ∷ []
+pub two_are : (fields : List (List ℕ)) (a b : List ℕ)
+    → length fields ≡ 2 → field_of fields 0 ≡ a → field_of fields 1 ≡ b → fields ≡ a ∷ b ∷ []
 two_are fields a b l p q = let e = two_fields fields l in cc
 
 -- one record more, after records that are known
-pub append_one : (records before : List (List (List ℕ))) (fields r : List (List ℕ)) → records ≡ before → fields ≡ r → records ++ fields ∷ [] ≡ before ++ r ∷ []
+pub append_one : (records before : List (List (List ℕ))) (fields r : List (List ℕ))
+    → records ≡ before → fields ≡ r → records ++ fields ∷ [] ≡ before ++ r ∷ []
 append_one records before fields r e f = rw (e, f) refl
 
 -- a record whose first field isn't empty is that field and the others

@@ -48,16 +48,19 @@ either : {A : Type 0} (b : Bool) {x y : Result A TextError} → IsOfRecords x �
 either true h k = h
 either false h k = k
 
-then : {A B : Type 0} (r : Result A TextError) (f : A → Result B TextError) → IsOfRecords r → ((x : A) → IsOfRecords (f x)) → IsOfRecords (r >>= f)
+then : {A B : Type 0} (r : Result A TextError) (f : A → Result B TextError)
+    → IsOfRecords r → ((x : A) → IsOfRecords (f x)) → IsOfRecords (r >>= f)
 then (Ok x) f h k = k x
 then (Err e) f h k = record { reason = h.reason }
 
-part : {A B : Type 0} (o : Option A) (e : TextError) (f : A → Result B TextError) → is_of_records e ≡ true → ((x : A) → IsOfRecords (f x)) → IsOfRecords (ok_or o e >>= f)
+part : {A B : Type 0} (o : Option A) (e : TextError) (f : A → Result B TextError)
+    → is_of_records e ≡ true → ((x : A) → IsOfRecords (f x)) → IsOfRecords (ok_or o e >>= f)
 part None e f h k = record { reason = h }
 part (Some x) e f h k = k x
 
 of_size : (v : Version) (fields : List (List ℕ)) → IsOfRecords (size_stage v fields)
-of_size v fields = part (number_of (field_of fields 2)) BadSize _ refl (λ n. part (number_of (field_of fields 3)) BadSize _ refl (λ t. either (is_size n t) (good (Sized v n t)) (bad BadSize refl)))
+of_size v fields = part (number_of (field_of fields 2)) BadSize _ refl
+    (λ n. part (number_of (field_of fields 3)) BadSize _ refl (λ t. either (is_size n t) (good (Sized v n t)) (bad BadSize refl)))
 
 of_header : (fields : List (List ℕ)) → IsOfRecords (header_stage fields)
 of_header fields =
@@ -69,7 +72,8 @@ of_values : (v : Version) (n t : ℕ) (values : List ℕ) → IsOfRecords (start
 of_values v n t values = either (is_none (config_refusal n t (length values))) (good _) (bad BadInit refl)
 
 of_init : (v : Version) (n t : ℕ) (fields : List (List ℕ)) → IsOfRecords (init_stage v n t fields)
-of_init v n t fields = either (bytes_eq (field_of fields 0) (codes "init")) (part (numbers_of (drop 1 fields)) BadInit _ refl (of_values v n t)) (bad BadInit refl)
+of_init v n t fields = either (bytes_eq (field_of fields 0) (codes "init"))
+    (part (numbers_of (drop 1 fields)) BadInit _ refl (of_values v n t)) (bad BadInit refl)
 
 of_fields : (v : Version) (at : ℕ) (fields : List (List ℕ)) → IsOfRecords (step_of v at fields)
 of_fields v at fields =
@@ -82,16 +86,14 @@ of_push v t tick x None = good _
 of_push v t tick x (Some e) = bad (BadStep _ e) refl
 
 of_step : (v : Version) (t : Recorded) (fields : List (List ℕ)) → IsOfRecords (step_stage v t fields)
-of_step v t fields =
-    either (length fields == step_fields v)
-    (either (bytes_eq (field_of fields 0) (decimal (length t.steps + 1)))
-    (then (step_of v (length t.steps + 1) fields) _ (of_fields v (length t.steps + 1) fields) (λ x. of_push v t x.0 x.1 (refusal_in t x.0 x.1)))
-    (bad (WrongNumber (length t.steps + 1)) refl))
-    (bad (BadFields (length t.steps + 1)) refl)
+of_step v t fields = either (length fields == step_fields v) (either (bytes_eq (field_of fields 0) (decimal (length t.steps + 1))) (then
+    (step_of v (length t.steps + 1) fields) _ (of_fields v (length t.steps + 1) fields) (λ x. of_push v t x.0 x.1 (refusal_in t x.0 x.1)))
+    (bad (WrongNumber (length t.steps + 1)) refl)) (bad (BadFields (length t.steps + 1)) refl)
 
 of_last : (v : Version) (t : Recorded) (field : List ℕ) → IsOfRecords (ended v t field)
 of_last One t field = either (bytes_eq field (decimal (length t.steps))) (good (Ended t)) (bad WrongEnd refl)
-of_last Two t field = part (number_of field) WrongEnd _ refl (λ last. either (may_end_in t last) (good (Ended (with_last t last))) (bad WrongEnd refl))
+of_last Two t field = part (number_of field) WrongEnd _ refl
+    (λ last. either (may_end_in t last) (good (Ended (with_last t last))) (bad WrongEnd refl))
 
 of_end : (v : Version) (t : Recorded) (fields : List (List ℕ)) → IsOfRecords (end_stage v t fields)
 of_end v t fields =
@@ -118,7 +120,8 @@ of_whole : (records : List (List (List ℕ))) → IsOfRecords (trace_of_records 
 of_whole records = then (after_records next_stage Opening records) _ (of_all Opening records) at_end
 
 -- a reason that records don't give isn't the reason
-never-of : {A : Type 0} (table : Result A TextError) (e f : TextError) → IsOfRecords table → is_of_records f ≡ false → is_memory f ≡ false → MatchBool (is_memory e) ⊤ (table ≡ Err e) → e ≢ f
+never-of : {A : Type 0} (table : Result A TextError) (e f : TextError)
+    → IsOfRecords table → is_of_records f ≡ false → is_memory f ≡ false → MatchBool (is_memory e) ⊤ (table ≡ Err e) → e ≢ f
 never-of {A = A} table e f of other unless h same =
     let g : MatchBool (is_memory f) ⊤ (table ≡ Err f) = rw same at h in
     let given : table ≡ Err f = rw unless at g in
@@ -126,7 +129,8 @@ never-of {A = A} table e f of other unless h same =
     cc (reason, other)
 
 -- nor is it the answer
-pub never-answered : (records : List (List (List ℕ))) (e f : TextError) → is_of_records f ≡ false → is_memory f ≡ false → MatchBool (is_memory e) ⊤ (trace_of_records records ≡ Err e) → e ≢ f
+pub never-answered : (records : List (List (List ℕ))) (e f : TextError)
+    → is_of_records f ≡ false → is_memory f ≡ false → MatchBool (is_memory e) ⊤ (trace_of_records records ≡ Err e) → e ≢ f
 never-answered records e f other unless h = never-of (trace_of_records records) e f (of_whole records) other unless h
 
 -- nor do records lead to it

@@ -36,7 +36,8 @@ apart n [] none = tt
 apart n (m ∷ ns) none = (ne_eqb n m (λ e. none (0, omega arith, sym e)), apart n ns (λ c. none (Contains-rest m n ns c)))
 
 -- lists with no number twice, and none in common
-distinct-append : (ns ms : List ℕ) → IsStrictlyIncreasing ns → IsDistinct eqb ms → ((n : ℕ) → Contains ns n → Contains ms n → ⊥) → IsDistinct eqb (ns ++ ms)
+distinct-append : (ns ms : List ℕ) → IsStrictlyIncreasing ns
+    → IsDistinct eqb ms → ((n : ℕ) → Contains ns n → Contains ms n → ⊥) → IsDistinct eqb (ns ++ ms)
 unfolding IsDistinct
 distinct-append [] ms rising distinct none = distinct
 distinct-append (n ∷ ns) ms rising distinct none = (
@@ -50,7 +51,8 @@ distinct-append (n ∷ ns) ms rising distinct none = (
 -- steps whose ids rise, and of which no two take one message
 record AreApart (steps : List Step) : Type 0 where
   rising : (k : ℕ) (x : Step) → slice_get steps k ≡ Some x → IsStrictlyIncreasing (act_ids x.act)
-  once : (j k s : ℕ) (x y : Step) → slice_get steps j ≡ Some x → slice_get steps k ≡ Some y → Contains (act_ids x.act) s → Contains (act_ids y.act) s → j ≡ k
+  once : (j k s : ℕ) (x y : Step) → slice_get steps j ≡ Some x
+      → slice_get steps k ≡ Some y → Contains (act_ids x.act) s → Contains (act_ids y.act) s → j ≡ k
 
 distinct-ids : (steps : List Step) → AreApart steps → IsDistinct eqb (taken_ids steps)
 unfolding TakenIn IsDistinct

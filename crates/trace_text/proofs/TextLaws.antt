@@ -14,11 +14,13 @@ use Rattle.trace_text.proofs.TableReasons.{is_of_records, never-answered}
 use Rattle.trace_text.proofs.TraceRecords.{reads-trace}
 
 -- an accepted text encodes its trace
-pub gives-stands : (text : List ℕ) (r : Result Recorded TextError) → Gives r (trace_of_records (records_of_text text)) → IfOk r (λ t. StandsFor text t)
+pub gives-stands : (text : List ℕ) (r : Result Recorded TextError)
+    → Gives r (trace_of_records (records_of_text text)) → IfOk r (λ t. StandsFor text t)
 gives-stands text (Ok t) h = (accepted-records (records_of_text text) t h).1
 gives-stands text (Err e) h = tt
 
-pub gives-sound : (text : List ℕ) (r : Result Recorded TextError) → Gives r (trace_of_records (records_of_text text)) → IfOk r (λ t. IsTextTrace t)
+pub gives-sound : (text : List ℕ) (r : Result Recorded TextError)
+    → Gives r (trace_of_records (records_of_text text)) → IfOk r (λ t. IsTextTrace t)
 gives-sound text (Ok t) h = (accepted-records (records_of_text text) t h).0
 gives-sound text (Err e) h = tt
 
@@ -26,7 +28,8 @@ gives-sound text (Err e) h = tt
 stands-gives : (text : List ℕ) (t : Recorded) → IsTextTrace t → StandsFor text t → trace_of_records (records_of_text text) ≡ Ok t
 stands-gives text t h s = ap trace_of_records s.2 ∙ reads-trace s.0 t h s.1
 
-only_memory : (e : TextError) (t : Recorded) (table : Result Recorded TextError) → table ≡ Ok t → MatchBool (is_memory e) ⊤ (table ≡ Err e) → e ≡ why.Memory
+only_memory : (e : TextError) (t : Recorded) (table : Result Recorded TextError)
+    → table ≡ Ok t → MatchBool (is_memory e) ⊤ (table ≡ Err e) → e ≡ why.Memory
 only_memory why.Memory t table h k = refl
 only_memory why.TooLarge t table h k = cc (h, k)
 only_memory why.Read t table h k = cc (h, k)
@@ -43,8 +46,8 @@ only_memory why.NoEnd t table h k = cc (h, k)
 only_memory why.WrongEnd t table h k = cc (h, k)
 only_memory why.AfterEnd t table h k = cc (h, k)
 
-pub gives-complete : (text : List ℕ) (r : Result Recorded TextError) (t : Recorded) → Gives r (trace_of_records (records_of_text text)) → IsTextTrace t → StandsFor text t
-    → MatchResult r (λ u. u ≡ t) (λ e. e ≡ why.Memory)
+pub gives-complete : (text : List ℕ) (r : Result Recorded TextError) (t : Recorded) → Gives r (trace_of_records (records_of_text text))
+    → IsTextTrace t → StandsFor text t → MatchResult r (λ u. u ≡ t) (λ e. e ≡ why.Memory)
 gives-complete text (Ok u) t h i s = let k = stands-gives text t i s in cc
 gives-complete text (Err e) t h i s = only_memory e t (trace_of_records (records_of_text text)) (stands-gives text t i s) h
 
@@ -57,11 +60,13 @@ first-refusal true P Q R r f h = r
 first-refusal false P Q R r f h = f h
 
 -- a refusal of a text that isn't too large is the first of the table
-pub gives-refused : (text : List ℕ) (r : Result Recorded TextError) → length text ≤ MAX_TEXT_BYTES → Gives r (trace_of_records (records_of_text text)) → IfErr r (λ e. IsFirstRefusal text e)
+pub gives-refused : (text : List ℕ) (r : Result Recorded TextError)
+    → length text ≤ MAX_TEXT_BYTES → Gives r (trace_of_records (records_of_text text)) → IfErr r (λ e. IsFirstRefusal text e)
 gives-refused text (Ok t) l h = tt
 gives-refused text (Err e) l h =
     let short : nat_le (length text) MAX_TEXT_BYTES ≡ true = grind (arith, nat_tests) in
-    first-refusal (is_memory e) (trace_of_records (records_of_text text) ≡ Err e) (trace_of_text text ≡ Err e) (length text ≤ MAX_TEXT_BYTES) l (λ k. rw short k) h
+    first-refusal (is_memory e) (trace_of_records (records_of_text text) ≡ Err e)
+    (trace_of_text text ≡ Err e) (length text ≤ MAX_TEXT_BYTES) l (λ k. rw short k) h
 
 -- a reason that records don't give isn't answered
 pub gives-never : (text : List ℕ) (r : Result Recorded TextError) (f : TextError) → is_of_records f ≡ false
@@ -69,6 +74,7 @@ pub gives-never : (text : List ℕ) (r : Result Recorded TextError) (f : TextErr
 gives-never text (Ok t) f other unless h = tt
 gives-never text (Err e) f other unless h = never-answered (records_of_text text) e f other unless h
 
-pub gives-not_large : (text : List ℕ) (r : Result Recorded TextError) → Gives r (trace_of_records (records_of_text text)) → r ≡ Err why.TooLarge → ⊥
+pub gives-not_large : (text : List ℕ) (r : Result Recorded TextError)
+    → Gives r (trace_of_records (records_of_text text)) → r ≡ Err why.TooLarge → ⊥
 gives-not_large text (Ok t) h e = cc e
 gives-not_large text (Err f) h e = never-answered (records_of_text text) f why.TooLarge refl refl h cc

@@ -55,22 +55,36 @@ reads-header v c s =
     let faults = s.faults in
     let n : c.n < 2 ^ 64 = omega (arith, most) in
     let t : c.t < 2 ^ 64 = omega (arith, most, faults) in
-    rw (reads-version v, number_of-decimal c.n n, number_of-decimal c.t t, test_le MIN_PROCESSORS c.n least, test_le c.n MAX_PROCESSORS most, test_le (2 * c.t + 1) c.n faults) refl
+    rw (
+      reads-version v,
+      number_of-decimal c.n n,
+      number_of-decimal c.t t,
+      test_le MIN_PROCESSORS c.n least,
+      test_le c.n MAX_PROCESSORS most,
+      test_le (2 * c.t + 1) c.n faults,
+    ) refl
 
 none_from_IsSetup : (c : Setup) → IsSetup c → config_refusal c.n c.t (length c.init) ≡ None
 none_from_IsSetup c s =
     let least = s.least in
     let most = s.most in
     let faults = s.faults in
-    rw (test_not_lt c.n MIN_PROCESSORS least, test_not_lt MAX_PROCESSORS c.n most, test_not_lt c.n (2 * c.t + 1) faults, eq-eqb (length c.init) c.n s.values) refl
+    rw (
+      test_not_lt c.n MIN_PROCESSORS least,
+      test_not_lt MAX_PROCESSORS c.n most,
+      test_not_lt c.n (2 * c.t + 1) faults,
+      eq-eqb (length c.init) c.n s.values,
+    ) refl
 
 -- the initial values are read
-reads-init : (v : Version) (c : Setup) → IsSetup c → All (λ n. n < 2 ^ 64) c.init → next_stage (Sized v c.n c.t) (init_record c.init) ≡ Ok (Recording v (so_far c [] []))
+reads-init : (v : Version) (c : Setup) → IsSetup c
+    → All (λ n. n < 2 ^ 64) c.init → next_stage (Sized v c.n c.t) (init_record c.init) ≡ Ok (Recording v (so_far c [] []))
 unfolding field_at
 reads-init v c s h = rw (numbers_of-decimals c.init h, none_from_IsSetup c s) refl
 
 -- the act of its own operation and argument
-reads-act : (a : Act) → IfSome (act_dest a) (λ p. p < 2 ^ 64) → All (λ n. n < 2 ^ 64) (act_ids a) → (o : Operation) × (operation_of (op_text a) ≡ Some o) × (act_of o (arg_text a) ≡ Some a)
+reads-act : (a : Act) → IfSome (act_dest a) (λ p. p < 2 ^ 64)
+    → All (λ n. n < 2 ^ 64) (act_ids a) → (o : Operation) × (operation_of (op_text a) ≡ Some o) × (act_of o (arg_text a) ≡ Some a)
 reads-act (Send to) d h = (op.Send, refl, rw (number_of-decimal to d) refl)
 reads-act (Receive false ids) d h = (op.Receive, refl, rw (ids_of-joined ids h) refl)
 reads-act (Receive true ids) d h = (op.EndRound, refl, rw (ids_of-joined ids h) refl)
@@ -81,11 +95,12 @@ IsTickOf One at tick = tick ≡ at
 IsTickOf Two at tick = ⊤
 
 -- a step of its own fields
-reads-fields : (v : Version) (at tick : ℕ) (x : Step) → IsTickOf v at tick → tick < 2 ^ 64 → x.proc < 2 ^ 64 → IfSome (act_dest x.act) (λ p. p < 2 ^ 64) → All (λ n. n < 2 ^ 64) (act_ids x.act)
-    → step_of v at (step_record v at tick x) ≡ Ok (tick, x)
+reads-fields : (v : Version) (at tick : ℕ) (x : Step) → IsTickOf v at tick → tick < 2 ^ 64 → x.proc < 2 ^ 64 → IfSome
+    (act_dest x.act) (λ p. p < 2 ^ 64) → All (λ n. n < 2 ^ 64) (act_ids x.act) → step_of v at (step_record v at tick x) ≡ Ok (tick, x)
 unfolding field_at IsTickOf
 reads-fields One at tick x e m p d h = let a = reads-act x.act d h in rw (a.1, number_of-decimal x.proc p, a.2, e) refl
-reads-fields Two at tick x e m p d h = let a = reads-act x.act d h in rw (a.1, number_of-decimal tick m, number_of-decimal x.proc p, a.2) refl
+reads-fields Two at tick x e m p d h = let a = reads-act x.act d h in
+    rw (a.1, number_of-decimal tick m, number_of-decimal x.proc p, a.2) refl
 
 first-field : (v : Version) (at tick : ℕ) (x : Step) → field_of (step_record v at tick x) 0 ≡ decimal at
 unfolding field_at
@@ -98,15 +113,16 @@ all-fields Two at tick x = refl
 
 -- no number is the word that ends a trace
 pub not_end : (n : ℕ) → n < 2 ^ 64 → bytes_eq (decimal n) (codes "end") ≡ false
-not_end n h = bytes_eq-other (decimal n) (codes "end") (λ e. let digits : AllDigits 10 (codes "end") = rw e at (digits_decimal own n h) in let low : digit_value 101 < 10 = digits.0 in absurd (omega (arith, low)))
+not_end n h = bytes_eq-other (decimal n) (codes "end") (λ e. let digits : AllDigits 10 (codes "end") = rw e at (digits_decimal own n h) in
+    let low : digit_value 101 < 10 = digits.0 in absurd (omega (arith, low)))
 
 dest_small : (c : Setup) (o : Option ℕ) → c.n ≤ MAX_PROCESSORS → IfSome o (IsProc c) → IfSome o (λ p. p < 2 ^ 64)
 dest_small c None h d = tt
 dest_small c (Some p) h d = let high = d.1 in omega (arith, high, h)
 
 -- a step that may be appended is read
-reads-step : (v : Version) (t : Recorded) (tick : ℕ) (x : Step) → IsSetup t.config → IsTrace t → CanAppend t tick x → IsTickOf v (length t.steps + 1) tick
-    → next_stage (Recording v t) (step_record v (length t.steps + 1) tick x) ≡ Ok (Recording v (with_step t tick x))
+reads-step : (v : Version) (t : Recorded) (tick : ℕ) (x : Step) → IsSetup t.config → IsTrace t → CanAppend t tick x → IsTickOf v (length
+    t.steps + 1) tick → next_stage (Recording v t) (step_record v (length t.steps + 1) tick x) ≡ Ok (Recording v (with_step t tick x))
 reads-step v t tick x s w a e =
     let f = FitsIn-from_append t tick x w a in
     let most = s.most in
@@ -118,7 +134,8 @@ reads-step v t tick x s w a e =
     let ids = All-weaker (Contains (act_ids x.act)) (λ n. n < 2 ^ 64)
     (λ n d. let within = step_at_within t.steps n _ (f.fits.sent n d).1 in let l = within.1 in
     omega (arith, l, room)) (act_ids x.act) (All-contains_itself (act_ids x.act)) in
-    let fields = reads-fields v (length t.steps + 1) tick x e (omega (arith, end)) proc (dest_small t.config (act_dest x.act) most f.fits.dest) ids in
+    let fields = reads-fields v (length t.steps + 1) tick x e
+    (omega (arith, end)) proc (dest_small t.config (act_dest x.act) most f.fits.dest) ids in
     rw (
       first-field v (length t.steps + 1) tick x,
       not_end (length t.steps + 1) at,
@@ -138,36 +155,49 @@ reads-steps : (v : Version) (c : Setup) (done xs : List Step) (before ts : List 
     (step_records v (before ++ ts) (length done + 1) xs ++ rest)
     ≡ after_records next_stage (Recording v (so_far c (done ++ xs) (before ++ ts))) rest
 reads-steps v c done [] before [] rest s long w each = rw (append-nil done, append-nil before) refl
-reads-steps v c done [] before (t ∷ ts) rest s long w each = absurd (let long_ticks = w.time.each in let a = length-append done [] in let b = length-append before (t ∷ ts) in omega (arith, long_ticks, a, b, long))
-reads-steps v c done (x ∷ xs) before [] rest s long w each = absurd (let long_ticks = w.time.each in let a = length-append done (x ∷ xs) in let b = length-append before [] in omega (arith, long_ticks, a, b, long))
+reads-steps v c done [] before (t ∷ ts) rest s long w each = absurd (let long_ticks = w.time.each in
+    let a = length-append done [] in let b = length-append before (t ∷ ts) in omega (arith, long_ticks, a, b, long))
+reads-steps v c done (x ∷ xs) before [] rest s long w each = absurd (let long_ticks = w.time.each in
+    let a = length-append done (x ∷ xs) in let b = length-append before [] in omega (arith, long_ticks, a, b, long))
 reads-steps v c done (x ∷ xs) before (t ∷ ts) rest s long w each =
     let more = append_assoc done (x ∷ []) xs in
     let later = append_assoc before (t ∷ []) ts in
     let count : length (done ++ x ∷ []) ≡ length done + 1 = length-append done (x ∷ []) in
-    let grown : length (before ++ t ∷ []) ≡ length (done ++ x ∷ []) = let b = length-append before (t ∷ []) in omega (arith, b, count, long) in
+    let grown : length (before ++ t ∷ []) ≡ length (done ++ x ∷ []) =
+    let b = length-append before (t ∷ []) in omega (arith, b, count, long) in
     let whole : IsTrace (so_far c ((done ++ x ∷ []) ++ xs) ((before ++ t ∷ []) ++ ts)) = rw (more, later) w in
     let place : suc (length before) ≡ length done + 1 = omega (arith, long) in
-    let tick : tick_at (before ++ t ∷ ts) (length done + 1) ≡ t = subst (λ n. tick_at (before ++ t ∷ ts) n ≡ t) place (sym (place-value before t ts)) in
-    let numbered : IsTickOf v (length done + 1) t = subst (λ n. IsTickOf v (length done + 1) n) tick (each (length done + 1) (let a = length-append done (x ∷ xs) in omega (arith, a))) in
+    let tick : tick_at (before ++ t ∷ ts) (length done + 1)
+    ≡ t = subst (λ n. tick_at (before ++ t ∷ ts) n ≡ t) place (sym (place-value before t ts)) in
+    let numbered : IsTickOf v (length done + 1) t = subst
+    (λ n. IsTickOf v (length done + 1) n) tick (each (length done + 1) (let a = length-append done (x ∷ xs) in omega (arith, a))) in
     let next = CanAppend-next c done before x t long (IsTrace-front c (done ++ x ∷ []) xs (before ++ t ∷ []) ts _ grown whole) in
     let step = reads-step v (so_far c done before) t x s (IsTrace-front c done (x ∷ xs) before (t ∷ ts) _ long w) next numbered in
     let at : length (done ++ x ∷ []) + 1 ≡ length done + 1 + 1 = ap (λ n. n + 1) count in
-    let tail = rw (at, more, later) at (reads-steps v c (done ++ x ∷ []) xs (before ++ t ∷ []) ts rest s grown whole (rw (more, later) each)) in
-    rw tick (ap (λ r. r >>= λ next. after_records next_stage next (step_records v (before ++ t ∷ ts) (length done + 1 + 1) xs ++ rest)) (step ∙ ap (λ z. Ok (Recording v z)) (with_next c done before x t long))) ∙ tail
+    let tail =
+    rw (at, more, later) at (reads-steps v c (done ++ x ∷ []) xs (before ++ t ∷ []) ts rest s grown whole (rw (more, later) each)) in
+    rw tick (ap (λ r. r >>= λ next. after_records next_stage next (step_records v (before ++ t ∷ ts) (length done + 1 + 1) xs ++ rest))
+    (step ∙ ap (λ z. Ok (Recording v z)) (with_next c done before x t long))) ∙ tail
 
 -- with one step in each tick, a trace ends in the tick of its last step
 ends-with_step : (t : Recorded) → IsOnePerTick t → so_far t.config t.steps t.ticks ≡ t
-ends-with_step t one = ap (λ n. record { config = t.config; steps = t.steps; ticks = t.ticks; last = n }) (one.each (length t.steps) (omega arith) ∙ sym one.end)
+ends-with_step t one = ap (λ n. record { config = t.config; steps = t.steps; ticks = t.ticks; last = n })
+    (one.each (length t.steps) (omega arith) ∙ sym one.end)
 
 -- the end is read
-reads-end : (v : Version) (t : Recorded) → IsTimed t → HasTextsOf v t → next_stage (Recording v (so_far t.config t.steps t.ticks)) (end_record t.last) ≡ Ok (Ended t)
+reads-end : (v : Version) (t : Recorded) → IsTimed t
+    → HasTextsOf v t → next_stage (Recording v (so_far t.config t.steps t.ticks)) (end_record t.last) ≡ Ok (Ended t)
 unfolding field_at
 reads-end One t time one =
     rw (bytes_eq-same (decimal t.last) (decimal (length t.steps)) (ap decimal one.end)) (ap (λ z. Ok (Ended z)) (ends-with_step t one))
 reads-end Two t time has =
     let end = time.end in
     let n : t.last < 2 ^ 64 = omega (arith, end) in
-    rw (number_of-decimal t.last n, test_le (tick_at t.ticks (length t.steps)) t.last (tick_of-limit t time (length t.steps)), test_le t.last 1000000 end) refl
+    rw (
+      number_of-decimal t.last n,
+      test_le (tick_at t.ticks (length t.steps)) t.last (tick_of-limit t time (length t.steps)),
+      test_le t.last 1000000 end,
+    ) refl
 
 ticks-told : (v : Version) (t : Recorded) → HasTextsOf v t → (k : ℕ) → k ≤ length t.steps → IsTickOf v k (tick_of t k)
 unfolding IsTickOf
@@ -181,5 +211,6 @@ IsTrace-so_far t w = IsTrace-front t.config t.steps [] t.ticks [] t.last w.time.
 -- the records of a trace give it
 pub reads-trace : (v : Version) (t : Recorded) → IsTextTrace t → HasTextsOf v t → trace_of_records (trace_records v t) ≡ Ok t
 reads-trace v t h has =
-    let steps = reads-steps v t.config [] t.steps [] t.ticks (end_record t.last ∷ []) h.setup refl (IsTrace-so_far t h.well_formed) (ticks-told v t has) in
+    let steps = reads-steps v t.config [] t.steps [] t.ticks
+    (end_record t.last ∷ []) h.setup refl (IsTrace-so_far t h.well_formed) (ticks-told v t has) in
     rw (reads-header v t.config h.setup, reads-init v t.config h.setup h.values, steps, reads-end v t h.well_formed.time has) refl

@@ -48,7 +48,8 @@ short-step c steps k x setup w at =
     record {
       proc = let most = setup.most in let high = (w.procs k x at).1 in omega (arith, most, high);
       dest = short-dest c (act_dest x.act) setup (w.dests k x at);
-      ids = All-weaker (Contains (act_ids x.act)) (λ s. s < 10 ^ 7) (λ s d. let before = (w.earlier k s x at d).0 in omega (arith, before, within, short)) (act_ids x.act) (All-contains_itself (act_ids x.act));
+      ids = All-weaker (Contains (act_ids x.act)) (λ s. s < 10 ^ 7) (λ s d. let before = (w.earlier k s x at d).0 in
+          omega (arith, before, within, short)) (act_ids x.act) (All-contains_itself (act_ids x.act));
     }
 
 short-steps : (xs : List Step) → ((k : ℕ) (x : Step) → slice_get xs k ≡ Some x → IsShort x) → AreShort xs
@@ -75,16 +76,25 @@ AreShortTicks ticks = (k : ℕ) → tick_at ticks k < 10 ^ 7
 
 plain-step : (v : Version) (at tick : ℕ) (x : Step) → at < 10 ^ 7 → tick < 10 ^ 7 → IsShort x → ArePlain (step_record v at tick x)
 plain-step One at tick x l m short =
-    let proc = short.proc in (IsPlain-decimal at (omega (arith, l)), (IsPlain-decimal x.proc (omega (arith, proc)), (plain-op x.act, (plain-arg x.act short.dest short.ids, tt))))
+    let proc = short.proc in (
+      IsPlain-decimal at (omega (arith, l)),
+      (IsPlain-decimal x.proc (omega (arith, proc)), (plain-op x.act, (plain-arg x.act short.dest short.ids, tt))),
+    )
 plain-step Two at tick x l m short =
-    let proc = short.proc in
-    (IsPlain-decimal at (omega (arith, l)), (IsPlain-decimal tick (omega (arith, m)), (IsPlain-decimal x.proc (omega (arith, proc)), (plain-op x.act, (plain-arg x.act short.dest short.ids, tt)))))
+    let proc = short.proc in (
+      IsPlain-decimal at (omega (arith, l)),
+      (
+        IsPlain-decimal tick (omega (arith, m)),
+        (IsPlain-decimal x.proc (omega (arith, proc)), (plain-op x.act, (plain-arg x.act short.dest short.ids, tt))),
+      ),
+    )
 
 two-fields : (v : Version) (at tick : ℕ) (x : Step) → 2 ≤ length (step_record v at tick x)
 two-fields One at tick x = omega arith
 two-fields Two at tick x = omega arith
 
-lines-steps : (v : Version) (ticks : List ℕ) (at : ℕ) (xs : List Step) → at + length xs ≤ 10 ^ 7 → AreShortTicks ticks → AreShort xs → AreLines (step_records v ticks at xs)
+lines-steps : (v : Version) (ticks : List ℕ) (at : ℕ) (xs : List Step)
+    → at + length xs ≤ 10 ^ 7 → AreShortTicks ticks → AreShort xs → AreLines (step_records v ticks at xs)
 unfolding AreShort AreShortTicks
 lines-steps v ticks at [] room low short = tt
 lines-steps v ticks at (x ∷ xs) room low short = (
@@ -96,7 +106,8 @@ lines-steps v ticks at (x ∷ xs) room low short = (
 -- all ticks of a trace are short
 short-ticks : (t : Recorded) → IsTextTrace t → AreShortTicks t.ticks
 unfolding AreShortTicks
-short-ticks t h = λ k. let time = h.well_formed.time in let limit = tick_of-limit t time k in let end = time.end in omega (arith, limit, end)
+short-ticks t h = λ k. let time = h.well_formed.time in
+    let limit = tick_of-limit t time k in let end = time.end in omega (arith, limit, end)
 
 plain-version : (v : Version) → IsPlain (version_field v)
 plain-version One = refl
@@ -144,7 +155,8 @@ pub StandsFor-version_text : (v : Version) (t : Recorded) → IsTextTrace t → 
 StandsFor-version_text v t h has = (v, has, lines-read (trace_records v t) (lines-trace v t h) (no-mark v t))
 
 -- a step's line
-length-arg : (a : Act) → IfSome (act_dest a) (λ p. p < 10 ^ 7) → All (λ s. s < 10 ^ 7) (act_ids a) → length (arg_text a) ≤ 7 + 8 * length (act_ids a)
+length-arg : (a : Act) → IfSome (act_dest a) (λ p. p < 10 ^ 7)
+    → All (λ s. s < 10 ^ 7) (act_ids a) → length (arg_text a) ≤ 7 + 8 * length (act_ids a)
 length-arg (Send to) dest ids = let digits = short-decimal to dest in omega (arith, digits)
 length-arg (Receive ends ns) dest ids = let joined = length-ids ns ids in omega (arith, joined)
 
@@ -153,7 +165,8 @@ length-op (Send to) = omega arith
 length-op (Receive false ids) = omega arith
 length-op (Receive true ids) = omega arith
 
-length-step : (v : Version) (at tick : ℕ) (x : Step) → at < 10 ^ 7 → tick < 10 ^ 7 → IsShort x → length (record_line (step_record v at tick x)) ≤ 35 + 8 * length (act_ids x.act)
+length-step : (v : Version) (at tick : ℕ) (x : Step)
+    → at < 10 ^ 7 → tick < 10 ^ 7 → IsShort x → length (record_line (step_record v at tick x)) ≤ 35 + 8 * length (act_ids x.act)
 length-step One at tick x l m short =
     let number = short-decimal at l in
     let proc = short-decimal x.proc short.proc in
@@ -178,7 +191,8 @@ length-steps v ticks at (x ∷ xs) room low short =
     let line = length-step v at (tick_at ticks at) x (omega (arith, room)) (low at) short.0 in
     let more = length-steps v ticks (at + 1) xs (omega (arith, room)) low short.1 in
     let ids = length-append (act_ids x.act) (taken_ids xs) in
-    rw (length-append (record_line (step_record v at (tick_at ticks at) x)) (text_of_records (step_records v ticks (at + 1) xs))) (omega (arith, line, more, ids))
+    rw (length-append (record_line (step_record v at (tick_at ticks at) x)) (text_of_records (step_records v ticks (at + 1) xs)))
+    (omega (arith, line, more, ids))
 
 -- the text of a trace is shorter than 64 MiB
 pub short-version_text : (v : Version) (t : Recorded) → IsTextTrace t → length (version_text v t) < MAX_TEXT_BYTES
@@ -202,8 +216,12 @@ short-version_text v t h =
     let ids = length-taken_ids t.config t.steps well in
     let last = short-decimal t.last (omega (arith, high)) in
     let end = length-line (end_record t.last) in
-    let whole = length-append (record_line (header_record v t.config.n t.config.t)) (record_line (init_record t.config.init) ++ text_of_records (step_records v t.ticks 1 t.steps ++ end_record t.last ∷ [])) in
-    let rest = length-append (record_line (init_record t.config.init)) (text_of_records (step_records v t.ticks 1 t.steps ++ end_record t.last ∷ [])) in
-    let parts : length (text_of_records (step_records v t.ticks 1 t.steps ++ end_record t.last ∷ [])) ≡ length (text_of_records (step_records v t.ticks 1 t.steps)) + length (record_line (end_record t.last)) =
-    rw (text_of_records-more (step_records v t.ticks 1 t.steps) (end_record t.last)) (length-append (text_of_records (step_records v t.ticks 1 t.steps)) (record_line (end_record t.last))) in
+    let whole = length-append (record_line (header_record v t.config.n t.config.t))
+    (record_line (init_record t.config.init) ++ text_of_records (step_records v t.ticks 1 t.steps ++ end_record t.last ∷ [])) in
+    let rest = length-append (record_line (init_record t.config.init))
+    (text_of_records (step_records v t.ticks 1 t.steps ++ end_record t.last ∷ [])) in
+    let parts : length (text_of_records (step_records v t.ticks 1 t.steps ++ end_record t.last ∷ []))
+    ≡ length (text_of_records (step_records v t.ticks 1 t.steps)) + length (record_line (end_record t.last)) =
+    rw (text_of_records-more (step_records v t.ticks 1 t.steps) (end_record t.last))
+    (length-append (text_of_records (step_records v t.ticks 1 t.steps)) (record_line (end_record t.last))) in
     omega (arith, whole, rest, parts, name, header, init, steps, end, numbers, count, n, f, last, ids, short, most, values)

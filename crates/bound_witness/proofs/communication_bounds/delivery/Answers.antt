@@ -3,7 +3,8 @@ use Rattle.bound_witness.proofs.Common.{TakesAt, tick_of, step_at_within, tick_o
 use Rattle.bound_witness.proofs.communication_bounds.delivery.Goals as goal
 
 pub loop-no-preserved : goal.loop-no-preserved
-loop-no-preserved c = below_more (λ r. TakesAt c.args.trace.now.steps r c.args.s → ⊥) _ c.loop-no.invariant (λ t. let e = c.if-takes.ensures.1 t in cc)
+loop-no-preserved c = below_more (λ r. TakesAt c.args.trace.now.steps r c.args.s → ⊥) _ c.loop-no.invariant
+    (λ t. let e = c.if-takes.ensures.1 t in cc)
 
 pub returns-then-takes-clause-exact : goal.returns-then-takes-clause-exact
 returns-then-takes-clause-exact c =
@@ -22,6 +23,7 @@ returns-clause-after c =
 
 pub returns-clause-exact : goal.returns-clause-exact
 returns-clause-exact c = λ y l. (
-  λ d. absurd (c.loop-no.invariant d.place (let w = (step_at_within c.args.trace.now.steps d.place d.takes.0 d.takes.1).1 in omega arith) d.takes),
+  λ d. absurd
+      (c.loop-no.invariant d.place (let w = (step_at_within c.args.trace.now.steps d.place d.takes.0 d.takes.1).1 in omega arith) d.takes),
   λ m. absurd (let v = c.last_tick-end.ensures.value in omega (arith, v, l, m)),
 )

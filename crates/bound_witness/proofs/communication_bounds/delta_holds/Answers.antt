@@ -4,10 +4,11 @@ use Rattle.bound_witness.proofs.communication_bounds.delta_holds.Goals as goal
 use Rattle.bound_witness.proofs.communication_bounds.delta_holds.Goals.{else-g-tick-via-then-g-tick+else-not-delta_holds_for, else-g-tick-via-else-g-tick}
 
 pub loop-s-preserved : goal.loop-s-preserved
-loop-s-preserved c = below_more (λ s. 1 ≤ s → c.args.g ≤ tick_of c.args.trace.now s → DeltaHoldsFor c.args.set c.args.trace.now s c.args.d) _ c.loop-s.invariant (λ _ f. elim c.else-g-tick.branch [
-  | else-g-tick-via-then-g-tick+else-not-delta_holds_for w ↦ w.if-not-delta_holds_for.ensures.0 refl
-  | else-g-tick-via-else-g-tick w ↦ absurd (let n = w.if-g-tick.false in let v = c.tick.ensures.value in omega (arith, n, v, f))
-])
+loop-s-preserved c = below_more (λ s. 1 ≤ s → c.args.g ≤ tick_of c.args.trace.now s
+    → DeltaHoldsFor c.args.set c.args.trace.now s c.args.d) _ c.loop-s.invariant (λ _ f. elim c.else-g-tick.branch [
+      | else-g-tick-via-then-g-tick+else-not-delta_holds_for w ↦ w.if-not-delta_holds_for.ensures.0 refl
+      | else-g-tick-via-else-g-tick w ↦ absurd (let n = w.if-g-tick.false in let v = c.tick.ensures.value in omega (arith, n, v, f))
+    ])
 
 pub returns : goal.returns
 returns c = (

@@ -5,7 +5,8 @@ use Rattle.bound_witness.proofs.longest_gaps.push_gaps_of.Goals as goal
 use Rattle.bound_witness.proofs.longest_gaps.push_gaps_of.Goals.{then-is_step_of+in_ok-push_gap_between, else-is_step_of}
 
 pub returns-then-not-contains-clause-listed : goal.returns-then-not-contains-clause-listed
-returns-then-not-contains-clause-listed c = ListsGapsBy-pass c.args.set c.args.trace.now c.args.p c.args.found.now.items (sym c.if-not-contains.ensures) c.requires
+returns-then-not-contains-clause-listed c = ListsGapsBy-pass c.args.set c.args.trace.now c.args.p c.args.found.now.items
+    (sym c.if-not-contains.ensures) c.requires
 
 pub loop-no-preserved : goal.loop-no-preserved
 loop-no-preserved c = elim c.if-is_step_of.branch [
@@ -13,8 +14,8 @@ loop-no-preserved c = elim c.if-is_step_of.branch [
       (IsScanned-step c.args.set c.args.trace.now c.args.p c.loop-no.last c.loop-no.no w.tick-tick.result
       c.loop-no.found.items c.last_tick-end.ensures.timed (sym c.if-not-contains.ensures)
       (w.if-is_step_of.ensures.0 refl) w.tick-tick.ensures.value c.loop-no.invariant)
-  | else-is_step_of w ↦ rw (w.last-is, w.found-is)
-      (IsScanned-pass c.args.set c.args.trace.now c.args.p c.loop-no.last c.loop-no.no c.loop-no.found.items (λ s. let e = w.if-is_step_of.ensures.1 s in cc) c.loop-no.invariant)
+  | else-is_step_of w ↦ rw (w.last-is, w.found-is) (IsScanned-pass c.args.set c.args.trace.now
+      c.args.p c.loop-no.last c.loop-no.no c.loop-no.found.items (λ s. let e = w.if-is_step_of.ensures.1 s in cc) c.loop-no.invariant)
 ]
 
 pub returns-in_err-push_gap_between-clause-more : goal.returns-in_err-push_gap_between-clause-more

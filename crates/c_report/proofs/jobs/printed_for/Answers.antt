@@ -14,7 +14,8 @@ pub returns-in-Each-clause-printed : goal.returns-in-Each-clause-printed
 returns-in-Each-clause-printed c = rw c.in-Each.is (rw (sym c.as_str-in-Each.ensures.value) c.answer-in-Each.ensures.printed)
 
 pub returns-in-Timeouts-clause-printed : goal.returns-in-Timeouts-clause-printed
-returns-in-Timeouts-clause-printed c = rw c.in-Timeouts.is (rw (sym c.as_str-in-Timeouts.ensures.value) c.answer-in-Timeouts.ensures.printed)
+returns-in-Timeouts-clause-printed c = rw c.in-Timeouts.is
+    (rw (sym c.as_str-in-Timeouts.ensures.value) c.answer-in-Timeouts.ensures.printed)
 
 -- src/jobs.rt:39:1
 pub returns-in-Replay-clause-printed : goal.returns-in-Replay-clause-printed

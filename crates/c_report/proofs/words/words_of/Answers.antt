@@ -6,5 +6,6 @@ use Rattle.c_report.proofs.words.words_of.Goals as goal
 
 pub returns : goal.returns
 returns c =
-    let end = YieldsList-end (YieldsList-from_str_split 10 c.args.text.now (lit< tt) (cc) (cc) (cc)) c.loop-line.yielded _ c.loop-line.yielded_by _ _ c.in-None.is c.next.ensures.steps in
+    let end = YieldsList-end (YieldsList-from_str_split 10 c.args.text.now (lit< tt) (cc) (cc) (cc))
+    c.loop-line.yielded _ c.loop-line.yielded_by _ _ c.in-None.is c.next.ensures.steps in
     c.loop-line.invariant ∙ ap (λ lines. codes "synchrony" ∷ lines) end.0

@@ -2,7 +2,8 @@ use Rattle.certificate_checker.proofs.LongestSilences.{silence_has_gap, PhiFails
 use Rattle.certificate_checker.proofs.bounds.first_failing_phi.Goals as goal
 
 pub returns-in_err-row : goal.returns-in_err-row
-returns-in_err-row c = rw c.from_residual.ensures (λ k w s. c.in_err-row.ensures k _ (too_short-from_PhiFails c.args.set c.args.trace.now c.args.closings.now c.args.rows.now k w c.requires.closings c.requires.order s))
+returns-in_err-row c = rw c.from_residual.ensures (λ k w s. c.in_err-row.ensures k _
+    (too_short-from_PhiFails c.args.set c.args.trace.now c.args.closings.now c.args.rows.now k w c.requires.closings c.requires.order s))
 
 pub unreachable-requires : goal.unreachable-requires
 unreachable-requires c =
@@ -13,6 +14,8 @@ unreachable-requires c =
 
 pub returns : goal.returns
 returns c = (
-  PhiFails-from_silence c.args.set c.args.trace.now c.args.closings.now c.args.rows.now c.in_ok-row.row c.in_ok-row.longest c.in-Some.gap c.requires.closings c.requires.order c.in_ok-row.ensures.0 c.in-Some.ensures,
-  λ j w s. c.in_ok-row.ensures.1 j _ (too_short-from_PhiFails c.args.set c.args.trace.now c.args.closings.now c.args.rows.now j w c.requires.closings c.requires.order s),
+  PhiFails-from_silence c.args.set c.args.trace.now c.args.closings.now c.args.rows.now
+      c.in_ok-row.row c.in_ok-row.longest c.in-Some.gap c.requires.closings c.requires.order c.in_ok-row.ensures.0 c.in-Some.ensures,
+  λ j w s. c.in_ok-row.ensures.1 j _
+      (too_short-from_PhiFails c.args.set c.args.trace.now c.args.closings.now c.args.rows.now j w c.requires.closings c.requires.order s),
 )

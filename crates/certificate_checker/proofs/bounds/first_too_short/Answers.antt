@@ -39,8 +39,8 @@ loop-k-preserved c =
       high = omega (arith, c.requires.order.end (i + 1) (get_or rows i no_row) (row_at_next rows i no_row inside));
       known = c.silence_from-longest.ensures;
       above = λ j r. gst_below rows (length closings - 1) i j r c.requires.order inside;
-      found = found_passed (IsTooShort closings rows) i c.loop-k.found (too_short_not closings rows i longest c.silence_from-longest.ensures long)
-          (subst (λ (k : ℕ). FoundAfter (IsTooShort closings rows) k c.loop-k.found) next c.loop-k.invariant.found);
+      found = found_passed (IsTooShort closings rows) i c.loop-k.found (too_short_not closings rows i longest c.silence_from-longest.ensures
+          long) (subst (λ (k : ℕ). FoundAfter (IsTooShort closings rows) k c.loop-k.found) next c.loop-k.invariant.found);
     }
 
 pub returns : goal.returns

@@ -26,10 +26,12 @@ returns-then-tick-from-clause-below c =
     let rise = ticks_rise c.args.trace.now c.tick.ensures.timed k (c.loop-s.s - 1) x z.0 e z.1 l in omega (arith, rise, early, value))
 
 pub longer_miss-miss-requires-clause-earlier : goal.longer_miss-miss-requires-clause-earlier
-longer_miss-miss-requires-clause-earlier c = span_of_last c.args.set c.args.trace.now (c.loop-s.s - 1) c.last_miss.result c.last_miss.ensures
+longer_miss-miss-requires-clause-earlier c = span_of_last c.args.set c.args.trace.now
+    (c.loop-s.s - 1) c.last_miss.result c.last_miss.ensures
 
 pub longer_miss-miss-requires-clause-miss : goal.longer_miss-miss-requires-clause-miss
-longer_miss-miss-requires-clause-miss c = span_of_longest c.args.set c.args.trace.now (c.loop-s.s - 1) c.loop-s.miss c.loop-s.invariant.known
+longer_miss-miss-requires-clause-miss c = span_of_longest c.args.set c.args.trace.now
+    (c.loop-s.s - 1) c.loop-s.miss c.loop-s.invariant.known
 
 pub loop-s-preserved : goal.loop-s-preserved
 loop-s-preserved c =
@@ -38,7 +40,8 @@ loop-s-preserved c =
     record {
       low = omega (arith, below);
       high = omega (arith, c.loop-s.invariant.high);
-      known = rw c.longer_miss-miss.ensures (KnowsMissesAfter-earlier c.args.set c.args.trace.now (c.loop-s.s - 1) c.last_miss.result c.loop-s.miss (omega (arith, below)) c.last_miss.ensures c.loop-s.invariant.known);
+      known = rw c.longer_miss-miss.ensures (KnowsMissesAfter-earlier c.args.set c.args.trace.now
+          (c.loop-s.s - 1) c.last_miss.result c.loop-s.miss (omega (arith, below)) c.last_miss.ensures c.loop-s.invariant.known);
       above = λ k x e l. elim (cases_eq k (c.loop-s.s - 1)) [
         | inl same ↦ (let at = ap (tick_of c.args.trace.now) same in omega (arith, at, late, c.tick.ensures.value))
         | inr other ↦ c.loop-s.invariant.above k x e (omega (arith, other, l))

@@ -12,10 +12,11 @@ pub loop-k-init : goal.loop-k-init
 loop-k-init c = two_rows_first Above c.args.rows.now
 
 pub returns-then-rows-k : goal.returns-then-rows-k
-returns-then-rows-k c = two_rows_found Above c.args.rows.now c.loop-k.k no_row c.loop-k.auto.k c.loop-k-test.true (elim c.then-rows-k.branch [
-  | then-rows-k-via-then-rows-k w ↦ inl w.if-rows-k.true
-  | then-rows-k-via-else-rows-k+then-rows-k-2 w ↦ inr w.if-rows-k-2.true
-]) c.loop-k.invariant
+returns-then-rows-k c = two_rows_found Above c.args.rows.now c.loop-k.k no_row c.loop-k.auto.k c.loop-k-test.true
+    (elim c.then-rows-k.branch [
+      | then-rows-k-via-then-rows-k w ↦ inl w.if-rows-k.true
+      | then-rows-k-via-else-rows-k+then-rows-k-2 w ↦ inr w.if-rows-k-2.true
+    ]) c.loop-k.invariant
 
 pub loop-k-preserved : goal.loop-k-preserved
 loop-k-preserved c = two_rows_passed Above c.args.rows.now c.loop-k.k no_row c.loop-k.auto.k

@@ -6,10 +6,12 @@ pub loop-k-init : goal.loop-k-init
 loop-k-init c = two_rows_first (λ b r. r.gst ≤ b.gst) c.args.rows.now
 
 pub returns-then-rows-k : goal.returns-then-rows-k
-returns-then-rows-k c = two_rows_found (λ b r. r.gst ≤ b.gst) c.args.rows.now c.loop-k.k no_row c.loop-k.auto.k c.loop-k-test.true c.if-rows-k.true c.loop-k.invariant
+returns-then-rows-k c = two_rows_found (λ b r. r.gst ≤ b.gst)
+    c.args.rows.now c.loop-k.k no_row c.loop-k.auto.k c.loop-k-test.true c.if-rows-k.true c.loop-k.invariant
 
 pub loop-k-preserved : goal.loop-k-preserved
-loop-k-preserved c = two_rows_passed (λ b r. r.gst ≤ b.gst) c.args.rows.now c.loop-k.k no_row c.loop-k.auto.k (λ l. let n = c.if-rows-k.false in omega (arith, n, l)) c.loop-k.invariant
+loop-k-preserved c = two_rows_passed (λ b r. r.gst ≤ b.gst) c.args.rows.now c.loop-k.k no_row c.loop-k.auto.k
+    (λ l. let n = c.if-rows-k.false in omega (arith, n, l)) c.loop-k.invariant
 
 pub returns : goal.returns
 returns c = two_rows_none (λ b r. r.gst ≤ b.gst) c.args.rows.now c.loop-k.k c.loop-k-test.false c.loop-k.invariant

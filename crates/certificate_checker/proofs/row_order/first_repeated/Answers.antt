@@ -12,7 +12,8 @@ pub loop-k-init : goal.loop-k-init
 loop-k-init c = two_rows_first Repeats c.args.rows.now
 
 pub returns-then-rows-k-2 : goal.returns-then-rows-k-2
-returns-then-rows-k-2 c = two_rows_found Repeats c.args.rows.now c.loop-k.k no_row c.loop-k.auto.k c.loop-k-test.true (c.if-rows-k.true, c.if-rows-k-2.true) c.loop-k.invariant
+returns-then-rows-k-2 c = two_rows_found Repeats c.args.rows.now c.loop-k.k no_row c.loop-k.auto.k c.loop-k-test.true
+    (c.if-rows-k.true, c.if-rows-k-2.true) c.loop-k.invariant
 
 pub loop-k-preserved : goal.loop-k-preserved
 loop-k-preserved c = two_rows_passed Repeats c.args.rows.now c.loop-k.k no_row c.loop-k.auto.k (λ e. elim c.else-rows-k.branch [

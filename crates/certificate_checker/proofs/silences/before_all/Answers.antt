@@ -12,8 +12,8 @@ loop-preserved c =
     record {
       end = omega (arith, c.loop-test.true, n);
       long = pushed_long c.loop.found.items c.push.new.self.items _ c.loop.counter pushed known.long;
-      each = pushed_each (λ (q : ℕ) (x : Silence). KnowsSilence c.args.trace.now q 1 x) c.loop.found.items c.push.new.self.items _ c.loop.counter pushed known.long known.each
-          (KnowsSilence-before_all c.args.trace.now c.loop.counter _ c.new.ensures.items);
+      each = pushed_each (λ (q : ℕ) (x : Silence). KnowsSilence c.args.trace.now q 1 x) c.loop.found.items c.push.new.self.items
+          _ c.loop.counter pushed known.long known.each (KnowsSilence-before_all c.args.trace.now c.loop.counter _ c.new.ensures.items);
     }
 
 pub returns : goal.returns

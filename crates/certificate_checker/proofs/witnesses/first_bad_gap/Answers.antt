@@ -12,15 +12,16 @@ pub loop-k-init : goal.loop-k-init
 loop-k-init c = row_first (Lacks c.args.set c.args.trace.now c.args.rows.now) c.args.rows.now
 
 -- the tick after the stretch
-after_is : (c : After-after_stretch-after) → c.after_stretch-after.result ≡ after_stretch c.args.rows.now c.args.trace.now.last (c.loop-k.k + 1)
-after_is c = c.after_stretch-after.ensures ∙ ap (λ (last : ℕ). after_stretch c.args.rows.now last (c.loop-k.k + 1)) c.last_tick.ensures.value
+after_is : (c : After-after_stretch-after) → c.after_stretch-after.result
+    ≡ after_stretch c.args.rows.now c.args.trace.now.last (c.loop-k.k + 1)
+after_is c = c.after_stretch-after.ensures
+    ∙ ap (λ (last : ℕ). after_stretch c.args.rows.now last (c.loop-k.k + 1)) c.last_tick.ensures.value
 
 pub returns-then-not-shows_phi : goal.returns-then-not-shows_phi
-returns-then-not-shows_phi c = row_found (Lacks c.args.set c.args.trace.now c.args.rows.now) c.args.rows.now c.loop-k.k no_row c.loop-k-test.true
-    (λ s. let e = c.shows_phi.ensures.1
+returns-then-not-shows_phi c = row_found (Lacks c.args.set c.args.trace.now c.args.rows.now)
+    c.args.rows.now c.loop-k.k no_row c.loop-k-test.true (λ s. let e = c.shows_phi.ensures.1
     (subst (λ (after : ℕ). ShowsPhi c.args.set c.args.trace.now after (get_or c.args.rows.now c.loop-k.k no_row).phi
-    (get_or c.args.rows.now c.loop-k.k no_row).gap)
-    (sym (after_is (goal.at.returns-then-not-shows_phi c).After-after_stretch-after)) s) in
+    (get_or c.args.rows.now c.loop-k.k no_row).gap) (sym (after_is (goal.at.returns-then-not-shows_phi c).After-after_stretch-after)) s) in
     let f = c.if-not-shows_phi.true in cc) c.loop-k.invariant
 
 pub loop-k-preserved : goal.loop-k-preserved

@@ -15,15 +15,19 @@ loop-thread-preserved g c =
     let e : c.loop-thread.thread-iterator.rest.items ≡ c.in-Some.thread ∷ c.next.new.self.rest.items = search rules in
     let was = subst (AreJoined c.args.threads.items c.loop-thread.all) e c.loop-thread.invariant.0 in
     let heard = subst (AreHeard g.G.Gate.lets c.args.threads.items c.loop-thread.all) e c.loop-thread.invariant.1 in (
-      AreJoined-more c.args.threads.items c.loop-thread.all c.join.result c.both-all.result c.in-Some.thread c.next.new.self.rest.items was c.join.ensures.0 c.both-all.ensures.digest,
-      AreHeard-more g.G.Gate.lets c.args.threads.items c.loop-thread.all c.join.result c.both-all.result c.in-Some.thread c.next.new.self.rest.items heard c.join.ensures.1 c.both-all.ensures.ok c.both-all.ensures.cause,
+      AreJoined-more c.args.threads.items c.loop-thread.all
+          c.join.result c.both-all.result c.in-Some.thread c.next.new.self.rest.items was c.join.ensures.0 c.both-all.ensures.digest,
+      AreHeard-more g.G.Gate.lets c.args.threads.items c.loop-thread.all c.join.result c.both-all.result
+          c.in-Some.thread c.next.new.self.rest.items heard c.join.ensures.1 c.both-all.ensures.ok c.both-all.ensures.cause,
     )
 
 pub returns-clause-digest : goal.returns-clause-digest
-returns-clause-digest g c = AreJoined-all c.args.threads.items c.loop-thread.all c.loop-thread.thread-iterator.rest.items c.loop-thread.invariant.0 (search rules)
+returns-clause-digest g c =
+    AreJoined-all c.args.threads.items c.loop-thread.all c.loop-thread.thread-iterator.rest.items c.loop-thread.invariant.0 (search rules)
 
 pub returns-clause-entered : goal.returns-clause-entered
-returns-clause-entered g c = AreHeard-all g.G.Gate.lets c.args.threads.items c.loop-thread.all c.loop-thread.thread-iterator.rest.items c.loop-thread.invariant.1 (search rules)
+returns-clause-entered g c = AreHeard-all g.G.Gate.lets
+    c.args.threads.items c.loop-thread.all c.loop-thread.thread-iterator.rest.items c.loop-thread.invariant.1 (search rules)
 
 pub returns-clause-held : goal.returns-clause-held
 returns-clause-held g c = c.loop-thread.invariant.1.held

@@ -13,4 +13,5 @@ pub append_ids-requires-clause-high : goal.append_ids-requires-clause-high
 append_ids-requires-clause-high c =
     let t = c.args.trace.now in
     let step : step_at t.steps c.args.at.no ≡ Some c.in-Some.step.now = search rules in
-    subst (λ (ids : List ℕ). All (λ s. s ≤ length t.steps) ids) (sym c.ids.ensures) (ids_high t c.args.at.no c.in-Some.step.now c.step.ensures.sound step)
+    subst (λ (ids : List ℕ). All (λ s. s ≤ length t.steps) ids)
+    (sym c.ids.ensures) (ids_high t c.args.at.no c.in-Some.step.now c.step.ensures.sound step)

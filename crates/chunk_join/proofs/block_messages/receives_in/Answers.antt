@@ -16,7 +16,8 @@ none_or_some (Some v) = inr (v, refl)
 
 pub loop-no-init : goal.loop-no-init
 loop-no-init c =
-    let none : c.in_ok-last.last.items ≡ replicate (MAX_MEMBER + 1) None = c.in_ok-last.ensures.items_if_clones_equal (λ y k. elim (none_or_some y) [ inl e ↦ e | inr v ↦ absurd (rw v.1 at k) ]) in (
+    let none : c.in_ok-last.last.items ≡ replicate (MAX_MEMBER + 1) None =
+    c.in_ok-last.ensures.items_if_clones_equal (λ y k. elim (none_or_some y) [ inl e ↦ e | inr v ↦ absurd (rw v.1 at k) ]) in (
       let same : c.args.before ≤ c.args.before = omega arith in same,
       rw c.new-taken.ensures.items (any_takes_none c.args.set c.args.trace.now c.args.from c.args.before c.requires.low c.requires.first),
       last_none c.args.set c.args.trace.now c.args.from c.args.before c.in_ok-last.last.items c.requires.low c.requires.first none,
@@ -43,7 +44,11 @@ loop-no-preserved c =
           rw (w.taken-is, w.last-is, w.of-at.ensures) (more, subst (AreTakesBy c.args.set t i (no + 1) []) (sym items) both.0, both.1))
       | in_default w ↦ (
           let none = subst (IsReceiverAt c.args.set t.steps (no + 1)) w.in_default.is c.receiving_member.ensures in
-          rw (w.taken-is, w.last-is) (more, any_takes_same c.args.set t i no c.loop-no.taken.items none c.loop-no.invariant.1, last_same c.args.set t i no c.loop-no.last.items none c.loop-no.invariant.2))
+          rw (w.taken-is, w.last-is) (
+            more,
+            any_takes_same c.args.set t i no c.loop-no.taken.items none c.loop-no.invariant.1,
+            last_same c.args.set t i no c.loop-no.last.items none c.loop-no.invariant.2,
+          ))
     ]
 
 pub returns-clause-taken : goal.returns-clause-taken

@@ -10,7 +10,8 @@ use Rattle.chunk_join.proofs.block_silences.end_silences.Goals as goal
 use Rattle.chunk_join.proofs.block_silences.end_silences.Goals.{then-from-span+in_ok-push, else-from-span}
 
 pub loop-no-init : goal.loop-no-init
-loop-no-init c = (c.requires.long, steps_order c.args.trace.now c.args.span.tick c.args.span.before c.args.span.end c.requires.steps, λ i low k. k)
+loop-no-init c =
+    (c.requires.long, steps_order c.args.trace.now c.args.span.tick c.args.span.before c.args.span.end c.requires.steps, λ i low k. k)
 
 pub loop-no-preserved-in-Some : goal.loop-no-preserved-in-Some
 loop-no-preserved-in-Some c =
@@ -21,10 +22,12 @@ loop-no-preserved-in-Some c =
     let test = c.loop-no-test.true in
     let known = c.loop-no.invariant in
     let next : c.loop-no.no ≡ n + 1 = omega (arith, test) in
-    let tick = steps_inside t x c.args.span.before c.args.span.end n c.requires.steps (omega (arith, test)) (omega (arith, test, c.loop-no.auto.no)) in
+    let tick = steps_inside t x c.args.span.before c.args.span.end n c.requires.steps
+    (omega (arith, test)) (omega (arith, test, c.loop-no.auto.no)) in
     let long : length (slice_set c.loop-no.begun.items p (x + 1)) ≡ MAX_MEMBER + 1 = length-set c.loop-no.begun.items p (x + 1) ∙ known.0 in
     let high = (member_range c.args.set p c.in-Some.ensures.0).1 in
-    let value : c.index-from.result.now ≡ get_or c.loop-no.begun.items p 0 = c.index-from.ensures ∙ get_or_default c.loop-no.begun.items p c.index-from.result.now 0 (omega (arith, high, known.0)) in
+    let value : c.index-from.result.now ≡ get_or c.loop-no.begun.items p 0 = c.index-from.ensures
+    ∙ get_or_default c.loop-no.begun.items p c.index-from.result.now 0 (omega (arith, high, known.0)) in
     elim c.if-from-span.branch [
       | then-from-span+in_ok-push w ↦ rw w.silent-is (
         long,
@@ -64,4 +67,5 @@ pub returns-clause-ended : goal.returns-clause-ended
 returns-clause-ended c =
     let t = c.args.trace.now in
     let at : c.loop-no.no ≡ c.args.span.before = omega (arith, c.loop-no-test.false, c.loop-no.invariant.1) in
-    λ i l k. subst (λ m. AreEnded c.args.set t i c.args.span.tick m c.loop-no.silent.items c.loop-no.begun.items) at (c.loop-no.invariant.2 i l k)
+    λ i l k. subst (λ m. AreEnded c.args.set t i c.args.span.tick m c.loop-no.silent.items c.loop-no.begun.items) at
+    (c.loop-no.invariant.2 i l k)

@@ -26,13 +26,17 @@ loop-k-preserved c =
     let within = c.loop-k.invariant.within in
     let e : c.loop-k.k ≡ suc k = omega (arith, c.loop-k-test.true) in
     let read : message ≡ get_or part.sent k message = search rules in
-    let at : slice_get part.sent k ≡ Some message = slice_get-get_or part.sent k message (omega (arith, within, c.loop-k-test.true, c.requires)) ∙ ap (λ (m : Message). Some m) (sym read) in
+    let at : slice_get part.sent k ≡ Some message = slice_get-get_or part.sent k message
+    (omega (arith, within, c.loop-k-test.true, c.requires)) ∙ ap (λ (m : Message). Some m) (sym read) in
     let is : c.note_message.new.level ≡ with_missed part.to c.loop-k.level message (missed part.last message) = search rules in
     record {
       within = omega (arith, within);
-      falling = StandsBefore-through _ c.loop-k.level _ (rw is (StandsBefore-with_missed part.to c.loop-k.level message (missed part.last message))) c.loop-k.invariant.falling;
-      phi = ap (λ (l : Level). l.phi) is ∙ with_missed-phi part.to c.loop-k.level message (missed part.last message) ∙ c.loop-k.invariant.phi;
-      gap = ap (λ (l : Level). l.gap) is ∙ with_missed-gap part.to c.loop-k.level message (missed part.last message) ∙ c.loop-k.invariant.gap;
+      falling = StandsBefore-through _ c.loop-k.level _
+          (rw is (StandsBefore-with_missed part.to c.loop-k.level message (missed part.last message))) c.loop-k.invariant.falling;
+      phi = ap (λ (l : Level). l.phi) is ∙ with_missed-phi part.to c.loop-k.level message (missed part.last message)
+          ∙ c.loop-k.invariant.phi;
+      gap = ap (λ (l : Level). l.gap) is ∙ with_missed-gap part.to c.loop-k.level message (missed part.last message)
+          ∙ c.loop-k.invariant.gap;
       later = λ j m low high h. elim (cases_lt k j) [
         | inl later ↦ c.loop-k.invariant.later j m (omega (arith, later, c.loop-k-test.true)) high h
         | inr first ↦ (
@@ -40,6 +44,6 @@ loop-k-preserved c =
             let one = ap (λ (x : Message). x.sent.tick) (same_Some _ _ (sym h ∙ ap (slice_get part.sent) same ∙ at)) in
             omega (arith, one, c.if-tick-g.false))
       ];
-      misses = λ h. subst (HasMissesFrom part k) (sym is)
-          (HasMissesFrom-back part k message c.loop-k.level at (subst (λ n. HasMissesFrom part n c.loop-k.level) e (c.loop-k.invariant.misses h)));
+      misses = λ h. subst (HasMissesFrom part k) (sym is) (HasMissesFrom-back part k message c.loop-k.level at
+          (subst (λ n. HasMissesFrom part n c.loop-k.level) e (c.loop-k.invariant.misses h)));
     }

@@ -28,19 +28,22 @@ note_silence-requires-clause-end c = λ w e.
     omega (arith, high, c.part.invariant.end))
 
 -- one tick back
-back : (c : After-note_silence) → IsTickBack c.args.part.now (c.loop-next.next - 1) c.note_messages-messages.result c.begun_by-silences.result c.note_silence.new.level c.loop-next.builder
+back : (c : After-note_silence) → IsTickBack c.args.part.now
+    (c.loop-next.next - 1) c.note_messages-messages.result c.begun_by-silences.result c.note_silence.new.level c.loop-next.builder
 back c =
     let part = c.args.part.now in
     let g = c.loop-next.next - 1 in
     let low = c.loop-next.invariant.low in
     let next : c.loop-next.next ≡ g + 1 = omega (arith, c.loop-next-test.true) in
-    let known : IsGoneOver part (g + 1) c.loop-next.messages c.loop-next.silences c.loop-next.level c.loop-next.builder = rw next at c.loop-next.invariant.known in
+    let known : IsGoneOver part (g + 1) c.loop-next.messages c.loop-next.silences c.loop-next.level c.loop-next.builder =
+    rw next at c.loop-next.invariant.known in
     let noted = c.note_messages-messages.ensures in
     let begun = c.begun_by-silences.ensures in
     let items : c.deref.result.now ≡ part.silent = search rules in
     let again : c.deref-in-loop-next.result.now ≡ part.silent = search rules in
     let is : c.note_silence.new.level ≡ with_silence c.note_messages-messages.new.level g (last_at part.silent c.begun_by-silences.result) =
-    c.note_silence.ensures ∙ ap (with_silence c.note_messages-messages.new.level g) (c.last_at.ensures ∙ ap (λ (xs : List Gap). last_at xs c.begun_by-silences.result) again) in
+    c.note_silence.ensures ∙ ap (with_silence c.note_messages-messages.new.level g)
+    (c.last_at.ensures ∙ ap (λ (xs : List Gap). last_at xs c.begun_by-silences.result) again) in
     rw is (IsTickBack-read part g c.loop-next.messages c.loop-next.silences c.note_messages-messages.result
     c.begun_by-silences.result c.loop-next.level c.note_messages-messages.new.level c.loop-next.builder
     known (record {
@@ -73,13 +76,14 @@ pub loop-next-preserved : goal.loop-next-preserved
 loop-next-preserved c =
     let part = c.args.part.now in
     let quiet = c.quiet_from-next.ensures.quiet in
-    let g : c.quiet_from-next.result + (c.loop-next.next - 1 - c.quiet_from-next.result) ≡ c.loop-next.next - 1 = omega (arith, c.quiet_from-next.ensures.high) in
+    let g : c.quiet_from-next.result + (c.loop-next.next - 1 - c.quiet_from-next.result)
+    ≡ c.loop-next.next - 1 = omega (arith, c.quiet_from-next.ensures.high) in
     let known = (back (goal.at.loop-next-preserved c).After-note_silence).known in
     record {
       low = quiet.start;
       from = λ l. c.quiet_from-next.ensures.low;
-      known = rw (c.repeat.ensures, c.in_ok-lower.ensures.ok)
-          (IsGoneOver-repeated part (c.loop-next.next - 1 - c.quiet_from-next.result) c.quiet_from-next.result _ _ _ c.loop-next.builder (rw g known) quiet);
+      known = rw (c.repeat.ensures, c.in_ok-lower.ensures.ok) (IsGoneOver-repeated part
+          (c.loop-next.next - 1 - c.quiet_from-next.result) c.quiet_from-next.result _ _ _ c.loop-next.builder (rw g known) quiet);
     }
 
 pub returns : goal.returns

@@ -6,6 +6,5 @@ use Rattle.chunk_join.proofs.growing_digests.take_in.Goals as goal
 
 pub returns-clause-ok : goal.returns-clause-ok
 returns-clause-ok c = on_ok_weaker c.append.result
-    (λ same. subst (IsDigestUpTo c.args.set c.args.trace.now c.args.to) (sym same)
-    (IsDigestUpTo-joined c.args.set c.args.trace.now (c.args.from - 1) c.args.to c.args.digest.now c.in_ok-more.more c.requires.before c.in_ok-more.ensures.digest))
-    c.append.ensures.ok
+    (λ same. subst (IsDigestUpTo c.args.set c.args.trace.now c.args.to) (sym same) (IsDigestUpTo-joined c.args.set c.args.trace.now
+    (c.args.from - 1) c.args.to c.args.digest.now c.in_ok-more.more c.requires.before c.in_ok-more.ensures.digest)) c.append.ensures.ok

@@ -10,8 +10,10 @@ returns-then-at-sent c =
     let point = IsPartitionPoint-from_clause (λ m. comes_before m.sent c.args.take.now.sent) _ _
     c.partition_point-at.ensures.partitioned (parted_by_place c.args.sent.now c.args.take.now.sent c.requires)
     (λ a r q k. search rules) in
-    settled_at c.args.last.now c.args.take.now c.args.sent.now c.partition_point-at.result c.requires point c.settled.result c.if-at-sent.true
-    (λ d. c.settled.ensures ∙ ap (settle_with c.args.last.now c.args.take.now) (get_or_default c.args.sent.now c.partition_point-at.result _ d c.if-at-sent.true))
+    settled_at c.args.last.now c.args.take.now c.args.sent.now
+    c.partition_point-at.result c.requires point c.settled.result c.if-at-sent.true
+    (λ d. c.settled.ensures ∙ ap (settle_with c.args.last.now c.args.take.now)
+    (get_or_default c.args.sent.now c.partition_point-at.result _ d c.if-at-sent.true))
 
 pub returns-else-at-sent : goal.returns-else-at-sent
 returns-else-at-sent c =

@@ -17,5 +17,8 @@ loop-p-preserved c =
     let long = c.requires in
     let same = c.loop-p.invariant.1 in
     let inside : p < length now = omega (arith, long, same, c.loop-p-test.true) in
-    let value = c.later_of.ensures ∙ ap (λ (o : Option Place). later_of o (get_or right p None)) (c.index.ensures ∙ get_or_default now p c.index.result.now None inside) in
-    (later_each-more old right p now c.later_of.result None (omega (arith, inside, same)) long c.loop-p.invariant.0 value, length-set now p c.later_of.result ∙ same)
+    let value = c.later_of.ensures ∙ ap (λ (o : Option Place). later_of o (get_or right p None))
+    (c.index.ensures ∙ get_or_default now p c.index.result.now None inside) in (
+      later_each-more old right p now c.later_of.result None (omega (arith, inside, same)) long c.loop-p.invariant.0 value,
+      length-set now p c.later_of.result ∙ same,
+    )

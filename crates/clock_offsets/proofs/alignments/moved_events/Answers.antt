@@ -17,10 +17,12 @@ returns-in_err-move_event-clause-refused c =
     let fits : SFits w128 c.args.latest = c.ranges.latest in
     let late = simp to_z-of_z at c.in_err-move_event.ensures.refused in
     rw (p.1) (
-    late-next c.args.offsets.now c.args.latest c.args.events.items c.loop-event.event-items c.loop-event.event-index c.event-item.result c.loop-event.invariant
-    (within c.loop-event.event-index c.deref_mut-event-items.result.now c.args.events.items c.deref_mut-event-items.ensures.value c.loop-event-test.true) late)
+    late-next c.args.offsets.now c.args.latest c.args.events.items
+    c.loop-event.event-items c.loop-event.event-index c.event-item.result c.loop-event.invariant
+    (within c.loop-event.event-index c.deref_mut-event-items.result.now
+    c.args.events.items c.deref_mut-event-items.ensures.value c.loop-event-test.true) late)
 
 pub loop-event-preserved : goal.loop-event-preserved
-loop-event-preserved c =
-    moved-next (moved_event c.args.offsets.now) c.args.events.items c.loop-event.event-items c.loop-event.event-index c.event-item.result c.move_event.new.event c.loop-event.invariant
-    (within c.loop-event.event-index c.deref_mut-event-items.result.now c.args.events.items c.deref_mut-event-items.ensures.value c.loop-event-test.true) c.in_ok-move_event.ensures.moved
+loop-event-preserved c = moved-next (moved_event c.args.offsets.now) c.args.events.items c.loop-event.event-items c.loop-event.event-index
+    c.event-item.result c.move_event.new.event c.loop-event.invariant (within c.loop-event.event-index c.deref_mut-event-items.result.now
+    c.args.events.items c.deref_mut-event-items.ensures.value c.loop-event-test.true) c.in_ok-move_event.ensures.moved

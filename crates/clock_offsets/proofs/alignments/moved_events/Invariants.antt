@@ -3,4 +3,5 @@ use Rattle.clock_offsets.specs.MovedClocks.{moved_event}
 use Rattle.clock_offsets.proofs.alignments.moved_events.Given as goal
 
 abbrev pub invariant-loop-event : goal.invariant-loop-event
-invariant-loop-event l = l.event-items ≡ map (moved_event l.offsets) (take l.event-index l.fn.events.items) ++ drop l.event-index l.fn.events.items
+invariant-loop-event l = l.event-items ≡ map (moved_event l.offsets)
+    (take l.event-index l.fn.events.items) ++ drop l.event-index l.fn.events.items

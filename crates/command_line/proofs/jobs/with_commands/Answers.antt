@@ -30,5 +30,6 @@ pub returns : goal.returns
 returns c = λ made bare.
     let at = c.loop-below in
     let none : into_iter_items at.below-iterator ≡ [] = empty _ (sym at.invariant.counted ∙ c.in-None.ensures.steps.0) in
-    let all = sym (append-nil at.yielded) ∙ ap (λ rest. at.yielded ++ rest) (sym none) ∙ at.invariant.all ∙ c.into_iter-below-iterator.ensures.into_iter_gives.0 in
+    let all = sym (append-nil at.yielded) ∙ ap (λ rest. at.yielded ++ rest) (sym none)
+    ∙ at.invariant.all ∙ c.into_iter-below-iterator.ensures.into_iter_gives.0 in
     at.invariant.adds commands (subst (AreMade commands) (sym all) made) ∙ ap (λ (a : App). fold with_command a commands) bare

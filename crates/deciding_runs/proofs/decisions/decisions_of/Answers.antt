@@ -16,12 +16,13 @@ loop-no-preserved c =
     let no = c.loop-no.no in
     let at = decision_at c.args.world.now.trace.config c.args.world.now.trace.steps in
     let numbered = is.numbered in
-    let long : length c.note_step.new.rounds ≡ c.loop-no.rounds.len = c.in_ok-note_step.ensures.rounds.count ∙ sym is.rounds.count ∙ sym c.loop-no.rounds.ok.0 in
+    let long : length c.note_step.new.rounds ≡ c.loop-no.rounds.len = c.in_ok-note_step.ensures.rounds.count
+    ∙ sym is.rounds.count ∙ sym c.loop-no.rounds.ok.0 in
     let next : no + 1 - 1 ≡ no - 1 + 1 = omega arith in
     record {
       numbered = omega arith;
-      rounds = subst (AreRounds c.args.world.now.trace.config c.args.world.now.trace.steps (no + 1))
-          (sym (written-over c.loop-no.rounds.len c.note_step.new.rounds (drop (length c.note_step.new.rounds) c.loop-no.rounds.items) long)) c.in_ok-note_step.ensures.rounds;
+      rounds = subst (AreRounds c.args.world.now.trace.config c.args.world.now.trace.steps (no + 1)) (sym (written-over c.loop-no.rounds.len
+          c.note_step.new.rounds (drop (length c.note_step.new.rounds) c.loop-no.rounds.items) long)) c.in_ok-note_step.ensures.rounds;
       found = c.in_ok-note_step.ensures.found ∙ ap (λ xs. xs ++ filter_map at (no ∷ [])) is.found
           ∙ sym (filter_map-append at (range_with_len 1 (no - 1)) (no ∷ []))
           ∙ sym (ap (filter_map at) (range_with_len-more 1 (no - 1) no (omega arith)))

@@ -6,7 +6,8 @@ use Rattle.deciding_runs.proofs.peers.awaited.Goals.{then-is_awaited, else-is_aw
 use Rattle.deciding_runs.proofs.peers.awaited.Goals as goal
 
 -- a count over a range with one more number, of which the test is known
-counted : (test : ℕ → Bool) (q : ℕ) (b : Bool) → 1 ≤ q → test q ≡ b → count_by test (range_with_len 1 (q + 1 - 1)) ≡ count_by test (range_with_len 1 (q - 1)) + cond b 1 0
+counted : (test : ℕ → Bool) (q : ℕ) (b : Bool) → 1 ≤ q
+    → test q ≡ b → count_by test (range_with_len 1 (q + 1 - 1)) ≡ count_by test (range_with_len 1 (q - 1)) + cond b 1 0
 counted test q b low is =
     let e : suc (q - 1) ≡ q + 1 - 1 = omega arith in
     let f : suc (q - 1) ≡ q = omega arith in

@@ -15,7 +15,8 @@ loop-k-preserved c =
         | in-Some w ↦ rw w.least-is
             (due_here trace c.args.rows.now due c.loop-k.k w.in-Some.deadline w.earlier.result c.loop-k.least here
             w.in-Some.ensures.0 w.in-Some.ensures.1 w.earlier.ensures c.loop-k.invariant.least)
-        | in_default w ↦ rw w.least-is (due_later trace c.args.rows.now due c.loop-k.k c.loop-k.least here w.in_default.ensures c.loop-k.invariant.least)
+        | in_default w ↦ rw w.least-is
+            (due_later trace c.args.rows.now due c.loop-k.k c.loop-k.least here w.in_default.ensures c.loop-k.invariant.least)
       ];
     }
 

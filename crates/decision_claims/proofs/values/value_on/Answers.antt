@@ -12,7 +12,8 @@ loop-part-init c =
     record {
       inside = omega arith;
       fits = c.with_part-here.ensures.depth c.args.rest.now (rw c.new-around.ensures c.requires);
-      near = λ cap l. near_next c.args.words cap (2 ^ 64 - 1) c.args.first c.args.rest.now (tally nothing []) (tally c.with_part-here.result c.with_part-here.new.around.items) l first;
+      near = λ cap l. near_next c.args.words cap (2 ^ 64 - 1) c.args.first c.args.rest.now
+          (tally nothing []) (tally c.with_part-here.result c.with_part-here.new.around.items) l first;
     }
 
 pub loop-part-preserved : goal.loop-part-preserved

@@ -9,5 +9,6 @@ invariant-loop-part l = record {
   inside : l.part-index ≤ length l.rest;
   fits : Fits (length l.around.items) (drop l.part-index l.rest);
   near : (cap : ℕ) → cap * divisors (l.fn.first ∷ l.rest) ≤ 2 ^ 64 - 1 → (cap * divisors (drop l.part-index l.rest) ≤ 2 ^ 64 - 1)
-      × (min (value_from l.words (tally l.here l.around.items) (drop l.part-index l.rest)) cap ≡ min (value_from l.words (tally nothing []) (l.fn.first ∷ l.rest)) cap);
+      × (min (value_from l.words (tally l.here l.around.items) (drop l.part-index l.rest)) cap
+      ≡ min (value_from l.words (tally nothing []) (l.fn.first ∷ l.rest)) cap);
 }

@@ -4,7 +4,8 @@ use Rattle.decision_claims.proofs.AlikeValues.{near_closed, near_same, reverse-l
 use Rattle.decision_claims.proofs.values.with_part.Goals as goal
 
 pub returns-in-Value-clause-near : goal.returns-in-Value-clause-near
-returns-in-Value-clause-near c = λ cap l. rw c.in-Value.is (record { here = rw c.value.ensures at (c.times.ensures cap l); around = near_same cap (reverse c.args.around.now.items) })
+returns-in-Value-clause-near c = λ cap l. rw c.in-Value.is
+    (record { here = rw c.value.ensures at (c.times.ensures cap l); around = near_same cap (reverse c.args.around.now.items) })
 
 pub returns-in-Plus-clause-near : goal.returns-in-Plus-clause-near
 returns-in-Plus-clause-near c = λ cap l. let sum = c.saturating_add.ensures in
@@ -15,7 +16,8 @@ returns-in-Plus-clause-near c = λ cap l. let sum = c.saturating_add.ensures in
     })
 
 pub returns-in-Times-clause-near : goal.returns-in-Times-clause-near
-returns-in-Times-clause-near c = λ cap l. rw c.in-Times.is (record { here = record { most = refl; sum = refl; product = refl }; around = near_same cap (reverse c.args.around.now.items) })
+returns-in-Times-clause-near c = λ cap l. rw c.in-Times.is
+    (record { here = record { most = refl; sum = refl; product = refl }; around = near_same cap (reverse c.args.around.now.items) })
 
 pub returns-in-Over-clause-near : goal.returns-in-Over-clause-near
 returns-in-Over-clause-near c = λ cap l.
@@ -62,6 +64,7 @@ returns-in-Comma-clause-near c = λ cap l. let most = c.whole.ensures in
 pub returns-in-Some-clause-near : goal.returns-in-Some-clause-near
 returns-in-Some-clause-near c = λ cap l.
     rw (c.in-Close.is, reverse-last c.args.around.now.items c.pop.new.self.items c.in-Some.outer c.in-Some.ensures.items) (record {
-      here = near_closed cap (2 ^ 64 - 1) c.times-in-Some.result c.in-Some.outer (whole c.args.here) l (rw c.whole-in-Some.ensures at (c.times-in-Some.ensures cap l));
+      here = near_closed cap (2 ^ 64 - 1) c.times-in-Some.result c.in-Some.outer
+          (whole c.args.here) l (rw c.whole-in-Some.ensures at (c.times-in-Some.ensures cap l));
       around = near_same cap (reverse c.pop.new.self.items);
     })

@@ -22,4 +22,5 @@ loop-i-preserved g c =
     c.loop-i.invariant ∙ place-later c.loop-i.i header c.args.column (omega arith) other
 
 pub returns-clause-place : goal.returns-clause-place
-returns-clause-place g c = sym (c.loop-i.invariant ∙ place-none c.loop-i.i (g.F.Fields.fields c.args.header.now) c.args.column (omega arith))
+returns-clause-place g c =
+    sym (c.loop-i.invariant ∙ place-none c.loop-i.i (g.F.Fields.fields c.args.header.now) c.args.column (omega arith))

@@ -51,7 +51,11 @@ returns-in_err-aligned-clause-refused g c =
       log = seen_log log;
       events = log.events.items;
       clock = c.in_ok-clock.clock;
-      told = record { read = (lent-read c.args.options.now _ _ _ c.deref.ensures.value c.in_ok-log.ensures.read); same = refl; fits = sym c.in_ok-clock.ensures.clock };
+      told = record {
+        read = (lent-read c.args.options.now _ _ _ c.deref.ensures.value c.in_ok-log.ensures.read);
+        same = refl;
+        fits = sym c.in_ok-clock.ensures.clock;
+      };
       asked = c.in_err-aligned.ensures.refused.0;
       unaligned = same;
     }))
@@ -66,13 +70,15 @@ returns-then-how-clause-import g c =
       same = refl;
       fits = sym c.in_ok-clock.ensures.clock;
     }) c.in_ok-aligned.aligned
-    c.in_ok-aligned.ensures.aligned c.in_ok-aligned.ensures.nodes c.in_ok-limit.limit (sym c.in_ok-limit.ensures) c.args.options.now.drop_lost
+    c.in_ok-aligned.ensures.aligned c.in_ok-aligned.ensures.nodes c.in_ok-limit.limit
+    (sym c.in_ok-limit.ensures) c.args.options.now.drop_lost
     c.args.options.now.merge refl refl c.args.told c.in_ok-lateness.lateness c.in_ok-lateness.ensures.lateness
-    p.import p.events.items p.logged p.left_at p.parts p.first p.clock p.places.items made given.nodes given.offsets given.lateness_is given.clock_is) c.left_import.ensures.made c.left_import.ensures.given
+    p.import p.events.items p.logged p.left_at p.parts p.first p.clock p.places.items
+    made given.nodes given.offsets given.lateness_is given.clock_is) c.left_import.ensures.made c.left_import.ensures.given
 
 pub returns-then-how-clause-short : goal.returns-then-how-clause-short
-returns-then-how-clause-short g c =
-    ok-both c.left_import.result _ _ _ (λ p given same. subst (λ (clock : Clock). clock.width < 2 ^ 94) (sym given.clock_is) c.in_ok-clock.ensures.short) c.left_import.ensures.given c.left_import.ensures.given
+returns-then-how-clause-short g c = ok-both c.left_import.result _ _ _ (λ p given same. subst (λ (clock : Clock). clock.width < 2 ^ 94)
+    (sym given.clock_is) c.in_ok-clock.ensures.short) c.left_import.ensures.given c.left_import.ensures.given
 
 pub returns-then-how-clause-refused : goal.returns-then-how-clause-refused
 returns-then-how-clause-refused g c =
@@ -84,7 +90,8 @@ returns-then-how-clause-refused g c =
       same = refl;
       fits = sym c.in_ok-clock.ensures.clock;
     }) c.in_ok-aligned.aligned
-    c.in_ok-aligned.ensures.aligned c.in_ok-aligned.ensures.nodes c.in_ok-limit.limit (sym c.in_ok-limit.ensures) c.args.options.now.drop_lost c.args.options.now.merge refl refl) c.left_import.ensures.refused
+    c.in_ok-aligned.ensures.aligned c.in_ok-aligned.ensures.nodes c.in_ok-limit.limit
+    (sym c.in_ok-limit.ensures) c.args.options.now.drop_lost c.args.options.now.merge refl refl) c.left_import.ensures.refused
 
 pub returns-then-how-clause-more : goal.returns-then-how-clause-more
 returns-then-how-clause-more g c = λ e. (let same = c.len.ensures in let few = c.if-len-gt-MAX_TEXT_BYTES.false in omega (arith, same, few))
@@ -101,11 +108,12 @@ returns-clause-import g c =
     }) c.in_ok-aligned.aligned
     c.in_ok-aligned.ensures.aligned c.in_ok-aligned.ensures.nodes c.in_ok-limit.limit (sym c.in_ok-limit.ensures) false
     false (search rules) (search rules) c.args.told (lateness_of c.in_ok-aligned.aligned.log.events.items) refl
-    p.import p.events.items p.logged p.left_at p.parts p.first p.clock p.places.items made given.nodes given.offsets given.lateness_is given.clock_is) c.whole_import.ensures.made c.whole_import.ensures.given
+    p.import p.events.items p.logged p.left_at p.parts p.first p.clock p.places.items
+    made given.nodes given.offsets given.lateness_is given.clock_is) c.whole_import.ensures.made c.whole_import.ensures.given
 
 pub returns-clause-short : goal.returns-clause-short
-returns-clause-short g c =
-    ok-both c.whole_import.result _ _ _ (λ p given same. subst (λ (clock : Clock). clock.width < 2 ^ 94) (sym given.clock_is) c.in_ok-clock.ensures.short) c.whole_import.ensures.given c.whole_import.ensures.given
+returns-clause-short g c = ok-both c.whole_import.result _ _ _ (λ p given same. subst (λ (clock : Clock). clock.width < 2 ^ 94)
+    (sym given.clock_is) c.in_ok-clock.ensures.short) c.whole_import.ensures.given c.whole_import.ensures.given
 
 pub returns-clause-refused : goal.returns-clause-refused
 returns-clause-refused g c =
@@ -117,7 +125,8 @@ returns-clause-refused g c =
       same = refl;
       fits = sym c.in_ok-clock.ensures.clock;
     }) c.in_ok-aligned.aligned
-    c.in_ok-aligned.ensures.aligned c.in_ok-aligned.ensures.nodes c.in_ok-limit.limit (sym c.in_ok-limit.ensures) false false (search rules) (search rules)) c.whole_import.ensures.refused
+    c.in_ok-aligned.ensures.aligned c.in_ok-aligned.ensures.nodes c.in_ok-limit.limit
+    (sym c.in_ok-limit.ensures) false false (search rules) (search rules)) c.whole_import.ensures.refused
 
 pub returns-clause-more : goal.returns-clause-more
 returns-clause-more g c = λ e. (let same = c.len.ensures in let few = c.if-len-gt-MAX_TEXT_BYTES.false in omega (arith, same, few))

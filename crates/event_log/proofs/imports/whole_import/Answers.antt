@@ -17,14 +17,23 @@ returns-clause-made g c =
     let clock = c.args.how.clock in
     let made = c.in_ok-made.made in
     let fits : SFits w128 c.least_time-first.result = search rules in
-    rw (c.import_of.ensures.import, c.import_of.ensures.events, c.import_of.ensures.logged, c.import_of.ensures.at, c.import_of.ensures.parts, c.import_of.ensures.first, c.import_of.ensures.places) (record {
+    rw (
+      c.import_of.ensures.import,
+      c.import_of.ensures.events,
+      c.import_of.ensures.logged,
+      c.import_of.ensures.at,
+      c.import_of.ensures.parts,
+      c.import_of.ensures.first,
+      c.import_of.ensures.places,
+    ) (record {
       is = record {
         left = log.events.items;
         left_at = None;
         parts = None;
         are_left = whole-taken log.events.items clock;
         moved = made.moved;
-        made = subst (λ n. IsMadeBy limit spread n log.events.items clock made.trace made.moved made.idle) c.len-n.ensures c.in_ok-made.ensures.trace;
+        made = subst (λ n. IsMadeBy limit spread n log.events.items clock made.trace made.moved made.idle)
+            c.len-n.ensures c.in_ok-made.ensures.trace;
         moved_is = refl;
         lost = refl;
         merged = refl;
@@ -33,11 +42,14 @@ returns-clause-made g c =
       at = refl;
       parts_are = λ _. refl;
       begins = to_z-of_z w128 c.least_time-first.result fits ∙ c.least_time-first.ensures ∙ ap least_time c.as_slice.ensures.value;
-      placed = subst (λ n. ArePlacedBy limit spread n log.events.items clock c.trace_of_passed.new.events.items made.places.items) c.len-n.ensures c.in_ok-made.ensures.places;
+      placed = subst (λ n. ArePlacedBy limit spread n log.events.items clock c.trace_of_passed.new.events.items made.places.items)
+          c.len-n.ensures c.in_ok-made.ensures.places;
     })
 
 pub least_time-first-requires : goal.least_time-first-requires
-least_time-first-requires g c = subst (λ events. 0 < length events) (sym c.as_slice.ensures.value) (some-events c.args.aligned.log c.requires.sound)
+least_time-first-requires g c = subst (λ events. 0 < length events)
+    (sym c.as_slice.ensures.value) (some-events c.args.aligned.log c.requires.sound)
 
 pub trace_of_passed-requires-clause-meant : goal.trace_of_passed-requires-clause-meant
-trace_of_passed-requires-clause-meant g c = subst (λ n. AreMeant c.args.aligned.log.events.items n) (sym c.len-n.ensures) (meant-events c.args.aligned.log c.requires.sound)
+trace_of_passed-requires-clause-meant g c = subst (λ n. AreMeant c.args.aligned.log.events.items n)
+    (sym c.len-n.ensures) (meant-events c.args.aligned.log c.requires.sound)

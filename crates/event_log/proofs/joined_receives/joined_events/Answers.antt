@@ -11,7 +11,8 @@ use Rattle.event_log.proofs.KeptEvents.{few}
 use Rattle.event_log.proofs.joined_receives.joined_events.Goals as goal
 
 pub joined_receives-requires-clause-inside : goal.joined_receives-requires-clause-inside
-joined_receives-requires-clause-inside c = subst (λ (es : List Event). AreParts (length es) c.args.parts.now) (sym c.as_slice.ensures.value) c.requires.inside
+joined_receives-requires-clause-inside c = subst (λ (es : List Event). AreParts (length es) c.args.parts.now)
+    (sym c.as_slice.ensures.value) c.requires.inside
 
 pub joined_receives-requires-clause-few : goal.joined_receives-requires-clause-few
 joined_receives-requires-clause-few c =
@@ -25,7 +26,8 @@ joined_receives-requires-clause-few c =
 pub kept_at-kept-requires-clause-inside : goal.kept_at-kept-requires-clause-inside
 kept_at-kept-requires-clause-inside c =
     let n = length c.args.events.items in
-    subst (λ (xs : List ℕ). (k : ℕ) → k < length xs → slice_index xs k < n) (sym (c.deref.ensures.value ∙ c.in_ok-heads.ensures)) (firsts-inside n c.args.parts.now c.requires.inside)
+    subst (λ (xs : List ℕ). (k : ℕ) → k < length xs → slice_index xs k < n)
+    (sym (c.deref.ensures.value ∙ c.in_ok-heads.ensures)) (firsts-inside n c.args.parts.now c.requires.inside)
 
 pub returns : goal.returns
 returns c =

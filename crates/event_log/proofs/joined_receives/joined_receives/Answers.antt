@@ -7,8 +7,10 @@ use Rattle.event_log.proofs.joined_receives.joined_receives.Goals as goal
 
 pub push_joined-requires : goal.push_joined-requires
 push_joined-requires c =
-    let inside : c.loop-k.k < length c.args.parts.now = (let l = c.loop-k-test.true in let n = c.len-k-end.ensures in omega (arith, l, n)) in
-    subst (λ (part : List ℕ). (k : ℕ) → k < length part → slice_index part k < length c.args.events.now) (sym c.part.ensures) (c.requires.inside c.loop-k.k inside).inside
+    let inside : c.loop-k.k < length c.args.parts.now =
+    (let l = c.loop-k-test.true in let n = c.len-k-end.ensures in omega (arith, l, n)) in
+    subst (λ (part : List ℕ). (k : ℕ) → k < length part → slice_index part k < length c.args.events.now)
+    (sym c.part.ensures) (c.requires.inside c.loop-k.k inside).inside
 
 pub loop-k-preserved : goal.loop-k-preserved
 loop-k-preserved c =

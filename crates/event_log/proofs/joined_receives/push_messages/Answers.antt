@@ -16,4 +16,5 @@ returns c =
     ∙ sym (ap (λ (o : Option Event). option_map_or (λ (x : Event). received_in x.act) o [])
     (slice_get_read events (length events) c.args.place e.result refl c.requires e.is)) in
     c.loop-message.invariant
-    ∙ ap (λ (xs : List (Option ℕ)). c.args.messages.now.items ++ map (left_message c.args.places.now) xs) (take_all c.loop-message.message-index c.messages-message-items.result.now c.loop-message-test.false ∙ at)
+    ∙ ap (λ (xs : List (Option ℕ)). c.args.messages.now.items ++ map (left_message c.args.places.now) xs)
+    (take_all c.loop-message.message-index c.messages-message-items.result.now c.loop-message-test.false ∙ at)

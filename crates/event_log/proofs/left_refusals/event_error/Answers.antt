@@ -11,4 +11,5 @@ pub returns-in_default : goal.returns-in_default
 returns-in_default c =
     let log = c.args.log.now in
     let left = c.args.left.now in
-    placed-error c.args.text.now log.nodes log.events.items left.events.items left.places.items left.parts c.args.why c.placed_error.result c.in_default.not-Cycle c.placed_error.ensures
+    placed-error c.args.text.now log.nodes log.events.items
+    left.events.items left.places.items left.parts c.args.why c.placed_error.result c.in_default.not-Cycle c.placed_error.ensures

@@ -12,5 +12,7 @@ returns-in-Ok g c = λ nodes events again.
     let left = c.args.left.now in
     let log = c.in-Ok.log in
     let same = aligned-log-once c.args.options.now c.args.text.now log.nodes nodes log.events.items events c.in-Ok.ensures.again again in
-    subst (λ (ns : List (List ℕ)). IsPlacedErrorUnlessMemory c.args.text.now ns events left.events.items left.places.items left.parts c.args.why c.left_error.result) same.0
-    (subst (λ (es : List Event). IsPlacedErrorUnlessMemory c.args.text.now log.nodes es left.events.items left.places.items left.parts c.args.why c.left_error.result) same.1 c.left_error.ensures)
+    subst (λ (ns : List (List ℕ)). IsPlacedErrorUnlessMemory
+    c.args.text.now ns events left.events.items left.places.items left.parts c.args.why c.left_error.result) same.0
+    (subst (λ (es : List Event). IsPlacedErrorUnlessMemory c.args.text.now
+    log.nodes es left.events.items left.places.items left.parts c.args.why c.left_error.result) same.1 c.left_error.ensures)

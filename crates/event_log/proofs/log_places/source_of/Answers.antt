@@ -10,11 +10,11 @@ use Rattle.event_log.specs.LogPlaces.{source_of}
 use Rattle.event_log.proofs.log_places.source_of.Goals as goal
 
 -- the next event of a part has the message, or the events behind it have it
-source-next : (events : List Event) (part : List ℕ) (k m : ℕ) (t : Bool) → k < length part → nat_lt m (length (messages_at events (slice_index part k))) ≡ t
-    → (let next : ℕ × ℕ = cond t (slice_index part k, m) (source_of events (drop (k + 1) part) (m - length (messages_at events (slice_index part k)))) in source_of events (drop k part) m ≡ next)
-source-next events part k m t l e =
-    at_drop_more (λ (ps : List ℕ). source_of events ps m) part k 0 l
-    ∙ ap (λ (b : Bool). let next : ℕ × ℕ = cond b (slice_index part k, m) (source_of events (drop (k + 1) part) (m - length (messages_at events (slice_index part k)))) in next) e
+source-next : (events : List Event) (part : List ℕ) (k m : ℕ) (t : Bool) → k < length part
+    → nat_lt m (length (messages_at events (slice_index part k))) ≡ t → (let next : ℕ × ℕ = cond t (slice_index part k, m) (source_of events
+    (drop (k + 1) part) (m - length (messages_at events (slice_index part k)))) in source_of events (drop k part) m ≡ next)
+source-next events part k m t l e = at_drop_more (λ (ps : List ℕ). source_of events ps m) part k 0 l ∙ ap (λ (b : Bool). let next : ℕ × ℕ =
+    cond b (slice_index part k, m) (source_of events (drop (k + 1) part) (m - length (messages_at events (slice_index part k)))) in next) e
 
 pub returns-then-message-count : goal.returns-then-message-count
 returns-then-message-count c =
@@ -28,7 +28,8 @@ returns-then-message-count c =
     c.messages-count.ensures ∙ ap (λ (x : Event). received_in x.act) (sym e.is)
     ∙ sym (ap (λ (o : Option Event). option_map_or (λ (x : Event). received_in x.act) o [])
     (slice_get_read events (length events) (slice_index part k) e.result refl (c.requires k l) e.is)) in
-    let has = lt-ltb m (length (messages_at events (slice_index part k))) (subst (λ (ms : List (Option ℕ)). m < length ms) at c.if-message-count.true) in
+    let has = lt-ltb m (length (messages_at events (slice_index part k)))
+    (subst (λ (ms : List (Option ℕ)). m < length ms) at c.if-message-count.true) in
     sym (source-next events part k m true l has) ∙ c.loop-place.invariant
 
 pub loop-place-preserved : goal.loop-place-preserved
@@ -43,8 +44,11 @@ loop-place-preserved c =
     c.messages-count.ensures ∙ ap (λ (x : Event). received_in x.act) (sym e.is)
     ∙ sym (ap (λ (o : Option Event). option_map_or (λ (x : Event). received_in x.act) o [])
     (slice_get_read events (length events) (slice_index part k) e.result refl (c.requires k l) e.is)) in
-    let lacks = le-ltb m (length (messages_at events (slice_index part k))) (subst (λ (ms : List (Option ℕ)). length ms ≤ m) at c.if-message-count.false) in
-    ap (λ (ms : List (Option ℕ)). source_of events (drop (k + 1) part) (m - length ms)) at ∙ sym (source-next events part k m false l lacks) ∙ c.loop-place.invariant
+    let lacks = le-ltb m (length (messages_at events (slice_index part k)))
+    (subst (λ (ms : List (Option ℕ)). length ms ≤ m) at c.if-message-count.false) in
+    ap (λ (ms : List (Option ℕ)). source_of events (drop (k + 1) part) (m - length ms)) at
+    ∙ sym (source-next events part k m false l lacks) ∙ c.loop-place.invariant
 
 pub returns : goal.returns
-returns c = sym (at_drop_all (λ (ps : List ℕ). source_of c.args.events.now ps c.loop-place.message) c.args.part.now c.loop-place.place-index c.loop-place-test.false) ∙ c.loop-place.invariant
+returns c = sym (at_drop_all (λ (ps : List ℕ). source_of c.args.events.now ps c.loop-place.message)
+    c.args.part.now c.loop-place.place-index c.loop-place-test.false) ∙ c.loop-place.invariant

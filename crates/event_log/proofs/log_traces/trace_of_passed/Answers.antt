@@ -16,5 +16,6 @@ returns-in_ok-placed-in-Some-Filled-clause-long c =
     let placed = c.in_ok-placed-in-Some-Filled.placed in
     let is = c.in_ok-placed-in-Some-Filled.ensures in
     ap (λ (xs : List ℕ). length xs) c.filled_trace.ensures.places
-    ∙ filled-long c.args.how.spread c.args.n c.args.events.now.items c.args.how.clock c.in-Some-Filled.limit placed.timed c.idle_trace.new.events.items placed.places.items is.trace is.places
+    ∙ filled-long c.args.how.spread c.args.n c.args.events.now.items
+    c.args.how.clock c.in-Some-Filled.limit placed.timed c.idle_trace.new.events.items placed.places.items is.trace is.places
     ∙ sym (ap (λ (t : Recorded). length t.steps) c.filled_trace.ensures.trace)

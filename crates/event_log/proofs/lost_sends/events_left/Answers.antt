@@ -9,7 +9,8 @@ use Rattle.event_log.proofs.lost_sends.events_left.Goals as goal
 pub kept_at-requires-clause-rising : goal.kept_at-requires-clause-rising
 kept_at-requires-clause-rising c =
     let events = c.args.events.items in
-    let old : c.in_ok-places.places.old.items ≡ left_places events = c.in_ok-places.ensures.old ∙ ap left_places c.as_slice-2.ensures.value in
+    let old : c.in_ok-places.places.old.items ≡ left_places events = c.in_ok-places.ensures.old
+    ∙ ap left_places c.as_slice-2.ensures.value in
     subst (λ (xs : List ℕ). IsStrictlyIncreasing xs) (sym (c.deref-2.ensures.value ∙ old)) (left-rising events)
 
 pub returns-clause-left : goal.returns-clause-left
@@ -20,6 +21,6 @@ returns-clause-left c =
     record {
       places_are = c.in_ok-places.ensures.old ∙ ap left_places c.as_slice-2.ensures.value;
       each = left-each events c.kept_at.result.items c.in_ok-left.left.items (new_places events) places.old.items
-          (c.kept_at.ensures ∙ ap (map (slice_get events)) c.deref-2.ensures.value)
-          (c.in_ok-left.ensures ∙ ap (λ (ns : List ℕ). map (left_event ns) (map seen c.kept_at.result.items)) (c.deref-3.ensures.value ∙ new));
+          (c.kept_at.ensures ∙ ap (map (slice_get events)) c.deref-2.ensures.value) (c.in_ok-left.ensures
+          ∙ ap (λ (ns : List ℕ). map (left_event ns) (map seen c.kept_at.result.items)) (c.deref-3.ensures.value ∙ new));
     }

@@ -17,24 +17,28 @@ pub loop-place-preserved : goal.loop-place-preserved
 loop-place-preserved c =
     let events = c.args.events.now in
     let place = c.loop-place.place in
-    let long : c.len.result ≡ length c.loop-place.old.items = (let ok = c.loop-place.old.ok in let len = c.len.ensures in omega (arith, ok, len)) in
+    let long : c.len.result ≡ length c.loop-place.old.items =
+    (let ok = c.loop-place.old.ok in let len = c.len.ensures in omega (arith, ok, len)) in
     record {
-      old = c.in_ok-push_left.ensures ∙ ap₂ (λ (t : Bool) (xs : List ℕ). cond t xs (xs ++ place ∷ [])) c.is_lost.ensures c.loop-place.invariant.old ∙ sym (left-more events place);
-      new = c.in_ok-push.ensures.items
-          ∙ ap₂ (λ (xs : List ℕ) (n : ℕ). xs ++ n ∷ []) c.loop-place.invariant.new (long ∙ ap (λ (xs : List ℕ). length xs) c.loop-place.invariant.old)
-          ∙ sym (ranks-more events place);
+      old = c.in_ok-push_left.ensures ∙ ap₂ (λ (t : Bool) (xs : List ℕ). cond t xs (xs ++ place ∷ []))
+          c.is_lost.ensures c.loop-place.invariant.old ∙ sym (left-more events place);
+      new = c.in_ok-push.ensures.items ∙ ap₂ (λ (xs : List ℕ) (n : ℕ). xs ++ n ∷ []) c.loop-place.invariant.new
+          (long ∙ ap (λ (xs : List ℕ). length xs) c.loop-place.invariant.old) ∙ sym (ranks-more events place);
     }
 
 pub returns : goal.returns
 returns c =
     let events = c.args.events.now in
     let place = c.loop-place.place in
-    let all : place ≡ length events = (let end = c.loop-place.auto.place-end in let past = c.loop-place-test.false in omega (arith, end, past)) in
+    let all : place
+    ≡ length events = (let end = c.loop-place.auto.place-end in let past = c.loop-place-test.false in omega (arith, end, past)) in
     let old = c.loop-place.invariant.old in
     record {
       old = old ∙ ap (left_before events) all;
-      new = c.loop-place.invariant.new ∙ ap (λ (n : ℕ). map (λ (s : ℕ). length (left_before events s)) (range_with_len 0 n)) all ∙ new-places-are events;
+      new = c.loop-place.invariant.new ∙ ap (λ (n : ℕ). map (λ (s : ℕ). length (left_before events s)) (range_with_len 0 n)) all
+          ∙ new-places-are events;
       within = λ k l.
-          let b : slice_index (left_before events place) k < place = left-within events place k (subst (λ (xs : List ℕ). k < length xs) old l) in
+          let b : slice_index (left_before events place) k
+          < place = left-within events place k (subst (λ (xs : List ℕ). k < length xs) old l) in
           subst (λ (n : ℕ). slice_index c.loop-place.old.items k < n) all (subst (λ (xs : List ℕ). slice_index xs k < place) (sym old) b);
     }

@@ -27,13 +27,15 @@ pub returns-in-Ok-false : goal.returns-in-Ok-false
 returns-in-Ok-false c =
     let inv = c.loop-fields.invariant in
     let r = (rw c.in-Ok-false.is at c.read_byte_record.ensures.reads) inv.1.plain inv.1.ready in
-    rw (HasRead-all c.args.text.now c.loop-fields.reader c.read_byte_record.new.self inv.0 (fields_of c.read_byte_record.new.row) inv.1 (rw c.in-Ok-false.field-0-test at r)) inv.2
+    rw (HasRead-all c.args.text.now c.loop-fields.reader c.read_byte_record.new.self inv.0
+    (fields_of c.read_byte_record.new.row) inv.1 (rw c.in-Ok-false.field-0-test at r)) inv.2
 
 pub loop-fields-smaller : goal.loop-fields-smaller
 loop-fields-smaller c =
     let inv = c.loop-fields.invariant in
     let r = (rw c.in-Ok-true.is at c.read_byte_record.ensures.reads) inv.1.plain inv.1.ready in
-    HasRead-less c.args.text.now c.loop-fields.reader c.read_byte_record.new.self inv.0 (fields_of c.read_byte_record.new.row) inv.1 (rw c.in-Ok-true.field-0-test at r)
+    HasRead-less c.args.text.now c.loop-fields.reader c.read_byte_record.new.self inv.0
+    (fields_of c.read_byte_record.new.row) inv.1 (rw c.in-Ok-true.field-0-test at r)
 
 pub loop-fields-preserved : goal.loop-fields-preserved
 loop-fields-preserved c =
@@ -44,7 +46,8 @@ loop-fields-preserved c =
     let fields = fields_of c.read_byte_record.new.row in
     let at : List (List ℕ) → List ℕ = λ row. field_of row c.args.column in (
       inv.0 ++ (fields ∷ []),
-      HasRead-more c.args.text.now c.loop-fields.reader c.read_byte_record.new.self inv.0 fields inv.1 (rw c.in-Ok-true.field-0-test at r) first same,
+      HasRead-more c.args.text.now c.loop-fields.reader c.read_byte_record.new.self inv.0 fields inv.1
+          (rw c.in-Ok-true.field-0-test at r) first same,
       c.in_ok-push-in-Ok-true.ensures.items
           ∙ ap (λ (name : List ℕ). c.loop-fields.fields.items ++ name ∷ []) (c.in_ok-new-in-Ok-true.ensures ∙ c.field.ensures)
           ∙ ap (λ (xs : List (List ℕ)). xs ++ at fields ∷ []) inv.2

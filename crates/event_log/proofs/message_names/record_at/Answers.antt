@@ -31,7 +31,8 @@ returns-then-before-eq0 c =
     let first = (rw c.in-Ok-true.is at c.read_byte_record.ensures.ready) inv.1.plain in
     let same = rw c.in-Ok-true.is at c.read_byte_record.ensures.flexible in
     let fields = fields_of c.read_byte_record.new.row in
-    let more = HasRead-more c.args.text.now c.loop-fields.reader c.read_byte_record.new.self inv.0 fields inv.1 (rw c.in-Ok-true.field-0-test at r) first same in
+    let more = HasRead-more c.args.text.now c.loop-fields.reader c.read_byte_record.new.self inv.0 fields inv.1
+    (rw c.in-Ok-true.field-0-test at r) first same in
     let front = HasRead-front c.args.text.now c.read_byte_record.new.self (inv.0 ++ (fields ∷ [])) more in
     let count = inv.2 in
     let none = c.if-before-eq0.true in
@@ -42,7 +43,8 @@ pub returns-in-Ok-false : goal.returns-in-Ok-false
 returns-in-Ok-false c =
     let inv = c.loop-fields.invariant in
     let r = (rw c.in-Ok-false.is at c.read_byte_record.ensures.reads) inv.1.plain inv.1.ready in
-    let all = HasRead-all c.args.text.now c.loop-fields.reader c.read_byte_record.new.self inv.0 (fields_of c.read_byte_record.new.row) inv.1 (rw c.in-Ok-false.field-0-test at r) in
+    let all = HasRead-all c.args.text.now c.loop-fields.reader c.read_byte_record.new.self inv.0
+    (fields_of c.read_byte_record.new.row) inv.1 (rw c.in-Ok-false.field-0-test at r) in
     let count = inv.2 in
     let few : length inv.0 ≤ c.args.place = omega (arith, count) in
     c.new-in-Ok-false.ensures.fields ∙ sym (rw all (get_or_past inv.0 c.args.place [] few))
@@ -57,6 +59,7 @@ loop-fields-preserved c =
     let count = inv.2 in
     let some = c.if-before-eq0.false in (
       inv.0 ++ (fields ∷ []),
-      HasRead-more c.args.text.now c.loop-fields.reader c.read_byte_record.new.self inv.0 fields inv.1 (rw c.in-Ok-true.field-0-test at r) first same,
+      HasRead-more c.args.text.now c.loop-fields.reader c.read_byte_record.new.self inv.0 fields inv.1
+          (rw c.in-Ok-true.field-0-test at r) first same,
       omega (arith, count, some, length-append inv.0 (fields ∷ [])),
     )

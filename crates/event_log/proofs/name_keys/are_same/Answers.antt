@@ -11,4 +11,5 @@ pub returns-then-a-i : goal.returns-then-a-i
 returns-then-a-i c = sym (bytes_eq-other c.args.a.now c.args.b.now (λ same. c.if-a-i.true (ap (λ xs. slice_index xs c.loop-i.i) same)))
 
 pub returns : goal.returns
-returns c = sym (bytes_eq-same c.args.a.now c.args.b.now (same_number_lists c.args.a.now c.args.b.now (omega arith) (λ k l. c.loop-i.invariant k (omega arith))))
+returns c = sym (bytes_eq-same c.args.a.now c.args.b.now
+    (same_number_lists c.args.a.now c.args.b.now (omega arith) (λ k l. c.loop-i.invariant k (omega arith))))

@@ -17,7 +17,8 @@ loop-name-preserved c = (
   search rules,
   search rules,
   c.in_ok-list_node.ensures.nodes ∙ rw (map-append (λ x. x.now) c.loop-name.yielded (c.in-Some.name ∷ []), c.loop-name.invariant.2) refl,
-  subst AreListed (sym c.in_ok-list_node.ensures.nodes) (listed-next c.loop-name.nodes c.in-Some.name.now c.loop-name.invariant.3 c.in_ok-list_node.ensures.next),
+  subst AreListed (sym c.in_ok-list_node.ensures.nodes)
+      (listed-next c.loop-name.nodes c.in-Some.name.now c.loop-name.invariant.3 c.in_ok-list_node.ensures.next),
 )
 
 pub returns : goal.returns
@@ -53,5 +54,6 @@ returns-in_err-list_node-clause-refused c =
     let p = err_from_is_err_and c.from_residual.result c.from_residual.ensures.1 in
     rw (p.1, p.2) (
     fault-from _
-    (nodes-refused (parts_between_commas c.args.text.now) c.loop-name.nodes c.in-Some.name.now (length c.loop-name.yielded) (c.loop-name.invariant.2 ∙ front) t.0 t.1)
+    (nodes-refused (parts_between_commas c.args.text.now) c.loop-name.nodes c.in-Some.name.now
+    (length c.loop-name.yielded) (c.loop-name.invariant.2 ∙ front) t.0 t.1)
     c.in_err-list_node.ensures.refused)

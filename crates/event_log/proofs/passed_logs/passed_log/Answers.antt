@@ -15,8 +15,10 @@ log_error-requires-clause-place c =
     let log = c.args.log.now in
     let clock = c.args.how.clock in
     let why = c.in-Err.why in
-    let unmade = subst (λ events. IsUnmadeFor c.args.how.limit c.args.how.spread c.len-n.result events clock why) c.as_slice.ensures.value c.in-Err.ensures.refused in
-    unmade-place c.args.how.limit c.args.how.spread c.len-n.result log.events.items clock why (some-events log c.requires.sound) (few-events log c.requires.sound) unmade
+    let unmade = subst (λ events. IsUnmadeFor c.args.how.limit c.args.how.spread c.len-n.result events clock why)
+    c.as_slice.ensures.value c.in-Err.ensures.refused in
+    unmade-place c.args.how.limit c.args.how.spread c.len-n.result log.events.items clock why
+    (some-events log c.requires.sound) (few-events log c.requires.sound) unmade
 
 pub log_error-requires-clause-processors : goal.log_error-requires-clause-processors
 log_error-requires-clause-processors c = processors-events c.args.log.now c.requires.sound
@@ -25,5 +27,6 @@ pub log_error-requires-clause-behind : goal.log_error-requires-clause-behind
 log_error-requires-clause-behind c =
     let clock = c.args.how.clock in
     let why = c.in-Err.why in
-    let unmade = subst (λ events. IsUnmadeFor c.args.how.limit c.args.how.spread c.len-n.result events clock why) c.as_slice.ensures.value c.in-Err.ensures.refused in
+    let unmade = subst (λ events. IsUnmadeFor c.args.how.limit c.args.how.spread c.len-n.result events clock why)
+    c.as_slice.ensures.value c.in-Err.ensures.refused in
     unmade-behind c.args.how.limit c.args.how.spread c.len-n.result c.args.log.now.events.items clock why unmade

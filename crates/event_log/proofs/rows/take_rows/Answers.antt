@@ -28,7 +28,8 @@ pub returns-in-Ok-false : goal.returns-in-Ok-false
 returns-in-Ok-false g c =
     let inv = c.loop-taker.invariant in
     let r = (rw c.in-Ok-false.is at c.read_byte_record.ensures.reads) inv.1.plain inv.1.ready in
-    rw (HasRead-all c.args.text.now c.loop-taker.reader c.read_byte_record.new.self inv.0 (fields_of c.read_byte_record.new.row) inv.1 (rw c.in-Ok-false.field-0-test at r)) inv.2
+    rw (HasRead-all c.args.text.now c.loop-taker.reader c.read_byte_record.new.self inv.0
+    (fields_of c.read_byte_record.new.row) inv.1 (rw c.in-Ok-false.field-0-test at r)) inv.2
 
 pub returns-in_err-take-in-Ok-true : goal.returns-in_err-take-in-Ok-true
 returns-in_err-take-in-Ok-true g c =
@@ -37,16 +38,19 @@ returns-in_err-take-in-Ok-true g c =
     let first = (rw c.in-Ok-true.is at c.read_byte_record.ensures.ready) inv.1.plain in
     let same = rw c.in-Ok-true.is at c.read_byte_record.ensures.flexible in
     let fields = fields_of c.read_byte_record.new.row in
-    let more = HasRead-more c.args.text.now c.loop-taker.reader c.read_byte_record.new.self inv.0 fields inv.1 (rw c.in-Ok-true.field-0-test at r) first same in
+    let more = HasRead-more c.args.text.now c.loop-taker.reader c.read_byte_record.new.self inv.0 fields inv.1
+    (rw c.in-Ok-true.field-0-test at r) first same in
     let front = HasRead-front c.args.text.now c.read_byte_record.new.self (inv.0 ++ (fields ∷ [])) more in
     let p = err_from_is_err_and c.from_residual.result c.from_residual.ensures.1 in
-    rw (p.1, p.2) (after_records-refused is_memory g.T.TakeRows.next c.args.taker.now c.loop-taker.taker _ inv.0 front.0 _ fields inv.2 (rw c.in_err-take-in-Ok-true.was at c.take.ensures) front.1)
+    rw (p.1, p.2) (after_records-refused is_memory g.T.TakeRows.next c.args.taker.now c.loop-taker.taker _ inv.0 front.0 _ fields inv.2
+    (rw c.in_err-take-in-Ok-true.was at c.take.ensures) front.1)
 
 pub loop-taker-smaller : goal.loop-taker-smaller
 loop-taker-smaller g c =
     let inv = c.loop-taker.invariant in
     let r = (rw c.in-Ok-true.is at c.read_byte_record.ensures.reads) inv.1.plain inv.1.ready in
-    HasRead-less c.args.text.now c.loop-taker.reader c.read_byte_record.new.self inv.0 (fields_of c.read_byte_record.new.row) inv.1 (rw c.in-Ok-true.field-0-test at r)
+    HasRead-less c.args.text.now c.loop-taker.reader c.read_byte_record.new.self inv.0
+    (fields_of c.read_byte_record.new.row) inv.1 (rw c.in-Ok-true.field-0-test at r)
 
 pub loop-taker-preserved : goal.loop-taker-preserved
 loop-taker-preserved g c =
@@ -55,6 +59,8 @@ loop-taker-preserved g c =
     let first = (rw c.in-Ok-true.is at c.read_byte_record.ensures.ready) inv.1.plain in
     let same = rw c.in-Ok-true.is at c.read_byte_record.ensures.flexible in (
       inv.0 ++ (fields_of c.read_byte_record.new.row ∷ []),
-      HasRead-more c.args.text.now c.loop-taker.reader c.read_byte_record.new.self inv.0 (fields_of c.read_byte_record.new.row) inv.1 (rw c.in-Ok-true.field-0-test at r) first same,
-      after_records-more g.T.TakeRows.next c.args.taker.now c.loop-taker.taker _ inv.0 _ inv.2 (rw c.in_ok-take-in-Ok-true.was at c.take.ensures),
+      HasRead-more c.args.text.now c.loop-taker.reader c.read_byte_record.new.self inv.0
+          (fields_of c.read_byte_record.new.row) inv.1 (rw c.in-Ok-true.field-0-test at r) first same,
+      after_records-more g.T.TakeRows.next c.args.taker.now c.loop-taker.taker _ inv.0 _ inv.2
+          (rw c.in_ok-take-in-Ok-true.was at c.take.ensures),
     )

@@ -9,8 +9,10 @@ no-places (x ∷ xs) ys e n = absurd (omega (arith, n))
 
 pub returns-then-len-eq0-clause-refused : goal.returns-then-len-eq0-clause-refused
 returns-then-len-eq0-clause-refused c =
-    let none : length c.in-Ok.left.places.items ≡ 0 = (let ok = c.in-Ok.left.places.ok in let len = c.len.ensures in let zero = c.if-len-eq0.true in omega (arith, ok, len, zero)) in
+    let none : length c.in-Ok.left.places.items ≡ 0 =
+    (let ok = c.in-Ok.left.places.ok in let len = c.len.ensures in let zero = c.if-len-eq0.true in omega (arith, ok, len, zero)) in
     (no-places c.in-Ok.left.places.items (left_places c.args.events.items) c.in-Ok.ensures.left.places_are none, refl)
 
 pub returns-clause-some : goal.returns-clause-some
-returns-clause-some c = let ok = c.in-Ok.left.places.ok in let len = c.len.ensures in let some = c.if-len-eq0.false in omega (arith, ok, len, some)
+returns-clause-some c = let ok = c.in-Ok.left.places.ok in
+    let len = c.len.ensures in let some = c.if-len-eq0.false in omega (arith, ok, len, some)

@@ -20,8 +20,10 @@ returns-then-not-drop-clause-taken c =
     let taken : IfOk r (λ t. AreTaken false true events c.args.clock.now t.events.items (Some t.places.items) t.parts) =
     ok-both r _ _ _ (λ t m n. merged-taken false events slice t.events.items c.args.clock.now at t.places.items
     t.parts are m) c.merged_in-then-not-drop.ensures.merged c.merged_in-then-not-drop.ensures.merged in
-    subst (λ (d : Bool). IfOk r (λ t. AreTaken d c.args.merge events c.args.clock.now t.events.items (Some t.places.items) t.parts)) (sym c.if-not-drop.true)
-    (subst (λ (j : Bool). IfOk r (λ t. AreTaken false j events c.args.clock.now t.events.items (Some t.places.items) t.parts)) (sym (c.requires.asked c.if-not-drop.true)) taken)
+    subst (λ (d : Bool). IfOk r (λ t. AreTaken d c.args.merge events c.args.clock.now t.events.items (Some t.places.items) t.parts))
+    (sym c.if-not-drop.true)
+    (subst (λ (j : Bool). IfOk r (λ t. AreTaken false j events c.args.clock.now t.events.items (Some t.places.items) t.parts))
+    (sym (c.requires.asked c.if-not-drop.true)) taken)
 
 pub returns-then-not-drop-clause-kept : goal.returns-then-not-drop-clause-kept
 returns-then-not-drop-clause-kept c =
@@ -41,7 +43,8 @@ returns-then-not-drop-clause-within c =
     let r = c.merged_in-then-not-drop.result in
     let are : AreLeftBy false events slice at = (refl, c.all.ensures) in
     ok-both r _ _ _ (λ t m n k l.
-    let b = merged-within slice t.events.items c.args.clock.now at t.places.items t.parts m (length events) (kept-places false events slice at are) k l in
+    let b = merged-within slice t.events.items c.args.clock.now at t.places.items t.parts m
+    (length events) (kept-places false events slice at are) k l in
     let few = few-events log c.requires.sound in
     omega (arith, b, few)) c.merged_in-then-not-drop.ensures.merged c.merged_in-then-not-drop.ensures.merged
 
@@ -78,17 +81,21 @@ returns-then-not-drop-clause-refused c =
     let at = c.all.result in
     let r = c.merged_in-then-not-drop.result in
     let are : AreLeftBy false events slice at = (refl, c.all.ensures) in
-    let refused : IfErr r (λ why. MatchBool (is_memory why) ⊤ (IsEmptied false events why ⊎ IsUnmergedOf false true events c.args.clock.now why)) =
+    let refused : IfErr r
+    (λ why. MatchBool (is_memory why) ⊤ (IsEmptied false events why ⊎ IsUnmergedOf false true events c.args.clock.now why)) =
     err-weaker r _ _ (times-refused false events slice c.args.clock.now at are) c.merged_in-then-not-drop.ensures.refused in
-    subst (λ (d : Bool). IfErr r (λ why. MatchBool (is_memory why) ⊤ (IsEmptied d events why ⊎ IsUnmergedOf d c.args.merge events c.args.clock.now why))) (sym c.if-not-drop.true)
-    (subst (λ (j : Bool). IfErr r (λ why. MatchBool (is_memory why) ⊤ (IsEmptied false events why ⊎ IsUnmergedOf false j events c.args.clock.now why))) (sym (c.requires.asked c.if-not-drop.true)) refused)
+    subst (λ (d : Bool). IfErr r (λ why. MatchBool
+    (is_memory why) ⊤ (IsEmptied d events why ⊎ IsUnmergedOf d c.args.merge events c.args.clock.now why))) (sym c.if-not-drop.true)
+    (subst (λ (j : Bool). IfErr r (λ why. MatchBool (is_memory why) ⊤ (IsEmptied false events why
+    ⊎ IsUnmergedOf false j events c.args.clock.now why))) (sym (c.requires.asked c.if-not-drop.true)) refused)
 
 pub returns-in_err-kept-clause-refused : goal.returns-in_err-kept-clause-refused
 returns-in_err-kept-clause-refused c =
     let p = err_from_is_err_and c.from_residual.result c.from_residual.ensures.1 in
     let events = c.args.log.events.items in
     let why = c.in_err-kept.field-0.0 in
-    rw (p.1, p.2) (subst (λ (d : Bool). MatchBool (is_memory why) ⊤ (IsEmptied d events why ⊎ IsUnmergedOf d c.args.merge events c.args.clock.now why)) (sym c.if-not-drop.false)
+    rw (p.1, p.2) (subst (λ (d : Bool). MatchBool (is_memory why) ⊤
+    (IsEmptied d events why ⊎ IsUnmergedOf d c.args.merge events c.args.clock.now why)) (sym c.if-not-drop.false)
     (none-taken c.args.merge events c.args.clock.now why c.in_err-kept.ensures.refused))
 
 pub returns-then-not-merge-clause-taken : goal.returns-then-not-merge-clause-taken
@@ -96,7 +103,8 @@ returns-then-not-merge-clause-taken c =
     let events = c.args.log.events.items in
     let kept = c.in_ok-kept.kept in
     rw (c.unmerged.ensures.events, c.unmerged.ensures.places, c.unmerged.ensures.parts)
-    (subst (λ (d : Bool). AreTaken d c.args.merge events c.args.clock.now kept.events.items (Some kept.places.items) None) (sym c.if-not-drop.false)
+    (subst (λ (d : Bool). AreTaken d c.args.merge events c.args.clock.now kept.events.items (Some kept.places.items) None)
+    (sym c.if-not-drop.false)
     (subst (λ (j : Bool). AreTaken true j events c.args.clock.now kept.events.items (Some kept.places.items) None) (sym c.if-not-merge.true)
     (left-taken events kept.events.items kept.places.items c.args.clock.now c.in_ok-kept.ensures.left)))
 
@@ -105,13 +113,15 @@ returns-then-not-merge-clause-kept c =
     let events = c.args.log.events.items in
     let kept = c.in_ok-kept.kept in
     let left : length kept.events.items ≡ kept_count true events =
-    left-long events kept.events.items kept.places.items c.in_ok-kept.ensures.left ∙ ap (λ (ps : List ℕ). length ps) c.in_ok-kept.ensures.left.places_are in
+    left-long events kept.events.items kept.places.items c.in_ok-kept.ensures.left
+    ∙ ap (λ (ps : List ℕ). length ps) c.in_ok-kept.ensures.left.places_are in
     subst (λ (d : Bool). c.unmerged.result.kept ≡ kept_count d events) (sym c.if-not-drop.false) (c.unmerged.ensures.kept ∙ left)
 
 pub returns-then-not-merge-clause-within : goal.returns-then-not-merge-clause-within
 returns-then-not-merge-clause-within c =
     let log = c.args.log in
-    rw c.unmerged.ensures.places (λ k l. let b = c.in_ok-kept.ensures.within k l in let few = few-events log c.requires.sound in omega (arith, b, few))
+    rw c.unmerged.ensures.places (λ k l. let b = c.in_ok-kept.ensures.within k l in
+    let few = few-events log c.requires.sound in omega (arith, b, few))
 
 pub returns-then-not-merge-clause-parts : goal.returns-then-not-merge-clause-parts
 returns-then-not-merge-clause-parts c = rw c.unmerged.ensures.parts tt
@@ -129,9 +139,12 @@ returns-clause-taken c =
     let are : AreLeftBy true events slice at =
     subst (λ (o : Option (List ℕ)). AreLeftBy true events slice o) (sym c.of.ensures) c.in_ok-kept.ensures.left in
     let taken : IfOk r (λ t. AreTaken true true events c.args.clock.now t.events.items (Some t.places.items) t.parts) =
-    ok-both r _ _ _ (λ t m n. merged-taken true events slice t.events.items c.args.clock.now at t.places.items t.parts are m) c.merged_in-3.ensures.merged c.merged_in-3.ensures.merged in
-    subst (λ (d : Bool). IfOk r (λ t. AreTaken d c.args.merge events c.args.clock.now t.events.items (Some t.places.items) t.parts)) (sym c.if-not-drop.false)
-    (subst (λ (j : Bool). IfOk r (λ t. AreTaken true j events c.args.clock.now t.events.items (Some t.places.items) t.parts)) (sym c.if-not-merge.false) taken)
+    ok-both r _ _ _ (λ t m n. merged-taken true events slice t.events.items c.args.clock.now at t.places.items t.parts are m)
+    c.merged_in-3.ensures.merged c.merged_in-3.ensures.merged in
+    subst (λ (d : Bool). IfOk r (λ t. AreTaken d c.args.merge events c.args.clock.now t.events.items (Some t.places.items) t.parts))
+    (sym c.if-not-drop.false)
+    (subst (λ (j : Bool). IfOk r (λ t. AreTaken true j events c.args.clock.now t.events.items (Some t.places.items) t.parts))
+    (sym c.if-not-merge.false) taken)
 
 pub returns-clause-kept : goal.returns-clause-kept
 returns-clause-kept c =
@@ -140,7 +153,8 @@ returns-clause-kept c =
     let kept = c.in_ok-kept.kept in
     let r = c.merged_in-3.result in
     let left : length kept.events.items ≡ kept_count true events =
-    left-long events kept.events.items kept.places.items c.in_ok-kept.ensures.left ∙ ap (λ (ps : List ℕ). length ps) c.in_ok-kept.ensures.left.places_are in
+    left-long events kept.events.items kept.places.items c.in_ok-kept.ensures.left
+    ∙ ap (λ (ps : List ℕ). length ps) c.in_ok-kept.ensures.left.places_are in
     let kept : IfOk r (λ t. t.kept ≡ kept_count true events) =
     ok-both r _ _ _ (λ t k n. k ∙ left) c.merged_in-3.ensures.kept c.merged_in-3.ensures.kept in
     subst (λ (d : Bool). IfOk r (λ t. t.kept ≡ kept_count d events)) (sym c.if-not-drop.false) kept
@@ -155,7 +169,8 @@ returns-clause-within c =
     let are : AreLeftBy true events slice at =
     subst (λ (o : Option (List ℕ)). AreLeftBy true events slice o) (sym c.of.ensures) c.in_ok-kept.ensures.left in
     ok-both r _ _ _ (λ t m n k l.
-    let b = merged-within slice t.events.items c.args.clock.now at t.places.items t.parts m (length events) (kept-places true events slice at are) k l in
+    let b = merged-within slice t.events.items c.args.clock.now at t.places.items t.parts m
+    (length events) (kept-places true events slice at are) k l in
     let few = few-events log c.requires.sound in
     omega (arith, b, few)) c.merged_in-3.ensures.merged c.merged_in-3.ensures.merged
 
@@ -194,10 +209,13 @@ returns-clause-refused c =
     let r = c.merged_in-3.result in
     let are : AreLeftBy true events slice at =
     subst (λ (o : Option (List ℕ)). AreLeftBy true events slice o) (sym c.of.ensures) c.in_ok-kept.ensures.left in
-    let refused : IfErr r (λ why. MatchBool (is_memory why) ⊤ (IsEmptied true events why ⊎ IsUnmergedOf true true events c.args.clock.now why)) =
+    let refused : IfErr r
+    (λ why. MatchBool (is_memory why) ⊤ (IsEmptied true events why ⊎ IsUnmergedOf true true events c.args.clock.now why)) =
     err-weaker r _ _ (times-refused true events slice c.args.clock.now at are) c.merged_in-3.ensures.refused in
-    subst (λ (d : Bool). IfErr r (λ why. MatchBool (is_memory why) ⊤ (IsEmptied d events why ⊎ IsUnmergedOf d c.args.merge events c.args.clock.now why))) (sym c.if-not-drop.false)
-    (subst (λ (j : Bool). IfErr r (λ why. MatchBool (is_memory why) ⊤ (IsEmptied true events why ⊎ IsUnmergedOf true j events c.args.clock.now why))) (sym c.if-not-merge.false) refused)
+    subst (λ (d : Bool). IfErr r (λ why. MatchBool
+    (is_memory why) ⊤ (IsEmptied d events why ⊎ IsUnmergedOf d c.args.merge events c.args.clock.now why))) (sym c.if-not-drop.false)
+    (subst (λ (j : Bool). IfErr r (λ why. MatchBool (is_memory why) ⊤
+    (IsEmptied true events why ⊎ IsUnmergedOf true j events c.args.clock.now why))) (sym c.if-not-merge.false) refused)
 
 pub merged_in-requires-clause-some : goal.merged_in-requires-clause-some
 merged_in-requires-clause-some c = some-events c.args.log c.requires.sound
@@ -214,7 +232,8 @@ kept_events-requires c = record { few = few-events c.args.log c.requires.sound }
 pub merged_in-requires-2-clause-some : goal.merged_in-requires-2-clause-some
 merged_in-requires-2-clause-some c =
     let kept = c.in_ok-kept.kept in
-    subst (λ (n : ℕ). 0 < n) (sym (left-long c.args.log.events.items kept.events.items kept.places.items c.in_ok-kept.ensures.left)) c.in_ok-kept.ensures.some
+    subst (λ (n : ℕ). 0 < n) (sym (left-long c.args.log.events.items kept.events.items kept.places.items c.in_ok-kept.ensures.left))
+    c.in_ok-kept.ensures.some
 
 pub merged_in-requires-2-clause-few : goal.merged_in-requires-2-clause-few
 merged_in-requires-2-clause-few c =

@@ -11,7 +11,8 @@ loop-k-preserved c =
     let k = c.loop-k.k in
     elim c.if-is_far.branch [
       | then-is_far w ↦ record {
-        far = w.far-is ∙ ap (λ (n : ℕ). n + 1) c.loop-k.invariant.far ∙ sym (far-with own ticks places k (sym c.is_far.ensures ∙ w.if-is_far.true));
+        far = w.far-is ∙ ap (λ (n : ℕ). n + 1) c.loop-k.invariant.far
+            ∙ sym (far-with own ticks places k (sym c.is_far.ensures ∙ w.if-is_far.true));
         few = let e = w.far-is in let few = c.loop-k.invariant.few in omega (arith, e, few);
       }
       | else-is_far w ↦ record {

@@ -11,7 +11,8 @@ use Rattle.event_log.proofs.tick_rows.tick_rows.Goals.{then-is_told+in_ok-row+in
 pub loop-k-init : goal.loop-k-init
 loop-k-init c = record {
   widths = ap (map {A = TickRow} {B = ℕ} (λ r. r.width)) c.new-rows.ensures.items ∙ sym (told-none c.args.kind c.log_length-log.result);
-  each = subst (All (IsRowOf c.args.n c.args.events.now c.args.kind c.args.until)) (sym c.new-rows.ensures.items) (All-nil (IsRowOf c.args.n c.args.events.now c.args.kind c.args.until));
+  each = subst (All (IsRowOf c.args.n c.args.events.now c.args.kind c.args.until))
+      (sym c.new-rows.ensures.items) (All-nil (IsRowOf c.args.n c.args.events.now c.args.kind c.args.until));
 }
 
 pub loop-k-preserved : goal.loop-k-preserved
@@ -23,7 +24,8 @@ loop-k-preserved c =
     elim c.if-is_told.branch [
       | then-is_told+in_ok-row+in-Ok w ↦ (
           let row = w.in_ok-row.row in
-          let grown : c.if-is_told.rows.items ≡ rows ++ row ∷ [] = ap (λ (v : Vec TickRow Global). v.items) w.rows-is ∙ w.in-Ok.ensures.items in
+          let grown : c.if-is_told.rows.items ≡ rows ++ row ∷ [] = ap (λ (v : Vec TickRow Global). v.items) w.rows-is
+          ∙ w.in-Ok.ensures.items in
           let one = map-append {A = TickRow} {B = ℕ} (λ r. r.width) rows (row ∷ []) in
           let length = w.in_ok-row.ensures.width ∙ w.tick_width.ensures.is in
           record {
@@ -37,7 +39,8 @@ loop-k-preserved c =
       | else-is_told w ↦ record {
         widths = ap (λ (v : Vec TickRow Global). map {A = TickRow} {B = ℕ} (λ r. r.width) v.items) w.rows-is ∙ c.loop-k.invariant.widths
             ∙ sym (told-without kind log k (sym c.is_told.ensures ∙ w.if-is_told.false));
-        each = subst (λ (v : Vec TickRow Global). All (IsRowOf c.args.n c.args.events.now kind c.args.until) v.items) (sym w.rows-is) c.loop-k.invariant.each;
+        each = subst (λ (v : Vec TickRow Global). All (IsRowOf c.args.n c.args.events.now kind c.args.until) v.items)
+            (sym w.rows-is) c.loop-k.invariant.each;
       }
     ]
 

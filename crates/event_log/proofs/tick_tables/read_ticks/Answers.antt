@@ -10,7 +10,8 @@ use Rattle.event_log.proofs.TickTables.{fits-with, read-with, row-told, rows-ref
 use Rattle.event_log.proofs.tick_tables.read_ticks.Goals as goal
 
 pub returns-then-text-gt-MAX_TEXT_BYTES-clause-refused : goal.returns-then-text-gt-MAX_TEXT_BYTES-clause-refused
-returns-then-text-gt-MAX_TEXT_BYTES-clause-refused c = (1, omega arith, inl (large-text (with_width c.args.options.now 1) c.args.text.now c.if-text-gt-MAX_TEXT_BYTES.true))
+returns-then-text-gt-MAX_TEXT_BYTES-clause-refused c =
+    (1, omega arith, inl (large-text (with_width c.args.options.now 1) c.args.text.now c.if-text-gt-MAX_TEXT_BYTES.true))
 
 pub returns-in_err-log-clause-refused : goal.returns-in_err-log-clause-refused
 returns-in_err-log-clause-refused c =
@@ -53,7 +54,11 @@ returns-in_err-aligned-clause-refused c =
             log = seen_log log;
             events = log.events.items;
             clock = clock_of log.kind until 1;
-            told = record { read = read-with o text 1 _ c.in_ok-log.ensures.read; same = refl; fits = fits-with o log.kind until 1 (omega arith) (sym c.in_ok-until.ensures) };
+            told = record {
+              read = read-with o text 1 _ c.in_ok-log.ensures.read;
+              same = refl;
+              fits = fits-with o log.kind until 1 (omega arith) (sym c.in_ok-until.ensures);
+            };
             asked = c.in_err-aligned.ensures.refused.0;
             unaligned = same;
           }),
@@ -68,8 +73,10 @@ returns-in_err-rows-clause-refused c =
     let aligned = c.in_ok-aligned.aligned in
     let until = c.in_ok-until.until in
     let why = c.in_err-rows.field-0.0 in
-    rw (p.1, p.2) (rows-refused o text (seen_log log) log.events.items c.in_ok-log.ensures.read refl aligned c.in_ok-aligned.ensures.aligned c.in_ok-aligned.ensures.nodes until (sym c.in_ok-until.ensures) why
-    (subst (λ (kind : TimeKind). IsLogRowRefusal o.drop_lost text aligned.log.nodes aligned.log.events.items kind until why) c.in_ok-aligned.ensures.kind c.in_err-rows.ensures.refused))
+    rw (p.1, p.2) (rows-refused o text (seen_log log) log.events.items c.in_ok-log.ensures.read
+    refl aligned c.in_ok-aligned.ensures.aligned c.in_ok-aligned.ensures.nodes until (sym c.in_ok-until.ensures) why
+    (subst (λ (kind : TimeKind). IsLogRowRefusal o.drop_lost text aligned.log.nodes aligned.log.events.items kind until why)
+    c.in_ok-aligned.ensures.kind c.in_err-rows.ensures.refused))
 
 pub returns-clause-table : goal.returns-clause-table
 returns-clause-table c =
@@ -79,7 +86,8 @@ returns-clause-table c =
     let aligned = c.in_ok-aligned.aligned in
     let until = c.in_ok-until.until in
     let rows = c.in_ok-rows.rows.items in
-    let h = subst (λ (kind : TimeKind). AreLogRows o.drop_lost kind (length aligned.log.nodes) aligned.log.events.items until rows) c.in_ok-aligned.ensures.kind c.in_ok-rows.ensures.rows in
+    let h = subst (λ (kind : TimeKind). AreLogRows o.drop_lost kind (length aligned.log.nodes) aligned.log.events.items until rows)
+    c.in_ok-aligned.ensures.kind c.in_ok-rows.ensures.rows in
     record {
       log = seen_log log;
       read = c.in_ok-log.ensures.read;
@@ -95,11 +103,10 @@ returns-clause-table c =
       left_at = h.left_at;
       are_left = h.are_left;
       widths = h.widths;
-      each = All-weaker (IsRowOf (length aligned.log.nodes) h.left log.kind until) (λ row. IsToldBy (with_width o row.width) text row.placing)
-          (row-told o text (seen_log log) log.events.items c.in_ok-log.ensures.read refl aligned
+      each = All-weaker (IsRowOf (length aligned.log.nodes) h.left log.kind until) (λ row. IsToldBy
+          (with_width o row.width) text row.placing) (row-told o text (seen_log log) log.events.items c.in_ok-log.ensures.read refl aligned
           c.in_ok-aligned.ensures.aligned c.in_ok-aligned.ensures.nodes until
-          (sym c.in_ok-until.ensures) h.left h.left_at h.are_left)
-          rows h.each;
+          (sym c.in_ok-until.ensures) h.left h.left_at h.are_left) rows h.each;
     }
 
 pub log_rows-requires-clause-given : goal.log_rows-requires-clause-given

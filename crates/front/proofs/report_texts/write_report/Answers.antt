@@ -7,7 +7,8 @@ use Rattle.front.proofs.ShortTexts.{short-report_text}
 use Rattle.front.proofs.TextsRead.{StandsFor-report_text}
 use Rattle.front.proofs.report_texts.write_report.Goals as goal
 
-wrote-before : {A : Type 0} (r : Result A WriteError) (text : List ℕ) (old new : Option (List ℕ)) → IfErr r (λ e. WroteFront e text old new) → IfErr r (λ e. WroteBefore e text old new)
+wrote-before : {A : Type 0} (r : Result A WriteError) (text : List ℕ) (old new : Option (List ℕ))
+    → IfErr r (λ e. WroteFront e text old new) → IfErr r (λ e. WroteBefore e text old new)
 wrote-before (Ok x) text old new h = tt
 wrote-before (Err (fault.Write n)) text old new h = h
 wrote-before (Err fault.Memory) text old new h = absurd h

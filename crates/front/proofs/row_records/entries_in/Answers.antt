@@ -10,5 +10,11 @@ loop-i-preserved c =
     let fields = fields_of c.args.fields.now in
     record {
       long = length-set c.loop-i.entries i c.entry_of.result ∙ c.loop-i.invariant.long;
-      read = rw (take_more_set c.loop-i.entries i c.entry_of.result (omega arith), c.loop-i.invariant.read, entry_more fields i (omega arith), c.entry_of.ensures, c.field.ensures) refl;
+      read = rw (
+        take_more_set c.loop-i.entries i c.entry_of.result (omega arith),
+        c.loop-i.invariant.read,
+        entry_more fields i (omega arith),
+        c.entry_of.ensures,
+        c.field.ensures,
+      ) refl;
     }

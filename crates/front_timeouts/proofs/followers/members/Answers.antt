@@ -16,9 +16,10 @@ loop-p-preserved c =
       low = omega arith;
       items = elim c.if-contains.branch [
         | then-contains+in_ok-push w ↦ rw w.all-is (w.in_ok-push.ensures.items ∙ ap (λ (xs : List ℕ). xs ++ c.loop-p.p ∷ []) known.items
-            ∙ sym (members_to-next c.args.set c.loop-p.p known.low (sym c.contains.ensures ∙ w.if-contains.true)) ∙ ap (members_to c.args.set) (sym next))
-        | else-contains w ↦ rw w.all-is (known.items
-            ∙ sym (members_to-same c.args.set c.loop-p.p known.low (sym c.contains.ensures ∙ w.if-contains.false)) ∙ ap (members_to c.args.set) (sym next))
+            ∙ sym (members_to-next c.args.set c.loop-p.p known.low (sym c.contains.ensures ∙ w.if-contains.true))
+            ∙ ap (members_to c.args.set) (sym next))
+        | else-contains w ↦ rw w.all-is (known.items ∙ sym (members_to-same c.args.set c.loop-p.p known.low
+            (sym c.contains.ensures ∙ w.if-contains.false)) ∙ ap (members_to c.args.set) (sym next))
       ];
     }
 

@@ -9,4 +9,5 @@ returns-in-Some c = AreReceivers-more c.args.trace.now.steps c.args.p c.in-Some.
     c.requires.before
 
 pub returns-in-None : goal.returns-in-None
-returns-in-None c = AreReceivers-same c.args.trace.now.steps c.args.p c.args.no c.args.receivers (λ q sends. none-some q (sym c.in-None.is ∙ (c.sent_to.ensures.to q).1 sends)) c.requires.before
+returns-in-None c = AreReceivers-same c.args.trace.now.steps c.args.p c.args.no c.args.receivers
+    (λ q sends. none-some q (sym c.in-None.is ∙ (c.sent_to.ensures.to q).1 sends)) c.requires.before

@@ -28,15 +28,18 @@ loop-q-preserved c =
       followed = AreFollowed-more c.args.trace.now c.args.p c.args.given c.args.at c.args.followers.now c.loop-q.q-index
           known.all c.in_ok-follower.follower c.loop-q-test.true c.in_ok-follower.ensures.follower
           c.in_ok-follower.ensures.followed known.followed;
-      text = c.in_ok-write_follower.ensures.text ∙ ap (λ (text : List ℕ). text ++ text_of_records (follower_records c.in_ok-follower.follower)) known.text ∙ sym (timeouts_text-more known.all c.in_ok-follower.follower);
+      text = c.in_ok-write_follower.ensures.text ∙ ap (λ (text : List ℕ). text ++ text_of_records
+          (follower_records c.in_ok-follower.follower)) known.text ∙ sym (timeouts_text-more known.all c.in_ok-follower.follower);
     }
 
 pub returns : goal.returns
 returns c =
     let known = c.loop-q.invariant in
-    let end : take c.loop-q.q-index c.args.followers.now ≡ c.args.followers.now = take_all c.loop-q.q-index c.args.followers.now (omega (arith, c.loop-q-test.false)) in
+    let end : take c.loop-q.q-index c.args.followers.now
+    ≡ c.args.followers.now = take_all c.loop-q.q-index c.args.followers.now (omega (arith, c.loop-q-test.false)) in
     let followed = subst (λ (qs : List ℕ). AreFollowed c.args.trace.now c.args.p c.args.given c.args.at qs known.all) end known.followed in
     let text : IsTimeoutsText c.args.trace.now c.args.p c.args.followers.now c.args.given c.args.at
     (timeouts_text known.all) =
     record { all = known.all; followed = followed; written = refl; read = StandsFor-timeouts_text known.all } in
-    IfOk-weaker c.text_written.result _ _ (λ v written. subst (IsTimeoutsText c.args.trace.now c.args.p c.args.followers.now c.args.given c.args.at) (sym (written ∙ known.text)) text) c.text_written.ensures
+    IfOk-weaker c.text_written.result _ _ (λ v written. subst (IsTimeoutsText c.args.trace.now
+    c.args.p c.args.followers.now c.args.given c.args.at) (sym (written ∙ known.text)) text) c.text_written.ensures

@@ -7,5 +7,6 @@ use Rattle.judged_runs.proofs.deadline_rows.rows_text.Given as goal
 abbrev pub invariant-loop-row : goal.invariant-loop-row
 invariant-loop-row l = record {
   inside : l.row-index ≤ length l.rows;
-  whole : string_bytes l.text ++ deadline_lines l.trace (deadline l.trace.config l.start l.formula) l.decided (drop l.row-index l.rows) ≡ told_rows l.trace (deadline l.trace.config l.start l.formula) l.decided l.rows;
+  whole : string_bytes l.text ++ deadline_lines l.trace (deadline l.trace.config l.start l.formula) l.decided (drop l.row-index l.rows)
+      ≡ told_rows l.trace (deadline l.trace.config l.start l.formula) l.decided l.rows;
 }

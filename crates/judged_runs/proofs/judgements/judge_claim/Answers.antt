@@ -5,7 +5,8 @@ use Rattle.step_trace.specs.Fronts.{IsReport}
 use Rattle.judged_runs.proofs.judgements.judge_claim.Goals as goal
 
 pub late_by-requires-clause-report : goal.late_by-requires-clause-report
-late_by-requires-clause-report c = subst (λ (rows : List Row). IsReport c.args.set c.args.trace.now rows) (sym c.rows-rows.ensures) (c.in_ok-report.ensures.report c.args.set c.args.trace.now c.in_ok-stairs.ensures)
+late_by-requires-clause-report c = subst (λ (rows : List Row). IsReport c.args.set c.args.trace.now rows)
+    (sym c.rows-rows.ensures) (c.in_ok-report.ensures.report c.args.set c.args.trace.now c.in_ok-stairs.ensures)
 
 -- nothing is late, and too little was tested
 pub returns-then-tested-demands : goal.returns-then-tested-demands
@@ -28,5 +29,10 @@ returns c =
     (c.in_ok-report.ensures.report c.args.set c.args.trace.now c.in_ok-stairs.ensures) in
     let enough = c.if-tested-demands.false in (
       (c.requires.sound, c.in_ok-late.ensures.kept none),
-      record { rows = c.rows-rows.result.now; report = report; tested_is = c.tested_by-tested.ensures (c.in_ok-late.ensures.rows none); enough = omega (arith, enough) },
+      record {
+        rows = c.rows-rows.result.now;
+        report = report;
+        tested_is = c.tested_by-tested.ensures (c.in_ok-late.ensures.rows none);
+        enough = omega (arith, enough);
+      },
     )

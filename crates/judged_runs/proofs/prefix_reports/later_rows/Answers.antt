@@ -11,9 +11,10 @@ later_by-requires c =
     omega (arith, within, room)
 
 pub loop-row-preserved : goal.loop-row-preserved
-loop-row-preserved c =
-    rw (c.in_ok-push.ensures.len, c.in_ok-push.ensures.items, c.loop-row.invariant, c.later_by.ensures)
-    (map_next (later_by c.args.after) (rows_of c.args.stairs.now) (vec_len c.loop-row.rows) c.in-Some.row (sym (rw c.len.ensures at c.in-Some.ensures)))
+loop-row-preserved c = rw (c.in_ok-push.ensures.len, c.in_ok-push.ensures.items, c.loop-row.invariant, c.later_by.ensures)
+    (map_next (later_by c.args.after) (rows_of c.args.stairs.now)
+    (vec_len c.loop-row.rows) c.in-Some.row (sym (rw c.len.ensures at c.in-Some.ensures)))
 
 pub returns : goal.returns
-returns c = c.loop-row.invariant ∙ all_mapped (later_by c.args.after) (rows_of c.args.stairs.now) (vec_len c.loop-row.rows) (rw c.len.ensures at c.in_default.ensures)
+returns c = c.loop-row.invariant
+    ∙ all_mapped (later_by c.args.after) (rows_of c.args.stairs.now) (vec_len c.loop-row.rows) (rw c.len.ensures at c.in_default.ensures)

@@ -15,5 +15,5 @@ later_rows-requires c =
 
 pub returns-clause-rows : goal.returns-clause-rows
 returns-clause-rows c = IfOk-weaker c.later_rows.result _ _
-    (λ rows same cut sound at. subst (AreRowsAfter c.args.analyst.now.set cut c.args.after) (sym same) (AreRowsAfter-levels c.args.analyst.now.set cut c.args.after _ (c.in_ok-stairs.ensures.stairs cut sound at)))
-    c.later_rows.ensures
+    (λ rows same cut sound at. subst (AreRowsAfter c.args.analyst.now.set cut c.args.after) (sym same)
+    (AreRowsAfter-levels c.args.analyst.now.set cut c.args.after _ (c.in_ok-stairs.ensures.stairs cut sound at))) c.later_rows.ensures

@@ -19,10 +19,13 @@ loop-k-preserved c =
     record {
       end = (let old = c.loop-k.invariant.end in let less = new.least in omega (arith, old, less));
       later = λ i r l at begun. elim (cases_eq i here) [
-        | inl e ↦ subst (λ (x : Row). x.gst ≤ c.args.until → c.nearer-nearest.result.least ≤ due (triple_of x)) (get_or_from_slice_get rows here r no_row (subst (λ j. slice_get rows j ≡ Some r) e at)) new.row begun
-        | inr e ↦ (let old = c.loop-k.invariant.later i r (omega (arith, l, e)) at begun in let less = new.least in omega (arith, old, less))
+        | inl e ↦ subst (λ (x : Row). x.gst ≤ c.args.until → c.nearer-nearest.result.least ≤ due (triple_of x))
+            (get_or_from_slice_get rows here r no_row (subst (λ j. slice_get rows j ≡ Some r) e at)) new.row begun
+        | inr e ↦ (let old = c.loop-k.invariant.later i r (omega (arith, l, e)) at begun in
+            let less = new.least in omega (arith, old, less))
       ];
       time = λ i r l at. (let there = slice_get-get_or rows here no_row inside in
           time_kept c.args.trace.now.config c.args.start c.args.formula.now r (get_or rows here no_row) c.nearer-nearest.result.time
-          (c.requires.delta i here r (get_or rows here no_row) l at there) (c.requires.phi i here r (get_or rows here no_row) l at there) new.time);
+          (c.requires.delta i here r (get_or rows here no_row) l at there)
+          (c.requires.phi i here r (get_or rows here no_row) l at there) new.time);
     }

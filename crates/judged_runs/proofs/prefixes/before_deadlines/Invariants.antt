@@ -10,6 +10,8 @@ use Rattle.judged_runs.proofs.prefixes.before_deadlines.Given as goal
 abbrev pub invariant-loop-k : goal.invariant-loop-k
 invariant-loop-k l = record {
   end : l.nearest.least ≤ l.trace.last + 1;
-  later : (i : ℕ) (r : Row) → l.k ≤ i → slice_get l.rows i ≡ Some r → r.gst ≤ l.until → l.nearest.least ≤ deadline l.trace.config l.start l.formula (triple_of r);
-  time : (i : ℕ) (r : Row) → i < l.k → slice_get l.rows i ≡ Some r → max r.gst l.start + l.nearest.time ≤ deadline l.trace.config l.start l.formula (triple_of r);
+  later : (i : ℕ) (r : Row) → l.k ≤ i → slice_get l.rows i ≡ Some r
+      → r.gst ≤ l.until → l.nearest.least ≤ deadline l.trace.config l.start l.formula (triple_of r);
+  time : (i : ℕ) (r : Row) → i < l.k → slice_get l.rows i ≡ Some r
+      → max r.gst l.start + l.nearest.time ≤ deadline l.trace.config l.start l.formula (triple_of r);
 }

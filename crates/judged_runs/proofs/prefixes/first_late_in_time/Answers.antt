@@ -17,8 +17,8 @@ pub returns-clause-kept : goal.returns-clause-kept
 returns-clause-kept c =
     let past = c.loop-ahead-test.false in
     let last = c.last_tick.ensures.value in (
-      λ none. before_all c.args.set c.args.trace.now c.args.decisions.now _ c.loop-ahead.ahead.tick
-          (λ y l m. c.undecided_until-end.ensures.decided y (omega (arith, past, l)) (omega (arith, m, last))) c.loop-ahead.invariant.ahead.before,
+      λ none. before_all c.args.set c.args.trace.now c.args.decisions.now _ c.loop-ahead.ahead.tick (λ y l m.
+          c.undecided_until-end.ensures.decided y (omega (arith, past, l)) (omega (arith, m, last))) c.loop-ahead.invariant.ahead.before,
       λ kept. refl,
     )
 
@@ -31,7 +31,8 @@ returns-clause-whole c = λ none. KeepsClaim-in_time c.args.set c.args.trace.now
 
 pub loop-ahead-init : goal.loop-ahead-init
 loop-ahead-init c = record {
-  ahead = c.beginning-ahead.ensures c.args.set c.args.trace.now c.args.decisions.now (deadline c.args.trace.now.config c.args.start c.args.formula.now);
+  ahead = c.beginning-ahead.ensures c.args.set c.args.trace.now c.args.decisions.now
+      (deadline c.args.trace.now.config c.args.start c.args.formula.now);
   set = ap (λ a. a.set) c.new-analyst.ensures;
   seen = ap (λ a. a.seen) c.new-analyst.ensures;
 }

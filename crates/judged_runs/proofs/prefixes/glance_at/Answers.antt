@@ -42,10 +42,13 @@ returns-clause-glance c =
     let given = c.requires.order in
     let order = c.aged.ensures.order in
     record {
-      none = none_in_sight set trace d.cut rows due ahead.tick ahead.after ahead.old c.before_deadlines-of_rows.result c.others_deadline-of_others.result next.tick monotone d.sound d.at last
-          (rw (c.deref.ensures.value, c.trace-trace.ensures, found.same) at c.before_deadlines-of_rows.ensures.rows) (rw (c.trace-trace.ensures, found.same) at c.others_deadline-of_others.ensures.early) c.requires.old
+      none = none_in_sight set trace d.cut rows due ahead.tick
+          ahead.after ahead.old c.before_deadlines-of_rows.result c.others_deadline-of_others.result next.tick monotone d.sound d.at last
+          (rw (c.deref.ensures.value, c.trace-trace.ensures, found.same) at c.before_deadlines-of_rows.ensures.rows)
+          (rw (c.trace-trace.ensures, found.same) at c.others_deadline-of_others.ensures.early) c.requires.old
           (omega (arith, inner, outer, tick)) (omega (arith, inner, outer, tick)) (omega (arith, inner, outer, tick));
       order = omega (arith, order, given, later, tick);
       old = old_in_sight set trace d.cut rows due ahead.tick next.tick ahead.after ahead.old next.after next.old monotone d.sound d.at last
-          (rw (c.deref-2.ensures.value, c.trace-trace.ensures, found.same) at c.aged.ensures.rows) (omega (arith, order, given)) (omega (arith, later, tick)) c.aged.ensures.old c.requires.old;
+          (rw (c.deref-2.ensures.value, c.trace-trace.ensures, found.same) at c.aged.ensures.rows)
+          (omega (arith, order, given)) (omega (arith, later, tick)) c.aged.ensures.old c.requires.old;
     }

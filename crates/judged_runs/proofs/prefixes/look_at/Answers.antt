@@ -9,7 +9,8 @@ returns-then-ahead-next-clause-look c =
     let glance = c.in_ok-next.ensures.glance in (
       c.if-ahead-next.true,
       record {
-        before = before_sight c.args.analyst.now.set trace c.args.decisions.now (deadline trace.config c.args.start c.args.formula.now) c.args.ahead.tick c.in_ok-next.next.tick glance.none c.requires.ahead.before;
+        before = before_sight c.args.analyst.now.set trace c.args.decisions.now (deadline trace.config c.args.start c.args.formula.now)
+            c.args.ahead.tick c.in_ok-next.next.tick glance.none c.requires.ahead.before;
         order = glance.order;
         old = glance.old;
       },

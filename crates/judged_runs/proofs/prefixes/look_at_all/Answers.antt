@@ -8,28 +8,35 @@ use Rattle.judged_runs.proofs.prefixes.look_at_all.Goals as goal
 
 pub next_look-next-requires-clause-falling : goal.next_look-next-requires-clause-falling
 next_look-next-requires-clause-falling c =
-    let prefix = has_rows c.args.analyst.now.set c.args.analyst.now.seen c.args.x _ c.rows-rows.result.now c.in_ok-report.ensures.sound c.requires.inside c.in_ok-report.ensures.report c.rows-rows.ensures in
+    let prefix = has_rows c.args.analyst.now.set c.args.analyst.now.seen c.args.x
+    _ c.rows-rows.result.now c.in_ok-report.ensures.sound c.requires.inside c.in_ok-report.ensures.report c.rows-rows.ensures in
     falling c.args.analyst.now.set prefix.cut c.rows-rows.result.now prefix.report
 
 pub returns-in-Some-clause-look : goal.returns-in-Some-clause-look
 returns-in-Some-clause-look c =
     let set = c.args.analyst.now.set in
     let trace = c.args.analyst.now.seen in
-    let prefix = has_rows c.args.analyst.now.set c.args.analyst.now.seen c.args.x _ c.rows-rows.result.now c.in_ok-report.ensures.sound c.requires.inside c.in_ok-report.ensures.report c.rows-rows.ensures in
-    let late = (rw (c.set-set.ensures, c.trace-trace.ensures, c.in_ok-report.ensures.same) at c.in-Some.ensures.late) prefix.cut prefix.at.last in
-    late_in_time set trace prefix.cut c.rows-rows.result.now c.args.decisions.now (deadline trace.config c.args.start c.args.formula.now) c.args.x c.in-Some.late
+    let prefix = has_rows c.args.analyst.now.set c.args.analyst.now.seen c.args.x
+    _ c.rows-rows.result.now c.in_ok-report.ensures.sound c.requires.inside c.in_ok-report.ensures.report c.rows-rows.ensures in
+    let late =
+    (rw (c.set-set.ensures, c.trace-trace.ensures, c.in_ok-report.ensures.same) at c.in-Some.ensures.late) prefix.cut prefix.at.last in
+    late_in_time set trace prefix.cut c.rows-rows.result.now c.args.decisions.now
+    (deadline trace.config c.args.start c.args.formula.now) c.args.x c.in-Some.late
     prefix.sound prefix.at (deadline-later trace.config c.args.start c.args.formula.now) prefix.report c.requires.before late
 
 pub returns-clause-look : goal.returns-clause-look
 returns-clause-look c =
     let set = c.args.analyst.now.set in
     let trace = c.args.analyst.now.seen in
-    let prefix = has_rows c.args.analyst.now.set c.args.analyst.now.seen c.args.x _ c.rows-rows.result.now c.in_ok-report.ensures.sound c.requires.inside c.in_ok-report.ensures.report c.rows-rows.ensures in
+    let prefix = has_rows c.args.analyst.now.set c.args.analyst.now.seen c.args.x
+    _ c.rows-rows.result.now c.in_ok-report.ensures.sound c.requires.inside c.in_ok-report.ensures.report c.rows-rows.ensures in
     let look = rw (c.trace-trace.ensures, c.in_ok-report.ensures.same) at c.next_look-next.ensures.next in
-    let claim = (rw (c.set-set.ensures, c.trace-trace.ensures, c.in_ok-report.ensures.same) at c.in-None.ensures.claim) prefix.cut prefix.at.last prefix.report in (
+    let claim = (rw (c.set-set.ensures, c.trace-trace.ensures, c.in_ok-report.ensures.same) at c.in-None.ensures.claim)
+    prefix.cut prefix.at.last prefix.report in (
       look.tick.later,
-      ahead_of_look set trace prefix.cut c.rows-rows.result.now c.args.decisions.now (deadline trace.config c.args.start c.args.formula.now) c.args.x c.next_look-next.result
-          (deadline-monotone trace.config c.args.start c.args.formula.now) prefix.sound prefix.at prefix.report (claim.0 refl) look c.requires.before,
+      ahead_of_look set trace prefix.cut c.rows-rows.result.now c.args.decisions.now (deadline trace.config c.args.start c.args.formula.now)
+          c.args.x c.next_look-next.result (deadline-monotone trace.config c.args.start c.args.formula.now)
+          prefix.sound prefix.at prefix.report (claim.0 refl) look c.requires.before,
     )
 
 -- no row is due
@@ -38,10 +45,15 @@ returns-then-x-next-clause-look c =
     let set = c.args.analyst.now.set in
     let trace = c.args.analyst.now.seen in
     let rows = c.rows-rows.result.now in
-    let prefix = has_rows c.args.analyst.now.set c.args.analyst.now.seen c.args.x _ c.rows-rows.result.now c.in_ok-report.ensures.sound c.requires.inside c.in_ok-report.ensures.report c.rows-rows.ensures in
+    let prefix = has_rows c.args.analyst.now.set c.args.analyst.now.seen c.args.x
+    _ c.rows-rows.result.now c.in_ok-report.ensures.sound c.requires.inside c.in_ok-report.ensures.report c.rows-rows.ensures in
     let look = rw (c.trace-trace.ensures, c.in_ok-report.ensures.same) at c.next_look-next.ensures.next in
     let due = deadline trace.config c.args.start c.args.formula.now in
     let monotone = deadline-monotone trace.config c.args.start c.args.formula.now in
     let beyond = c.if-x-next.true in
-    let kept = none_due set prefix.cut rows c.args.decisions.now due c.args.x c.next_look-next.result.tick monotone prefix.report prefix.at.last (omega (arith, beyond)) (look.tick.of_rows beyond) in
-    (look.tick.later, ahead_of_look set trace prefix.cut rows c.args.decisions.now due c.args.x c.next_look-next.result monotone prefix.sound prefix.at prefix.report kept look c.requires.before)
+    let kept = none_due set prefix.cut rows c.args.decisions.now due
+    c.args.x c.next_look-next.result.tick monotone prefix.report prefix.at.last (omega (arith, beyond)) (look.tick.of_rows beyond) in (
+      look.tick.later,
+      ahead_of_look set trace prefix.cut rows c.args.decisions.now
+          due c.args.x c.next_look-next.result monotone prefix.sound prefix.at prefix.report kept look c.requires.before,
+    )

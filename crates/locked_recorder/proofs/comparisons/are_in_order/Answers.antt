@@ -4,15 +4,18 @@ use Rattle.locked_recorder.proofs.SeatOrder.{AreInOrder-first, length-in_order, 
 use Rattle.locked_recorder.proofs.comparisons.are_in_order.Goals as goal
 
 pub returns-then-seats-n : goal.returns-then-seats-n
-returns-then-seats-n c =
-    (λ e. cc e, λ order. absurd (let count = length-in_order c.args.config.now c.args.seats.now order in let n = c.n.ensures.value in c.if-seats-n.true (omega arith)))
+returns-then-seats-n c = (
+  λ e. cc e,
+  λ order. absurd (let count = length-in_order c.args.config.now c.args.seats.now order in
+      let n = c.n.ensures.value in c.if-seats-n.true (omega arith)),
+)
 
 pub returns-then-proc-i : goal.returns-then-proc-i
 returns-then-proc-i c =
     let at = c.index-seats-i.result in (
       λ e. cc e,
-      λ order.
-          absurd (c.if-proc-i.true (c.proc.ensures ∙ ap (λ (s : Turns). s.proc) c.index-seats-i.is ∙ place-in_order c.args.config.now c.args.seats.now c.loop-i.i at order c.loop-i-test.true)),
+      λ order. absurd (c.if-proc-i.true (c.proc.ensures ∙ ap (λ (s : Turns). s.proc) c.index-seats-i.is
+          ∙ place-in_order c.args.config.now c.args.seats.now c.loop-i.i at order c.loop-i-test.true)),
     )
 
 pub returns : goal.returns

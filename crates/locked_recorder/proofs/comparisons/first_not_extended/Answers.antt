@@ -10,7 +10,8 @@ loop-i-preserved c =
     let views = c.args.views.now in
     let i = c.loop-i.i in
     let view = c.index-views-i.result in
-    let grown : take (i + 1) views ≡ take i views ++ view ∷ [] = take_more views i view c.loop-i-test.true ∙ ap (λ v. take i views ++ v ∷ []) (sym c.index-views-i.is) in
+    let grown : take (i + 1) views ≡ take i views ++ view ∷ [] = take_more views i view c.loop-i-test.true
+    ∙ ap (λ v. take i views ++ v ∷ []) (sym c.index-views-i.is) in
     rw grown (All-push (λ v. IsExtended trace v) (take i views) view c.loop-i.invariant (c.extends.ensures.0 c.if-not-extends.false))
 
 pub returns-clause-none : goal.returns-clause-none

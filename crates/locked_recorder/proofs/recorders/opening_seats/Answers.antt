@@ -11,5 +11,6 @@ loop-p-preserved c =
     let count : p - 1 + 1 ≡ p + 1 - 1 = omega (arith, low) in
     let more = map-range_with_len_more (opening_seat c.args.tag) 1 (p - 1) p place in (
       omega arith,
-      c.in_ok-push.ensures.items ∙ ap₂ (λ xs x. xs ++ x ∷ []) c.loop-p.invariant.1 c.new.ensures ∙ sym more ∙ ap (opening_seats c.args.tag) count,
+      c.in_ok-push.ensures.items ∙ ap₂ (λ xs x. xs ++ x ∷ []) c.loop-p.invariant.1 c.new.ensures
+          ∙ sym more ∙ ap (opening_seats c.args.tag) count,
     )

@@ -22,7 +22,8 @@ returns-in_err-take_front-clause-faults g c =
 pub returns-then-len-clause-goes_on : goal.returns-then-len-clause-goes_on
 returns-then-len-clause-goes_on g c = λ start known h.
     let r = c.loop.invariant.read start known h in
-    part-long g.T.TakeRows.next start known _ _ _ _ _ r (c.in_ok-take_front.ensures r.bytes r.rest_is) (omega (arith, c.if-len.true, c.len.ensures))
+    part-long g.T.TakeRows.next start known _ _ _ _ _ r
+    (c.in_ok-take_front.ensures r.bytes r.rest_is) (omega (arith, c.if-len.true, c.len.ensures))
 
 pub returns-then-len-clause-faults : goal.returns-then-len-clause-faults
 returns-then-len-clause-faults g c = c.loop.invariant.faults
@@ -40,7 +41,8 @@ returns-in_err-fill-clause-faults g c =
 pub returns-then-branch-clause-goes_on : goal.returns-then-branch-clause-goes_on
 returns-then-branch-clause-goes_on g c = λ start known h.
     let r = c.loop.invariant.read start known h in
-    more-read g.T.TakeRows.next start known _ _ _ _ _ c.in_ok-fill.ensures.bytes (part-taken g.T.TakeRows.next start known _ _ _ _ _ r (c.in_ok-take_front.ensures r.bytes r.rest_is))
+    more-read g.T.TakeRows.next start known _ _ _ _ _ c.in_ok-fill.ensures.bytes
+    (part-taken g.T.TakeRows.next start known _ _ _ _ _ r (c.in_ok-take_front.ensures r.bytes r.rest_is))
 
 pub returns-then-branch-clause-faults : goal.returns-then-branch-clause-faults
 returns-then-branch-clause-faults g c = c.in_ok-fill.ensures.faults ∙ c.loop.invariant.faults
@@ -50,7 +52,8 @@ loop-preserved g c = record {
   room = omega (arith, c.in_ok-fill.ensures.room, c.loop.invariant.room);
   read = λ start known h.
       let r = c.loop.invariant.read start known h in
-      more-read g.T.TakeRows.next start known _ _ _ _ _ c.in_ok-fill.ensures.bytes (part-taken g.T.TakeRows.next start known _ _ _ _ _ r (c.in_ok-take_front.ensures r.bytes r.rest_is));
+      more-read g.T.TakeRows.next start known _ _ _ _ _ c.in_ok-fill.ensures.bytes
+      (part-taken g.T.TakeRows.next start known _ _ _ _ _ r (c.in_ok-take_front.ensures r.bytes r.rest_is));
   faults = c.in_ok-fill.ensures.faults ∙ c.loop.invariant.faults;
 }
 

@@ -13,8 +13,8 @@ fold-last f a [] y = refl
 fold-last f a (x ∷ xs) y = fold-last f (f a x) xs y
 
 pub returns-then-field-eq0 : goal.returns-then-field-eq0
-returns-then-field-eq0 c =
-    rw c.new.ensures.items (sym (ap (fold (next_name c.args.sent.now c.args.node.now) (record { text = []; unsent = 0 })) (words-none c.args.field.now (omega (arith, c.if-field-eq0.true)))))
+returns-then-field-eq0 c = rw c.new.ensures.items (sym (ap (fold (next_name c.args.sent.now c.args.node.now)
+    (record { text = []; unsent = 0 })) (words-none c.args.field.now (omega (arith, c.if-field-eq0.true)))))
 
 pub loop-name-init : goal.loop-name-init
 loop-name-init c = (grind serving, grind serving, rw c.new.ensures.items refl)
@@ -36,4 +36,5 @@ returns c =
     let split = c.split-name-items.ensures in
     let road = YieldsList-from_slice_split _ (λ b. b == 32) c.args.field.now (cc) (cc) (cc) (λ x b q k. search (rules, tests)) in
     let end = YieldsList-end road c.loop-name.yielded _ c.loop-name.yielded_by _ _ c.in-None.is c.next.ensures.steps in
-    c.loop-name.invariant.2 ∙ ap (fold (next_name c.args.sent.now c.args.node.now) (record { text = []; unsent = 0 })) (end.0 ∙ sym (words-split c.args.field.now some))
+    c.loop-name.invariant.2 ∙ ap (fold (next_name c.args.sent.now c.args.node.now) (record { text = []; unsent = 0 }))
+    (end.0 ∙ sym (words-split c.args.field.now some))

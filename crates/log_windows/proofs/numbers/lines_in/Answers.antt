@@ -20,4 +20,5 @@ loop-line-preserved c =
     let line = c.line-item.result in
     ap (λ (new : CycleLine). set lines k new) c.number_line.ensures
     ∙ map_over_more (line_in c.args.places.now) c.args.lines lines k (get_or lines k line)
-    (within k _ c.args.lines (c.deref_mut-line-items.ensures.value ∙ c.into_lines-numbered.ensures) c.loop-line-test.true) c.loop-line.invariant (read-again lines k line)
+    (within k _ c.args.lines (c.deref_mut-line-items.ensures.value ∙ c.into_lines-numbered.ensures) c.loop-line-test.true)
+    c.loop-line.invariant (read-again lines k line)

@@ -14,7 +14,8 @@ loop-i-preserved c =
     let text = c.args.text.now in
     let i = c.loop-i.i in
     let place = state_of c.after-place.result in
-    let more = after-more st.StartRecord (state_of c.loop-i.place) place text i c.loop-i-test.true c.loop-i.invariant.place c.after-place.ensures in
+    let more = after-more st.StartRecord (state_of c.loop-i.place)
+    place text i c.loop-i-test.true c.loop-i.invariant.place c.after-place.ensures in
     record {
       within = rw c.seam_by-seam.ensures (within-by place c.loop-i.seam (i + 1) (omega (arith, c.loop-i.invariant.within)));
       place = more;

@@ -11,7 +11,8 @@ use Rattle.merged_receives.proofs.MergeWalks.{AreHeads, heads-end, heads-start, 
 use Rattle.merged_receives.proofs.merges.heads_of.Goals as goal
 
 pub loop-k-init : goal.loop-k-init
-loop-k-init c = heads-start c.args.events.now c.args.ticks.now c.args.order.now _ _ _ refl (c.in_ok-opens.ensures.items_if_clones_equal (λ y e. e)) (c.in_ok-heads.ensures.items_if_clones_equal (λ y e. e))
+loop-k-init c = heads-start c.args.events.now c.args.ticks.now c.args.order.now _ _ _ refl
+    (c.in_ok-opens.ensures.items_if_clones_equal (λ y e. e)) (c.in_ok-heads.ensures.items_if_clones_equal (λ y e. e))
 
 pub index-actor-requires : goal.index-actor-requires
 index-actor-requires c =
@@ -24,12 +25,14 @@ index-actor-requires c =
 pub overflow_sub-processor : goal.overflow_sub-processor
 overflow_sub-processor c =
     let i = inside-order c.args.events.now c.args.order.now c.loop-k.k c.requires.ordered c.loop-k-test.true in
-    (actor-at c.args.events.now c.in_ok-actors.actors.items (slice_index c.args.order.now c.loop-k.k) c.index-actor.result.now c.in_ok-actors.ensures c.requires.processors i c.index-actor.ensures).least
+    (actor-at c.args.events.now c.in_ok-actors.actors.items (slice_index c.args.order.now c.loop-k.k)
+    c.index-actor.result.now c.in_ok-actors.ensures c.requires.processors i c.index-actor.ensures).least
 
 pub index-requires : goal.index-requires
 index-requires c =
     let i = inside-order c.args.events.now c.args.order.now c.loop-k.k c.requires.ordered c.loop-k-test.true in
-    let a = actor-at c.args.events.now c.in_ok-actors.actors.items (slice_index c.args.order.now c.loop-k.k) c.index-actor.result.now c.in_ok-actors.ensures c.requires.processors i c.index-actor.ensures in
+    let a = actor-at c.args.events.now c.in_ok-actors.actors.items (slice_index c.args.order.now c.loop-k.k)
+    c.index-actor.result.now c.in_ok-actors.ensures c.requires.processors i c.index-actor.ensures in
     let least = a.least in
     let most = a.most in
     let wide = c.loop-k.invariant.wide in
@@ -52,7 +55,8 @@ index_mut-requires c =
 pub index_mut-requires-in-loop-k : goal.index_mut-requires-in-loop-k
 index_mut-requires-in-loop-k c =
     let i = inside-order c.args.events.now c.args.order.now c.loop-k.k c.requires.ordered c.loop-k-test.true in
-    let a = actor-at c.args.events.now c.in_ok-actors.actors.items (slice_index c.args.order.now c.loop-k.k) c.index-actor.result.now c.in_ok-actors.ensures c.requires.processors i c.index-actor.ensures in
+    let a = actor-at c.args.events.now c.in_ok-actors.actors.items (slice_index c.args.order.now c.loop-k.k)
+    c.index-actor.result.now c.in_ok-actors.ensures c.requires.processors i c.index-actor.ensures in
     let least = a.least in
     let most = a.most in
     let wide = c.loop-k.invariant.wide in
@@ -79,7 +83,8 @@ loop-k-preserved c =
     let most = a.most in
     let read = get_or_read opens p c.index.result.now (omega (arith, wide, least, most)) c.index.ensures 0 in
     subst (λ q. AreHeads events ticks order (k + 1) (set opens q opened) (set heads i head)) (sym a.own)
-    (heads-step events ticks order c.requires.ordered c.requires.processors c.requires.rising k c.loop-k-test.true opens heads c.loop-k.invariant head
+    (heads-step events ticks order c.requires.ordered
+    c.requires.processors c.requires.rising k c.loop-k-test.true opens heads c.loop-k.invariant head
     (c.head_of-head.ensures
     ∙ ap (λ (t : Bool). head_if t (length ticks) ticks c.index.result.now i) a.receives
     ∙ ap (λ n. head_if (receives_at events i) n ticks c.index.result.now i) c.requires.long
@@ -87,4 +92,5 @@ loop-k-preserved c =
     (c.open_after.ensures ∙ ap (λ (t : Bool). cond t head (length events)) a.receives))
 
 pub returns : goal.returns
-returns c = heads-end c.args.events.now c.args.ticks.now c.args.order.now c.loop-k.k c.loop-k.opens.items c.loop-k.heads.items c.requires.ordered c.loop-k-test.false c.loop-k.invariant
+returns c = heads-end c.args.events.now c.args.ticks.now
+    c.args.order.now c.loop-k.k c.loop-k.opens.items c.loop-k.heads.items c.requires.ordered c.loop-k-test.false c.loop-k.invariant

@@ -13,7 +13,8 @@ heads_of-requires-clause-rising c =
     let events = c.args.events.now in
     let order = c.deref-2.result.now in
     let o = subst (λ (xs : List ℕ). IsTimeOrder events xs) (sym c.deref-2.ensures.value) c.in_ok-order.ensures in
-    subst (λ (ticks : List ℕ). AreRising ticks order) (sym (c.deref.ensures.value ∙ c.in_ok-ticks.ensures)) (rising-ticks events c.args.clock.now order c.requires.width o)
+    subst (λ (ticks : List ℕ). AreRising ticks order)
+    (sym (c.deref.ensures.value ∙ c.in_ok-ticks.ensures)) (rising-ticks events c.args.clock.now order c.requires.width o)
 
 pub parts_of-requires-clause-few : goal.parts_of-requires-clause-few
 parts_of-requires-clause-few c =
@@ -38,12 +39,14 @@ returns-clause-merged c =
     let ticks = time_ticks events c.args.clock.now in
     let heads = c.in_ok-heads.heads.items in
     let order = c.in_ok-order.order.items in
-    let w : AreHeadsOf events ticks heads = subst (λ (ts : List ℕ). AreHeadsOf events ts heads) (c.deref.ensures.value ∙ c.in_ok-ticks.ensures) c.in_ok-heads.ensures in
+    let w : AreHeadsOf events ticks heads = subst (λ (ts : List ℕ). AreHeadsOf events ts heads)
+    (c.deref.ensures.value ∙ c.in_ok-ticks.ensures) c.in_ok-heads.ensures in
     record {
       passed = c.in_ok-span.ensures.refused;
       order = order;
       in_time = c.in_ok-order.ensures;
-      parts_are = c.in_ok-parts.ensures ∙ ap₂ (λ (hs os : List ℕ). own_parts hs os) c.deref-3.ensures.value c.deref-4.ensures.value ∙ parts-are events ticks heads w order c.in_ok-order.ensures;
+      parts_are = c.in_ok-parts.ensures ∙ ap₂ (λ (hs os : List ℕ). own_parts hs os) c.deref-3.ensures.value c.deref-4.ensures.value
+          ∙ parts-are events ticks heads w order c.in_ok-order.ensures;
       places_are = c.in_ok-places.ensures ∙ ap places_before c.deref-5.ensures.value ∙ places-staying events ticks heads w;
     }
 
@@ -62,7 +65,9 @@ returns-clause-some c =
     let ticks = time_ticks events c.args.clock.now in
     let heads = c.in_ok-heads.heads.items in
     let order = c.in_ok-order.order.items in
-    let w : AreHeadsOf events ticks heads = subst (λ (ts : List ℕ). AreHeadsOf events ts heads) (c.deref.ensures.value ∙ c.in_ok-ticks.ensures) c.in_ok-heads.ensures in
+    let w : AreHeadsOf events ticks heads = subst (λ (ts : List ℕ). AreHeadsOf events ts heads)
+    (c.deref.ensures.value ∙ c.in_ok-ticks.ensures) c.in_ok-heads.ensures in
     let are : c.in_ok-parts.parts ≡ parts_of events ticks order =
-    c.in_ok-parts.ensures ∙ ap₂ (λ (hs os : List ℕ). own_parts hs os) c.deref-3.ensures.value c.deref-4.ensures.value ∙ parts-are events ticks heads w order c.in_ok-order.ensures in
+    c.in_ok-parts.ensures ∙ ap₂ (λ (hs os : List ℕ). own_parts hs os) c.deref-3.ensures.value c.deref-4.ensures.value
+    ∙ parts-are events ticks heads w order c.in_ok-order.ensures in
     subst (λ (ps : List (List ℕ)). 0 < length ps) (sym are) (some-stays events ticks heads order w c.requires.some)

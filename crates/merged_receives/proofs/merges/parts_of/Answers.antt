@@ -18,7 +18,8 @@ pub places_by_head-requires-clause-begins : goal.places_by_head-requires-clause-
 places_by_head-requires-clause-begins c = λ h l.
     let sizes = c.in_ok-sizes.sizes in
     let begins = c.put_begins.new.sizes in
-    let are : c.deref_mut.result.now ≡ head_sizes c.args.heads.now c.args.order.now = c.deref_mut.ensures.value ∙ c.in_ok-sizes.ensures.sizes in
+    let are : c.deref_mut.result.now ≡ head_sizes c.args.heads.now c.args.order.now = c.deref_mut.ensures.value
+    ∙ c.in_ok-sizes.ensures.sizes in
     let kept : length begins ≡ sizes.len = c.put_begins.auto.sizes ∙ c.deref_mut.ensures.len in
     let count = ap (λ (ns : List ℕ). length ns) are ∙ sizes-long c.args.heads.now c.args.order.now in
     ap (λ (ns : List ℕ). slice_index ns h) (c.deref_mut-2.ensures.value ∙ with_items_is sizes begins kept)
@@ -29,5 +30,6 @@ pub returns : goal.returns
 returns c =
     let places = c.in_ok-places.places.items in
     c.new.ensures
-    ∙ ap (λ (ends : List ℕ). pieces 0 ends places) (c.in_ok-ends.ensures ∙ ap (λ (ns : List ℕ). ends_from 0 ns) (c.deref.ensures.value ∙ c.in_ok-sizes.ensures.sizes))
+    ∙ ap (λ (ends : List ℕ). pieces 0 ends places)
+    (c.in_ok-ends.ensures ∙ ap (λ (ns : List ℕ). ends_from 0 ns) (c.deref.ensures.value ∙ c.in_ok-sizes.ensures.sizes))
     ∙ laid-parts c.args.heads.now c.args.order.now places c.in_ok-places.ensures

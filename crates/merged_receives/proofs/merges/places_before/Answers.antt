@@ -23,11 +23,13 @@ loop-place-preserved c =
     let inv = c.loop-place.invariant in
     record {
       count = c.counted-count.ensures ∙ ap (λ n. n + cond (slice_index heads place == place) 1 0) inv.count ∙ sym (own-more heads place);
-      places = c.in_ok-push.ensures.items ∙ ap₂ (λ (xs : List ℕ) (n : ℕ). xs ++ n ∷ []) inv.places inv.count ∙ sym (places-more heads place);
+      places = c.in_ok-push.ensures.items ∙ ap₂ (λ (xs : List ℕ) (n : ℕ). xs ++ n ∷ []) inv.places inv.count
+          ∙ sym (places-more heads place);
     }
 
 pub returns : goal.returns
 returns c =
     let heads = c.args.heads.now in
-    let all : c.loop-place.place ≡ length heads = (let end = c.loop-place.auto.place-end in let past = c.loop-place-test.false in omega (arith, end, past)) in
+    let all : c.loop-place.place
+    ≡ length heads = (let end = c.loop-place.auto.place-end in let past = c.loop-place-test.false in omega (arith, end, past)) in
     c.loop-place.invariant.places ∙ ap (λ n. map (λ s. length (own_before heads s)) (range_with_len 0 n)) all ∙ places-all heads

@@ -23,5 +23,6 @@ returns c = λ done p is.
     let high = is.1 in
     let past = c.loop-p-test.false in
     let all = c.n-p-end.ensures.value in
-    let own : c.config.result.now.n ≡ c.args.world.now.trace.config.n = ap (λ (s : Setup). s.n) (c.config.ensures ∙ ap (λ (t : Recorded). t.config) c.trace.ensures.value) in
+    let own : c.config.result.now.n ≡ c.args.world.now.trace.config.n =
+    ap (λ (s : Setup). s.n) (c.config.ensures ∙ ap (λ (t : Recorded). t.config) c.trace.ensures.value) in
     c.loop-p.invariant p low (omega arith)

@@ -12,7 +12,8 @@ use Rattle.node_runs.proofs.runs.run_nodes.Goals as goal
 pub returns-in_err-write_trace-clause-part : goal.returns-in_err-write_trace-clause-part
 returns-in_err-write_trace-clause-part g c =
     let p = err_from_is_err_and c.from_residual-in_err-write_trace.result c.from_residual-in_err-write_trace.ensures.1 in
-    rw (p.1, p.2) (unwritten_run c.args.limits.end c.args.config.now c.args.limits.steps c.in_ok-world.world.trace _ _ _ _ c.in_ok-world.ensures.run c.trace.ensures.value
+    rw (p.1, p.2) (unwritten_run c.args.limits.end
+    c.args.config.now c.args.limits.steps c.in_ok-world.world.trace _ _ _ _ c.in_ok-world.ensures.run c.trace.ensures.value
     c.in_err-write_trace.ensures.part)
 
 pub returns-in_err-write_trace-clause-followed : goal.returns-in_err-write_trace-clause-followed
@@ -35,9 +36,9 @@ returns-clause-run g c =
         trace = trace;
         over = over;
         written = refl;
-        noted = subst (WentOut g.N.Write.contents c.args.notes.now c.print_notes.new.writer)
-            (c.as_str.ensures.value ∙ c.in_ok-decided.ensures ∙ ap (λ s. told_decisions s trace.steps) over.run.config) c.print_notes.ensures;
+        noted = subst (WentOut g.N.Write.contents c.args.notes.now c.print_notes.new.writer) (c.as_str.ensures.value
+            ∙ c.in_ok-decided.ensures ∙ ap (λ s. told_decisions s trace.steps) over.run.config) c.print_notes.ensures;
       },
-      subst (λ t. Appends (g.W.Write.contents (inner_of c.args.writer.now)) (g.W.Write.contents (inner_of c.write_trace.new.writer)) (trace_text t)) c.trace.ensures.value
-          c.in_ok-write_trace.ensures.whole,
+      subst (λ t. Appends (g.W.Write.contents (inner_of c.args.writer.now))
+          (g.W.Write.contents (inner_of c.write_trace.new.writer)) (trace_text t)) c.trace.ensures.value c.in_ok-write_trace.ensures.whole,
     )

@@ -17,6 +17,6 @@ returns-clause-run g c =
         noted = subst (WentOut g.N.Write.contents c.args.notes.now c.print_notes.new.writer) (c.as_str.ensures.value ∙ c.in_ok-noted.ensures
             ∙ ap (λ (early : List ℕ). told_decisions trace.config trace.steps ++ early) c.in_ok-early.ensures) c.print_notes.ensures;
       },
-      subst (λ t. Appends (g.W.Write.contents (inner_of c.args.writer.now)) (g.W.Write.contents (inner_of c.write_trace.new.writer)) (trace_text t)) c.trace.ensures.value
-          c.in_ok-write_trace.ensures.whole,
+      subst (λ t. Appends (g.W.Write.contents (inner_of c.args.writer.now))
+          (g.W.Write.contents (inner_of c.write_trace.new.writer)) (trace_text t)) c.trace.ensures.value c.in_ok-write_trace.ensures.whole,
     )

@@ -15,4 +15,5 @@ returns-clause-noted c setup patience steps p q round k w is ahead h =
 pub returns-clause-taken : goal.returns-clause-taken
 returns-clause-taken c setup patience steps p q round k w is low h =
     let l = leb-true round (peer_after setup patience steps p q k).latest h in
-    heard-weaker steps p q (peer_after setup patience steps p q k).latest round k k l (omega arith) (heard setup patience steps p q w is k (omega arith))
+    heard-weaker steps p q (peer_after setup patience steps p q k).latest round k k l
+    (omega arith) (heard setup patience steps p q w is k (omega arith))

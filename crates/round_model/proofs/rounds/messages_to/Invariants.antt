@@ -5,4 +5,5 @@ use Rattle.round_model.proofs.HeardMessages.{heard_of}
 use Rattle.round_model.proofs.rounds.messages_to.Given as goal
 
 abbrev pub invariant-loop-i : goal.invariant-loop-i
-invariant-loop-i l = l.messages.items ≡ filter_map (heard_of l.config (table_of l.heard) (node_of l.nodes) l.to l.round) (range_with_len 1 l.i)
+invariant-loop-i l = l.messages.items ≡ filter_map
+    (heard_of l.config (table_of l.heard) (node_of l.nodes) l.to l.round) (range_with_len 1 l.i)

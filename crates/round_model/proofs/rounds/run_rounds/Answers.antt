@@ -11,8 +11,8 @@ pub loop-passed-init : goal.loop-passed-init
 loop-passed-init c = c.in_ok-nodes.ensures.nodes ∙ sym (states_after-opening c.args.config.now (table_of c.args.heard.now))
 
 pub run_round-requires-clause-nodes : goal.run_round-requires-clause-nodes
-run_round-requires-clause-nodes c =
-    ap length (c.deref_mut.ensures.value ∙ c.loop-passed.invariant) ∙ length-map-range_with_len (state_after c.args.config.now (table_of c.args.heard.now) c.loop-passed.passed) 1 c.args.config.now.n
+run_round-requires-clause-nodes c = ap length (c.deref_mut.ensures.value ∙ c.loop-passed.invariant)
+    ∙ length-map-range_with_len (state_after c.args.config.now (table_of c.args.heard.now) c.loop-passed.passed) 1 c.args.config.now.n
 
 pub loop-passed-preserved : goal.loop-passed-preserved
 loop-passed-preserved c =
@@ -29,12 +29,12 @@ loop-passed-preserved c =
     ∙ ap (states_after config table) (sym e)
 
 pub returns-clause-agreement : goal.returns-clause-agreement
-returns-clause-agreement c =
-    subst AgreeAll (sym c.loop-passed.invariant) (c.agreement.ensures.agreement c.args.config.now (table_of c.args.heard.now) c.loop-passed.passed c.in_ok-nodes.ensures.setup)
+returns-clause-agreement c = subst AgreeAll (sym c.loop-passed.invariant)
+    (c.agreement.ensures.agreement c.args.config.now (table_of c.args.heard.now) c.loop-passed.passed c.in_ok-nodes.ensures.setup)
 
 pub returns-clause-validity : goal.returns-clause-validity
-returns-clause-validity c =
-    subst (AreInitialValues c.args.config.now) (sym c.loop-passed.invariant) (c.agreement.ensures.validity c.args.config.now (table_of c.args.heard.now) c.loop-passed.passed c.in_ok-nodes.ensures.setup)
+returns-clause-validity c = subst (AreInitialValues c.args.config.now) (sym c.loop-passed.invariant)
+    (c.agreement.ensures.validity c.args.config.now (table_of c.args.heard.now) c.loop-passed.passed c.in_ok-nodes.ensures.setup)
 
 pub returns-clause-decided : goal.returns-clause-decided
 returns-clause-decided c set first touch late =
@@ -42,7 +42,8 @@ returns-clause-decided c set first touch late =
     let table = table_of c.args.heard.now in
     let passed = c.loop-passed.passed in
     let decided = c.decided_by.ensures.decided config set table first passed c.in_ok-nodes.ensures.setup touch (omega arith) in
-    subst (λ nodes. HaveDecided set (node_of nodes)) (sym c.loop-passed.invariant) (HaveDecided-states_after config set table passed touch.within decided)
+    subst (λ nodes. HaveDecided set (node_of nodes))
+    (sym c.loop-passed.invariant) (HaveDecided-states_after config set table passed touch.within decided)
 
 pub returns-clause-one_lock : goal.returns-clause-one_lock
 returns-clause-one_lock c set phase within low is hears =
@@ -50,8 +51,10 @@ returns-clause-one_lock c set phase within low is hears =
     let table = table_of c.args.heard.now in
     let passed = c.loop-passed.passed in
     let last : 4 * phase ≡ passed = omega arith in
-    let one = subst (λ n. HoldOneValue set (state_after config table n)) last (c.decided_by.ensures.one_lock config set table phase within low hears) in
-    subst (λ nodes. HoldOneValue set (node_of nodes)) (sym c.loop-passed.invariant) (HoldOneValue-states_after config set table passed within one)
+    let one = subst (λ n. HoldOneValue set (state_after config table n)) last
+    (c.decided_by.ensures.one_lock config set table phase within low hears) in
+    subst (λ nodes. HoldOneValue set (node_of nodes))
+    (sym c.loop-passed.invariant) (HoldOneValue-states_after config set table passed within one)
 
 pub returns-clause-proper : goal.returns-clause-proper
 returns-clause-proper c set phase within low is hears =
@@ -59,5 +62,7 @@ returns-clause-proper c set phase within low is hears =
     let table = table_of c.args.heard.now in
     let passed = c.loop-passed.passed in
     let last : 4 * phase ≡ passed = omega arith in
-    let proper = subst (λ n. LocksAreProper set (state_after config table n)) last (c.decided_by.ensures.proper config set table phase within low hears) in
-    subst (λ nodes. LocksAreProper set (node_of nodes)) (sym c.loop-passed.invariant) (LocksAreProper-states_after config set table passed within proper)
+    let proper = subst (λ n. LocksAreProper set (state_after config table n)) last
+    (c.decided_by.ensures.proper config set table phase within low hears) in
+    subst (λ nodes. LocksAreProper set (node_of nodes))
+    (sym c.loop-passed.invariant) (LocksAreProper-states_after config set table passed within proper)

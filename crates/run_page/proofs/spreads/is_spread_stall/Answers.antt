@@ -7,10 +7,12 @@ pub returns-in-Some : goal.returns-in-Some
 returns-in-Some c =
     let times = rw c.in-Some.is at c.silence_time.ensures in
     let less = rw c.gap_ticks.ensures at c.is_less_than_half.ensures in
-    one-time (Lasts c.args.trace.now c.args.said.now c.args.stall) (IsLessThanHalf c.args.width (c.args.stall.gap.to - (c.args.stall.gap.from - 1)))
+    one-time (Lasts c.args.trace.now c.args.said.now c.args.stall)
+    (IsLessThanHalf c.args.width (c.args.stall.gap.to - (c.args.stall.gap.from - 1)))
     (Some c.in-Some.time) times c.is_less_than_half.result less
 
 pub returns-in-None : goal.returns-in-None
 returns-in-None c =
     let times = rw c.in-None.is at c.silence_time.ensures in
-    one-time (Lasts c.args.trace.now c.args.said.now c.args.stall) (IsLessThanHalf c.args.width (c.args.stall.gap.to - (c.args.stall.gap.from - 1))) None times false refl
+    one-time (Lasts c.args.trace.now c.args.said.now c.args.stall)
+    (IsLessThanHalf c.args.width (c.args.stall.gap.to - (c.args.stall.gap.from - 1))) None times false refl

@@ -21,9 +21,10 @@ returns c = record {
   are_stalls = c.in_ok-stalls.ensures.stalls;
   are_delays = c.in_ok-delays.ensures;
   each = subst (λ xs. IsPermutation xs c.sort_unstable_by_key.new.self.items)
-      (all_evidence-from c.args.trace.now c.in_ok-stalls.stalls.items c.deref.result.now c.in_ok-delays.delays.items c.deref-2.result.now c.deref-3.result.now c.in_ok-list.list.items c.push_others.new.list.items
-      c.deref.ensures.value c.deref-2.ensures.value c.deref-3.ensures.value c.in_ok-list.ensures c.in_ok-push_others.ensures)
-      c.sort_unstable_by_key.ensures.permutation;
+      (all_evidence-from c.args.trace.now c.in_ok-stalls.stalls.items c.deref.result.now c.in_ok-delays.delays.items c.deref-2.result.now
+      c.deref-3.result.now c.in_ok-list.list.items c.push_others.new.list.items c.deref.ensures.value c.deref-2.ensures.value
+      c.deref-3.ensures.value c.in_ok-list.ensures c.in_ok-push_others.ensures) c.sort_unstable_by_key.ensures.permutation;
   ordered = ordered-by_keys c.sort_unstable_by_key.new.self.items
-      (c.sort_unstable_by_key.ensures.sorted (λ e. (e.first, MAX_TICKS - ticks_of e)) (always_returns_same _ (λ a r. r ≡ (a.0.now.first, MAX_TICKS - ticks_of a.0.now)) _ (λ a r q k. search rules)));
+      (c.sort_unstable_by_key.ensures.sorted (λ e. (e.first, MAX_TICKS - ticks_of e))
+      (always_returns_same _ (λ a r. r ≡ (a.0.now.first, MAX_TICKS - ticks_of a.0.now)) _ (λ a r q k. search rules)));
 }

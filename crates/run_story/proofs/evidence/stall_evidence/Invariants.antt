@@ -9,5 +9,6 @@ abbrev pub invariant-loop-i : goal.invariant-loop-i
 invariant-loop-i l = record {
   listed : l.list.items ≡ stall_evidence l.trace (take l.i l.stalls) l.delays;
   within : l.from ≤ length l.delays;
-  passed : (k j : ℕ) (d : Delay) (s : Stall) → k < l.from → slice_get l.delays k ≡ Some d → l.i ≤ j → slice_get l.stalls j ≡ Some s → d.last < s.first;
+  passed : (k j : ℕ) (d : Delay) (s : Stall) → k < l.from
+      → slice_get l.delays k ≡ Some d → l.i ≤ j → slice_get l.stalls j ≡ Some s → d.last < s.first;
 }

@@ -7,6 +7,8 @@ pub loop-i-preserved : goal.loop-i-preserved
 loop-i-preserved c =
     let inside : c.loop-i.i < length c.args.trace.now.steps = omega (arith, c.loop-i-test.true, c.len-i-end.ensures.value) in
     elim c.if-taken.branch [
-      | then-taken w ↦ rw w.taken-is (is_taken-next c.args.trace.now.steps c.loop-i.i c.args.sent _ c.loop-i.taken inside c.loop-i.invariant (let t = w.if-taken.true in rw t refl))
-      | else-taken w ↦ rw w.taken-is (is_taken-next c.args.trace.now.steps c.loop-i.i c.args.sent _ c.loop-i.taken inside c.loop-i.invariant (let f = w.if-taken.false in rw f w.takes-taken.ensures))
+      | then-taken w ↦ rw w.taken-is (is_taken-next c.args.trace.now.steps c.loop-i.i c.args.sent _ c.loop-i.taken inside c.loop-i.invariant
+          (let t = w.if-taken.true in rw t refl))
+      | else-taken w ↦ rw w.taken-is (is_taken-next c.args.trace.now.steps c.loop-i.i c.args.sent _ c.loop-i.taken inside c.loop-i.invariant
+          (let f = w.if-taken.false in rw f w.takes-taken.ensures))
     ]

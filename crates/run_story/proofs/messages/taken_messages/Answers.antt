@@ -7,5 +7,6 @@ loop-i-preserved c = record {
   len = c.mark.ensures.len ∙ c.loop-i.invariant.len;
   each = λ s.
       let inside : c.loop-i.i < length c.args.trace.now.steps = omega (arith, c.loop-i-test.true, c.len-i-end.ensures.value) in
-      is_taken-next c.args.trace.now.steps c.loop-i.i s _ _ inside (c.loop-i.invariant.each s) (rw c.ids_at.ensures.value at (c.mark.ensures.flags s));
+      is_taken-next c.args.trace.now.steps c.loop-i.i s _ _ inside
+      (c.loop-i.invariant.each s) (rw c.ids_at.ensures.value at (c.mark.ensures.flags s));
 }

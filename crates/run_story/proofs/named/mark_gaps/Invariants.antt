@@ -6,6 +6,6 @@ use Rattle.run_story.proofs.named.mark_gaps.Given as goal
 abbrev pub invariant-loop-k : goal.invariant-loop-k
 invariant-loop-k l = record {
   len : length l.named.items ≡ length l.fn.named.items;
-  each : (k : ℕ) → k < length l.fn.named.items → named_at l.named.items k
-      ≡ (if is_from_to l.stall.first l.stall.last k && nat_lt k l.k then record { miss = (named_at l.fn.named.items k).miss; gap = Some l.place } else named_at l.fn.named.items k);
+  each : (k : ℕ) → k < length l.fn.named.items → named_at l.named.items k ≡ (if is_from_to l.stall.first l.stall.last k
+      && nat_lt k l.k then record { miss = (named_at l.fn.named.items k).miss; gap = Some l.place } else named_at l.fn.named.items k);
 }

@@ -12,19 +12,20 @@ use Rattle.run_story.proofs.stalls.stalls_of.Goals.{After-loop-next}
 -- one stall more
 stalls-push : (rows : List Row) (n : ℕ) (stalls : List Stall) (s : Stall) → IsStall rows s → s.first ≡ n → AreStallsTo rows n stalls
     → AreStallsTo rows (s.last + 1) (stalls ++ s ∷ [])
-stalls-push rows n stalls s stall begins are =
-    stretches-push Stall (λ s. s.first) (λ s. s.last) (IsStall rows) (λ k. IsSome (gap_at rows k)) n stalls s stall begins stall.named.order are
+stalls-push rows n stalls s stall begins are = stretches-push Stall
+    (λ s. s.first) (λ s. s.last) (IsStall rows) (λ k. IsSome (gap_at rows k)) n stalls s stall begins stall.named.order are
 
 -- a row with no gap
-stalls-skip : (rows : List Row) (n : ℕ) (stalls : List Stall) → gap_at rows n ≡ None → AreStallsTo rows n stalls → AreStallsTo rows (n + 1) stalls
-stalls-skip rows n stalls none are =
-    stretches-skip Stall (λ s. s.first) (λ s. s.last) (IsStall rows) (λ k. IsSome (gap_at rows k)) n stalls (λ some. let found : IsSome {T = Gap} None = subst IsSome none some in cc) are
+stalls-skip : (rows : List Row) (n : ℕ) (stalls : List Stall)
+    → gap_at rows n ≡ None → AreStallsTo rows n stalls → AreStallsTo rows (n + 1) stalls
+stalls-skip rows n stalls none are = stretches-skip Stall (λ s. s.first) (λ s. s.last)
+    (IsStall rows) (λ k. IsSome (gap_at rows k)) n stalls (λ some. let found : IsSome {T = Gap} None = subst IsSome none some in cc) are
 
 pub loop-next-preserved-in-Some : goal.loop-next-preserved-in-Some
 loop-next-preserved-in-Some c = record {
   within = (let inside = c.in-Some.ensures.stall.named.inside in omega (arith, inside));
-  listed = rw c.in_ok-push-in-Some.ensures.items
-      (stalls-push c.args.rows.now c.loop-next.next c.loop-next.stalls.items c.in-Some.stall c.in-Some.ensures.stall c.in-Some.ensures.first c.loop-next.invariant.listed);
+  listed = rw c.in_ok-push-in-Some.ensures.items (stalls-push c.args.rows.now c.loop-next.next
+      c.loop-next.stalls.items c.in-Some.stall c.in-Some.ensures.stall c.in-Some.ensures.first c.loop-next.invariant.listed);
 }
 
 pub loop-next-preserved : goal.loop-next-preserved
@@ -42,4 +43,5 @@ pub returns-clause-stalls : goal.returns-clause-stalls
 returns-clause-stalls c = all_stalls c
 
 pub returns-clause-whole : goal.returns-clause-whole
-returns-clause-whole c = λ set trace time report s d. whole-stall set trace c.args.rows.now time report c.loop-next.stalls.items (all_stalls c) s d
+returns-clause-whole c = λ set trace time report s d.
+    whole-stall set trace c.args.rows.now time report c.loop-next.stalls.items (all_stalls c) s d

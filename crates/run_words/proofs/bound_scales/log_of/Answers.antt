@@ -9,7 +9,8 @@ returns-then-power-number-clause-value c =
     let n = c.min-number.result in
     let half = half_power e c.loop-exponent.power c.loop-exponent-test.true c.loop-exponent.invariant.power in
     let low : 2 ^ (e - 1) ≤ n = subst (λ (p : ℕ). p ≤ n) half c.if-power-number.true in
-    rw half (sym (log_below-here e n c.loop-exponent-test.true low) ∙ c.loop-exponent.invariant.left ∙ ap (λ (m : ℕ). log_below 21 m) c.min-number.ensures)
+    rw half (sym (log_below-here e n c.loop-exponent-test.true low)
+    ∙ c.loop-exponent.invariant.left ∙ ap (λ (m : ℕ). log_below 21 m) c.min-number.ensures)
 
 pub returns-then-power-number-clause-limit : goal.returns-then-power-number-clause-limit
 returns-then-power-number-clause-limit c =

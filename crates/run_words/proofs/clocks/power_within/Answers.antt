@@ -12,5 +12,6 @@ loop-power-init c = record { inside = grind arith; left = all-left c.args.number
 pub loop-power-preserved : goal.loop-power-preserved
 loop-power-preserved c = record {
   inside = omega (arith, c.loop-power-test.true);
-  left = first-later c.loop-power.power-index _ c.args.number c.loop-power-test.true refl c.if-power-number.false ∙ c.loop-power.invariant.left;
+  left = first-later c.loop-power.power-index _ c.args.number c.loop-power-test.true refl c.if-power-number.false
+      ∙ c.loop-power.invariant.left;
 }

@@ -7,7 +7,8 @@ returns-then-limit-max-clause-value c =
     let i = c.loop-step.step-index in
     let is = divisor i c.max.result c.loop-step-test.true c.max.ensures in
     let told = divisor i c.max-then-limit-max.result c.loop-step-test.true c.max-then-limit-max.ensures in
-    told ∙ sym is ∙ first-here i c.max.result c.args.limit c.args.most c.loop-step-test.true is c.if-limit-max.true ∙ c.loop-step.invariant.left
+    told ∙ sym is ∙ first-here i c.max.result c.args.limit c.args.most c.loop-step-test.true is c.if-limit-max.true
+    ∙ c.loop-step.invariant.left
 
 pub loop-step-init : goal.loop-step-init
 loop-step-init c = record { inside = grind arith; left = all-left c.args.limit c.args.most }

@@ -9,4 +9,5 @@ returns-in_err-fill-clause-goes_on g c =
 pub returns-in_err-take_part-clause-goes_on : goal.returns-in_err-take_part-clause-goes_on
 returns-in_err-take_part-clause-goes_on g c =
     let p = err_from_is_err_and c.from_residual-in_err-take_part.result c.from_residual-in_err-take_part.ensures.1 in
-    λ known h. rw (p.1, p.2) (c.in_err-take_part.ensures.goes_on known (c.in_ok-fill.ensures.goes_on known _ (c.loop-alloc.invariant.read known h)))
+    λ known h. rw (p.1, p.2)
+    (c.in_err-take_part.ensures.goes_on known (c.in_ok-fill.ensures.goes_on known _ (c.loop-alloc.invariant.read known h)))

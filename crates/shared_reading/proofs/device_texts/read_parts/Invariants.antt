@@ -8,7 +8,8 @@ invariant-loop-alloc g l = record {
   piece : length l.piece ≡ length l.initial.piece;
   some : 0 < l.room;
   limit : l.progress.total ≤ 67108864;
-  read : (known : Option (List ℕ)) → IsReadTo known (g.R.Read.remaining l.initial.reader.inner) [] l.initial.progress → IsReadTo known (g.R.Read.remaining l.reader.inner) [] l.progress;
+  read : (known : Option (List ℕ)) → IsReadTo known (g.R.Read.remaining l.initial.reader.inner) [] l.initial.progress
+      → IsReadTo known (g.R.Read.remaining l.reader.inner) [] l.progress;
   faults : l.reader.faults ≡ l.initial.reader.faults;
 }
 

@@ -9,17 +9,16 @@ returns-in_err-read_parts-clause-refused g c =
     rw (p.1, p.2) (refused-known _ _ (c.in_err-read_parts.ensures.goes_on _ (begins _ _ refl refl c.new.ensures.items)))
 
 pub returns-clause-read : goal.returns-clause-read
-returns-clause-read g c =
-    given-read _ _ (c.read_rest.ensures _ _ (c.in_ok-read_parts.ensures.goes_on _ (begins _ _ refl refl c.new.ensures.items)) c.in_ok-read_parts.ensures.end)
+returns-clause-read g c = given-read _ _ (c.read_rest.ensures _ _
+    (c.in_ok-read_parts.ensures.goes_on _ (begins _ _ refl refl c.new.ensures.items)) c.in_ok-read_parts.ensures.end)
 
 pub returns-clause-end : goal.returns-clause-end
 returns-clause-end g c = on-ok _ _ c.in_ok-read_parts.ensures.end
 
 pub returns-clause-refused : goal.returns-clause-refused
-returns-clause-refused g c =
-    given-refusal _ _ (c.read_rest.ensures _ _ (c.in_ok-read_parts.ensures.goes_on _ (begins _ _ refl refl c.new.ensures.items)) c.in_ok-read_parts.ensures.end)
+returns-clause-refused g c = given-refusal _ _ (c.read_rest.ensures _ _
+    (c.in_ok-read_parts.ensures.goes_on _ (begins _ _ refl refl c.new.ensures.items)) c.in_ok-read_parts.ensures.end)
 
 pub returns-clause-faults : goal.returns-clause-faults
-returns-clause-faults g c =
-    c.in_ok-read_parts.ensures.faults
-    ∙ sym (given-faults _ c.read_rest.result _ (c.read_rest.ensures _ _ (c.in_ok-read_parts.ensures.goes_on _ (begins _ _ refl refl c.new.ensures.items)) c.in_ok-read_parts.ensures.end))
+returns-clause-faults g c = c.in_ok-read_parts.ensures.faults ∙ sym (given-faults _ c.read_rest.result _ (c.read_rest.ensures _ _
+    (c.in_ok-read_parts.ensures.goes_on _ (begins _ _ refl refl c.new.ensures.items)) c.in_ok-read_parts.ensures.end))

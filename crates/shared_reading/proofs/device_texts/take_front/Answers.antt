@@ -10,7 +10,8 @@ returns-in_err-read_alone c =
     let ends : c.ends_line.result ≡ true = search rules in
     let begins : c.begins_unmarked.result ≡ true = search rules in
     let p = err_from_is_err_and c.from_residual.result c.from_residual.ensures.1 in
-    rw (p.1, p.2) (front-refused c.args.stage.now c.read_alone.new.stage rest cut _ (c.has_quote.ensures c.if-has_quote.false) (c.ends_line.ensures ends) (rw c.tail.ensures at c.begins_unmarked.ensures begins)
+    rw (p.1, p.2) (front-refused c.args.stage.now c.read_alone.new.stage rest cut _
+    (c.has_quote.ensures c.if-has_quote.false) (c.ends_line.ensures ends) (rw c.tail.ensures at c.begins_unmarked.ensures begins)
     (rw c.in_err-read_alone.was at c.read_alone.ensures))
 
 pub returns : goal.returns
@@ -19,5 +20,6 @@ returns c =
     let cut = c.cut_leaving-cut.result in
     let ends : c.ends_line.result ≡ true = search rules in
     let begins : c.begins_unmarked.result ≡ true = search rules in
-    front-taken c.args.stage.now c.read_alone.new.stage rest cut c.cut_leaving-cut.ensures (c.has_quote.ensures c.if-has_quote.false) (c.ends_line.ensures ends) (rw c.tail.ensures at c.begins_unmarked.ensures begins)
+    front-taken c.args.stage.now c.read_alone.new.stage rest cut c.cut_leaving-cut.ensures
+    (c.has_quote.ensures c.if-has_quote.false) (c.ends_line.ensures ends) (rw c.tail.ensures at c.begins_unmarked.ensures begins)
     (rw c.in_ok-read_alone.was at c.read_alone.ensures)

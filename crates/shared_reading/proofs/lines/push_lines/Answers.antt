@@ -29,12 +29,15 @@ returns-in-Ok c =
     let value = c.len.ensures.value in
     let at : s.first ≡ length c.args.trace.steps + 1 = omega (arith, value) in
     subst (λ (r : Read). after_lines c.args.version c.args.trace r.lines ≡ Ok (Recording c.args.version c.in-Ok.longer)) c.lines.view_is
-    (numbered-taken c.args.version c.args.trace c.in-Ok.longer s.first s.steps.steps s.steps.ticks at c.lines.invariant.0 c.in-Ok.ensures.appended)
+    (numbered-taken c.args.version c.args.trace c.in-Ok.longer
+    s.first s.steps.steps s.steps.ticks at c.lines.invariant.0 c.in-Ok.ensures.appended)
 
 pub returns-in-Err : goal.returns-in-Err
 returns-in-Err c =
     let s = c.lines.inside in
     let value = c.len.ensures.value in
     let at : s.first ≡ length c.args.trace.steps + 1 = omega (arith, value) in
-    subst (λ (r : Read). MatchBool (is_memory c.refusal_of.result) ⊤ (after_lines c.args.version c.args.trace r.lines ≡ Err c.refusal_of.result)) c.lines.view_is
-    (rw c.refusal_of.ensures (numbered-refused c.args.version c.args.trace s.first s.steps.steps s.steps.ticks c.in-Err.refused at c.lines.invariant.0 c.in-Err.ensures.refused))
+    subst (λ (r : Read). MatchBool (is_memory c.refusal_of.result) ⊤
+    (after_lines c.args.version c.args.trace r.lines ≡ Err c.refusal_of.result)) c.lines.view_is
+    (rw c.refusal_of.ensures (numbered-refused c.args.version
+    c.args.trace s.first s.steps.steps s.steps.ticks c.in-Err.refused at c.lines.invariant.0 c.in-Err.ensures.refused))

@@ -17,10 +17,12 @@ loop-page-preserved c =
     let e : c.loop-page.page-iterator.rest.items ≡ c.in-Some.page ∷ c.next.new.self.rest.items = search rules in
     let was = c.loop-page.invariant in
     let paired = subst (All IsPaired) e was.paired in
-    let taken : appended c.loop-page.trace c.in-Some.page.steps c.in-Some.page.ticks ≡ Ok c.in_ok-trace.trace = c.in_ok-trace.ensures.appended in
+    let taken : appended c.loop-page.trace c.in-Some.page.steps c.in-Some.page.ticks
+    ≡ Ok c.in_ok-trace.trace = c.in_ok-trace.ensures.appended in
     let rest = c.next.new.self.rest.items in
     record {
-      same = was.same ∙ rw e (appended-ok c.loop-page.trace c.in_ok-trace.trace c.in-Some.page.steps (steps_of rest) c.in-Some.page.ticks (ticks_of rest) (All-head IsPaired c.in-Some.page rest paired) taken);
+      same = was.same ∙ rw e (appended-ok c.loop-page.trace c.in_ok-trace.trace c.in-Some.page.steps
+          (steps_of rest) c.in-Some.page.ticks (ticks_of rest) (All-head IsPaired c.in-Some.page rest paired) taken);
       paired = All-tail IsPaired c.in-Some.page rest paired;
     }
 
@@ -30,10 +32,12 @@ returns-in_err-trace-clause-refused c =
     let p = err_from_is_err_and c.from_residual.result c.from_residual.ensures.1 in
     let was = c.loop-page.invariant in
     let paired = subst (All IsPaired) e was.paired in
-    let refused : IsStepRefusal (appended c.loop-page.trace c.in-Some.page.steps c.in-Some.page.ticks) c.in_err-trace.field-0.0 = c.in_err-trace.ensures.refused in
+    let refused : IsStepRefusal (appended c.loop-page.trace c.in-Some.page.steps c.in-Some.page.ticks) c.in_err-trace.field-0.0 =
+    c.in_err-trace.ensures.refused in
     let rest = c.next.new.self.rest.items in
     rw (p.1, p.2, was.same, e)
-    (appended-err c.loop-page.trace c.in-Some.page.steps (steps_of rest) c.in-Some.page.ticks (ticks_of rest) _ (All-head IsPaired c.in-Some.page rest paired) refused)
+    (appended-err c.loop-page.trace c.in-Some.page.steps
+    (steps_of rest) c.in-Some.page.ticks (ticks_of rest) _ (All-head IsPaired c.in-Some.page rest paired) refused)
 
 pub returns-clause-appended : goal.returns-clause-appended
 returns-clause-appended c = c.loop-page.invariant.same ∙ none-left c.loop-page.trace c.loop-page.page-iterator.rest.items (search rules)

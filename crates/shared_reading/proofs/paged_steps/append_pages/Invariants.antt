@@ -7,6 +7,7 @@ use Rattle.shared_reading.proofs.paged_steps.append_pages.Given as goal
 -- the steps that are left lead where all of them lead
 abbrev pub invariant-loop-page : goal.invariant-loop-page
 invariant-loop-page l = record {
-  same : appended l.fn.trace (steps_of l.fn.pages.items) (ticks_of l.fn.pages.items) ≡ appended l.trace (steps_of l.page-iterator.rest.items) (ticks_of l.page-iterator.rest.items);
+  same : appended l.fn.trace (steps_of l.fn.pages.items) (ticks_of l.fn.pages.items)
+      ≡ appended l.trace (steps_of l.page-iterator.rest.items) (ticks_of l.page-iterator.rest.items);
   paired : All IsPaired l.page-iterator.rest.items;
 }

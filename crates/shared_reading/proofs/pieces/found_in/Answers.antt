@@ -9,5 +9,6 @@ returns-in-Ok-read_lines c =
     record {
       quoteless = c.has_quote.ensures c.if-has_quote.false;
       line = c.ends_line.ensures ends;
-      leads = λ t short. read-all c.args.version c.read_lines.new.lines (records_of_text c.args.bytes.now) t (rw c.in-Ok.ensures at c.in-Ok-read_lines.ensures) short;
+      leads = λ t short. read-all c.args.version c.read_lines.new.lines
+          (records_of_text c.args.bytes.now) t (rw c.in-Ok.ensures at c.in-Ok-read_lines.ensures) short;
     }

@@ -7,7 +7,8 @@ use Rattle.shared_reading.proofs.progress.fill.Goals as goal
 pub returns-in_err-count-clause-goes_on : goal.returns-in_err-count-clause-goes_on
 returns-in_err-count-clause-goes_on g c =
     let p = err_from_is_err_and c.from_residual.result c.from_residual.ensures.1 in
-    λ known before h. rw (p.1, p.2) (unread known _ _ before c.loop-reader.progress _ (c.loop-reader.invariant.read known before h) c.in_err-count.ensures.refused)
+    λ known before h. rw (p.1, p.2)
+    (unread known _ _ before c.loop-reader.progress _ (c.loop-reader.invariant.read known before h) c.in_err-count.ensures.refused)
 
 pub loop-reader-preserved : goal.loop-reader-preserved
 loop-reader-preserved g c =
@@ -19,6 +20,7 @@ loop-reader-preserved g c =
       room = search rules;
       limit = search (rules, arith);
       more = search (rules, arith);
-      read = λ known before h. more-read known _ _ before bytes c.loop-reader.progress _ refl (omega (arith, long)) rest c.in_ok-count.ensures.bytes (c.loop-reader.invariant.read known before h);
+      read = λ known before h. more-read known _ _ before bytes c.loop-reader.progress _ refl
+          (omega (arith, long)) rest c.in_ok-count.ensures.bytes (c.loop-reader.invariant.read known before h);
       faults = c.in_ok-count.ensures.faults ∙ c.loop-reader.invariant.faults;
     }

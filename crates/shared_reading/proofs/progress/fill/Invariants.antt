@@ -8,7 +8,8 @@ invariant-loop-reader g l = record {
   room : length l.piece ≡ length l.initial.piece;
   limit : l.progress.total ≤ 67108864;
   more : l.progress.total + vec_len l.initial.progress.rest ≡ l.initial.progress.total + vec_len l.progress.rest;
-  read : (known : Option (List ℕ)) (before : List ℕ) → IsReadTo known (g.R.Read.remaining l.initial.reader.inner) before l.initial.progress → IsReadTo known (g.R.Read.remaining l.reader.inner) before l.progress;
+  read : (known : Option (List ℕ)) (before : List ℕ) → IsReadTo known (g.R.Read.remaining l.initial.reader.inner) before l.initial.progress
+      → IsReadTo known (g.R.Read.remaining l.reader.inner) before l.progress;
   faults : l.reader.faults ≡ l.initial.reader.faults;
 }
 

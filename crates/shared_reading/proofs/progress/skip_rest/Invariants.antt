@@ -7,7 +7,8 @@ abbrev pub invariant-loop-count : goal.invariant-loop-count
 invariant-loop-count g l = record {
   room : length l.piece ≡ length l.initial.piece;
   limit : l.total ≤ 67108864;
-  read : (bytes : List ℕ) × Consumes (g.R.Read.remaining l.initial.reader.inner) (g.R.Read.remaining l.reader.inner) bytes × (l.total ≡ l.fn.total + length bytes);
+  read : (bytes : List ℕ) × Consumes (g.R.Read.remaining l.initial.reader.inner) (g.R.Read.remaining l.reader.inner) bytes
+      × (l.total ≡ l.fn.total + length bytes);
   faults : l.reader.faults ≡ l.initial.reader.faults;
 }
 

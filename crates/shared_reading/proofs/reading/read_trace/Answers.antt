@@ -17,7 +17,8 @@ pub returns-clause-complete : goal.returns-clause-complete
 returns-clause-complete c = λ t h s l. gives-complete c.args.text.now c.read_whole.result t c.read_whole.ensures h s
 
 pub returns-clause-refused : goal.returns-clause-refused
-returns-clause-refused c = let l : length c.args.text.now ≤ MAX_TEXT_BYTES = omega arith in gives-refused c.args.text.now c.read_whole.result l c.read_whole.ensures
+returns-clause-refused c = let l : length c.args.text.now ≤ MAX_TEXT_BYTES = omega arith in
+    gives-refused c.args.text.now c.read_whole.result l c.read_whole.ensures
 
 pub returns-clause-unique : goal.returns-clause-unique
 returns-clause-unique c = λ t u h k s r. stands-one c.args.text.now t u h k s r

@@ -8,8 +8,8 @@ abbrev pub invariant-loop-ended : goal.invariant-loop-ended
 invariant-loop-ended g l = record {
   piece : length l.piece ≡ length l.initial.piece;
   limit : l.progress.total ≤ 67108864;
-  read : (known : Option (List ℕ)) → IsReadTo known (g.R.Read.remaining l.initial.reader.inner) (bytes_of l.initial.under_way.items) l.initial.progress
-      → IsReadTo known (g.R.Read.remaining l.reader.inner) (bytes_of l.under_way.items) l.progress;
+  read : (known : Option (List ℕ)) → IsReadTo known (g.R.Read.remaining l.initial.reader.inner) (bytes_of l.initial.under_way.items)
+      l.initial.progress → IsReadTo known (g.R.Read.remaining l.reader.inner) (bytes_of l.under_way.items) l.progress;
   faults : l.reader.faults ≡ l.initial.reader.faults;
 }
 

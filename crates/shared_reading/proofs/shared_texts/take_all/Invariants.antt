@@ -10,8 +10,8 @@ invariant-loop-reader g l = record {
   piece : length l.piece ≡ length l.initial.piece;
   total : l.progress.total ≡ l.initial.progress.total;
   same : g.R.Read.remaining l.reader.inner ≡ g.R.Read.remaining l.initial.reader.inner;
-  read : (known : Option (List ℕ)) → IsReadTo known (g.R.Read.remaining l.initial.reader.inner) (bytes_of l.initial.under_way.items) l.initial.progress
-      → IsReadTo known (g.R.Read.remaining l.reader.inner) (bytes_of l.under_way.items) l.progress;
+  read : (known : Option (List ℕ)) → IsReadTo known (g.R.Read.remaining l.initial.reader.inner) (bytes_of l.initial.under_way.items)
+      l.initial.progress → IsReadTo known (g.R.Read.remaining l.reader.inner) (bytes_of l.under_way.items) l.progress;
   faults : l.reader.faults ≡ l.initial.reader.faults;
 }
 

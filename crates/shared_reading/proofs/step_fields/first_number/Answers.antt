@@ -30,10 +30,12 @@ returns c =
     let len : length front ≡ c.loop-byte.digits = omega (arith, length-take c.loop-byte.digits bytes, kept.0) in
     let some = c.if-digits-eq0.false in
     let lead : get_or front 0 0 ≡ 48 → length front ≡ 1 = λ zero. elim c.else-digits-gt1.branch [
-      | else-digits-gt1-via-then-digits-gt1+else-bytes-eq48 w ↦ absurd (w.if-bytes-eq48.false (sym (get_or-take c.loop-byte.digits bytes 0 0 (omega (arith, some))) ∙ zero))
+      | else-digits-gt1-via-then-digits-gt1+else-bytes-eq48 w ↦ absurd
+          (w.if-bytes-eq48.false (sym (get_or-take c.loop-byte.digits bytes 0 0 (omega (arith, some))) ∙ zero))
       | else-digits-gt1-via-else-digits-gt1 w ↦ omega (arith, len, some, w.if-digits-gt1.false)
     ] in
     record {
       digits = kept.0;
-      number = ap number_of (digits-decimal front c.loop-byte.number kept.1 kept.2 kept.3 (omega (arith, len, some)) lead) ∙ number_of-decimal c.loop-byte.number kept.3;
+      number = ap number_of (digits-decimal front c.loop-byte.number kept.1 kept.2 kept.3 (omega (arith, len, some)) lead)
+          ∙ number_of-decimal c.loop-byte.number kept.3;
     }

@@ -21,8 +21,10 @@ returns-clause-under_way c =
     let new = c.take_due.new.self.trays.items in
     let high : c.args.p ≤ length old = let a = c.requires.processor.1 in let b = c.requires.trays in omega arith in
     subst (λ (steps : List Step). AreUnderWay steps new)
-    (sym (c.in_ok-make_receive.ensures.made ∙ ap (λ (ids : List ℕ). t.steps ++ receiving c.args.p c.take-ends.result ids ∷ []) (c.deref-2.ensures.value ∙ c.in-Ok.ensures.due)))
-    (AreUnderWay-received t.config t.steps c.args.p c.args.tick c.take-ends.result old new c.requires.well_formed c.requires.processor.0 high
+    (sym (c.in_ok-make_receive.ensures.made ∙ ap (λ (ids : List ℕ). t.steps ++ receiving c.args.p c.take-ends.result ids ∷ [])
+    (c.deref-2.ensures.value ∙ c.in-Ok.ensures.due)))
+    (AreUnderWay-received t.config t.steps c.args.p
+    c.args.tick c.take-ends.result old new c.requires.well_formed c.requires.processor.0 high
     c.in-Ok.ensures.count c.in-Ok.ensures.left c.requires.under_way)
 
 pub returns-clause-delta : goal.returns-clause-delta
@@ -32,6 +34,8 @@ returns-clause-delta c =
     let new = c.take_due.new.self.trays.items in
     let high : c.args.p ≤ length old = let a = c.requires.processor.1 in let b = c.requires.trays in omega arith in
     subst (λ (steps : List Step). DeltaGoesOn c.args.post.now.bounds t.steps old steps new)
-    (sym (c.in_ok-make_receive.ensures.made ∙ ap (λ (ids : List ℕ). t.steps ++ receiving c.args.p c.take-ends.result ids ∷ []) (c.deref-2.ensures.value ∙ c.in-Ok.ensures.due)))
-    (goes-on-received t.config c.args.post.now.bounds c.args.p c.args.tick c.take-ends.result t.steps old new c.requires.well_formed c.requires.processor.0 high
+    (sym (c.in_ok-make_receive.ensures.made ∙ ap (λ (ids : List ℕ). t.steps ++ receiving c.args.p c.take-ends.result ids ∷ [])
+    (c.deref-2.ensures.value ∙ c.in-Ok.ensures.due)))
+    (goes-on-received t.config c.args.post.now.bounds
+    c.args.p c.args.tick c.take-ends.result t.steps old new c.requires.well_formed c.requires.processor.0 high
     c.in-Ok.ensures.count c.requires.next c.in-Ok.ensures.left)

@@ -24,11 +24,12 @@ pub loop-preserved : goal.loop-preserved
 loop-preserved c =
     let o = c.args.options in
     let e = c.in_ok-step.ensures in
-    HasRun-stepped o.config o.crashes.items o.bounds c.loop.simulation c.step.new.self c.loop.counter c.loop.invariant e.stepped e.ready e.lasts e.gst e.phi e.bounds e.delta
+    HasRun-stepped o.config o.crashes.items o.bounds
+    c.loop.simulation c.step.new.self c.loop.counter c.loop.invariant e.stepped e.ready e.lasts e.gst e.phi e.bounds e.delta
 
 pub returns-clause-crashed : goal.returns-clause-crashed
-returns-clause-crashed c =
-    subst (λ (w : Progress). StepBeforeCrashes c.args.options.crashes.items w.trace.steps) (sym c.ended.ensures.world) c.loop.invariant.crashed
+returns-clause-crashed c = subst (λ (w : Progress). StepBeforeCrashes c.args.options.crashes.items w.trace.steps)
+    (sym c.ended.ensures.world) c.loop.invariant.crashed
 
 pub returns-clause-phi : goal.returns-clause-phi
 returns-clause-phi c =
@@ -38,5 +39,5 @@ returns-clause-phi c =
     (rw c.ended.ensures.world c.loop.invariant.phi)
 
 pub returns-clause-delta : goal.returns-clause-delta
-returns-clause-delta c =
-    DeltaHolds-kept c.args.options.bounds c.loop.simulation.post.trays.items c.ended.result.trace c.ended.ensures.one_per_tick (rw c.ended.ensures.world c.loop.invariant.delta)
+returns-clause-delta c = DeltaHolds-kept c.args.options.bounds
+    c.loop.simulation.post.trays.items c.ended.result.trace c.ended.ensures.one_per_tick (rw c.ended.ensures.world c.loop.invariant.delta)

@@ -14,7 +14,8 @@ loop-processor-preserved c =
     slice_get_read kept (length kept) c.loop-processor.processor-index c.processor-item.result refl
     c.loop-processor-test.true c.processor-item.is in (
       ap length c.in_ok-push.ensures.items ∙ length_push copies _ ∙ ap (λ n. n + 1) count,
-      rw c.in_ok-push.ensures.items (AreCopied-push kept copies c.processor-item.result _ c.loop-processor.invariant.1 (ap (slice_get kept) count ∙ at) c.in_ok-copied_processor.ensures),
+      rw c.in_ok-push.ensures.items (AreCopied-push kept copies c.processor-item.result _ c.loop-processor.invariant.1
+          (ap (slice_get kept) count ∙ at) c.in_ok-copied_processor.ensures),
     )
 
 pub returns : goal.returns

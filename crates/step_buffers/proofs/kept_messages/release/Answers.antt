@@ -14,6 +14,8 @@ loop-id-preserved c = (
       let i = c.loop-id.id-index in
       let id = get_or ids i 0 in
       rw (take_more ids i 0 c.loop-id-test.true, list_any-append (λ j. j == s) (take i ids) (id ∷ []))
-      (letter_left-more (letter_at c.args.letters.now.items s) (letter_at c.loop-id.letters.items s) (letter_at c.release_one.new.letters.items s)
-      (list_any (λ j. j == s) (take i ids)) (list_any (λ j. j == s) (id ∷ [])) c.args.round (c.loop-id.invariant.1 s) (c.release_one.ensures.left s)),
+      (letter_left-more (letter_at c.args.letters.now.items s)
+      (letter_at c.loop-id.letters.items s) (letter_at c.release_one.new.letters.items s)
+      (list_any (λ j. j == s) (take i ids)) (list_any (λ j. j == s) (id ∷ [])) c.args.round
+      (c.loop-id.invariant.1 s) (c.release_one.ensures.left s)),
 )

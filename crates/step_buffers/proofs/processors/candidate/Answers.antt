@@ -10,16 +10,21 @@ returns-then-not-is_to_owner-clause-only c = λ s me to l none.
 
 pub returns-then-next-owner-clause-first : goal.returns-then-next-owner-clause-first
 returns-then-next-owner-clause-first c = λ s me to l h.
-    let at : c.owner-owner.result ≡ owner c.args.config.now.n (phase_of c.args.round) = c.owner-owner.ensures.value ∙ rw (c.n-n.ensures.value, c.phase_of.ensures) refl in
+    let at : c.owner-owner.result ≡ owner c.args.config.now.n (phase_of c.args.round) = c.owner-owner.ensures.value
+    ∙ rw (c.n-n.ensures.value, c.phase_of.ensures) refl in
     sent-to_owner c.args.config.now s me c.args.round to (c.is_to_owner.ensures.owner c.if-not-is_to_owner.false) (λ e. omega arith)
 
 pub returns-then-next-owner-clause-only : goal.returns-then-next-owner-clause-only
 returns-then-next-owner-clause-only c = λ s me to l none.
-    let at : c.owner-owner.result ≡ owner c.args.config.now.n (phase_of c.args.round) = c.owner-owner.ensures.value ∙ rw (c.n-n.ensures.value, c.phase_of.ensures) refl in
-    sent-to_none c.args.config.now s me c.args.round c.owner-owner.result to (c.is_to_owner.ensures.owner c.if-not-is_to_owner.false) (λ e. omega arith) none
+    let at : c.owner-owner.result ≡ owner c.args.config.now.n (phase_of c.args.round) = c.owner-owner.ensures.value
+    ∙ rw (c.n-n.ensures.value, c.phase_of.ensures) refl in
+    sent-to_none c.args.config.now s me c.args.round c.owner-owner.result to
+    (c.is_to_owner.ensures.owner c.if-not-is_to_owner.false) (λ e. omega arith) none
 
 pub returns-else-next-owner-clause-only : goal.returns-else-next-owner-clause-only
 returns-else-next-owner-clause-only c = λ s me to l none.
-    let at : c.owner-owner.result ≡ owner c.args.config.now.n (phase_of c.args.round) = c.owner-owner.ensures.value ∙ rw (c.n-n.ensures.value, c.phase_of.ensures) refl in
+    let at : c.owner-owner.result ≡ owner c.args.config.now.n (phase_of c.args.round) = c.owner-owner.ensures.value
+    ∙ rw (c.n-n.ensures.value, c.phase_of.ensures) refl in
     let past = c.if-next-owner.false in
-    sent-to_none c.args.config.now s me c.args.round (c.args.last + 1) to (c.is_to_owner.ensures.owner c.if-not-is_to_owner.false) (λ e. omega arith) none
+    sent-to_none c.args.config.now s me c.args.round
+    (c.args.last + 1) to (c.is_to_owner.ensures.owner c.if-not-is_to_owner.false) (λ e. omega arith) none

@@ -15,6 +15,8 @@ pub returns-clause-destination : goal.returns-clause-destination
 returns-clause-destination c =
     let n = c.n.ensures.value in
     sym (destination_after-none c.args.config.now c.args.node.now c.args.p c.args.round c.args.last (λ t l h. elim c.else-to-n.branch [
-      | else-to-n-via-then-to-n+else-sends_to w ↦ c.candidate-to.ensures.only c.args.node.now c.args.p t l (sym w.sends_to.ensures ∙ w.if-sends_to.false)
-      | else-to-n-via-else-to-n w ↦ (let beyond = w.if-to-n.false in c.candidate-to.ensures.first c.args.node.now c.args.p t l (omega arith))
+      | else-to-n-via-then-to-n+else-sends_to w ↦ c.candidate-to.ensures.only c.args.node.now c.args.p t l
+          (sym w.sends_to.ensures ∙ w.if-sends_to.false)
+      | else-to-n-via-else-to-n w ↦ (let beyond = w.if-to-n.false in
+          c.candidate-to.ensures.first c.args.node.now c.args.p t l (omega arith))
     ]))

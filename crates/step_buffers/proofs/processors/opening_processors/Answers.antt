@@ -11,7 +11,8 @@ loop-value-preserved c =
     let k = c.loop-value.value-index in
     let init : c.init-value-items.result.now ≡ config.init = c.init-value-items.ensures in
     let e : suc (length kept) - 1 ≡ k = omega (arith, c.loop-value.invariant.0) in
-    let value : get_or c.init-value-items.result.now k 0 ≡ initial_value config (suc (length kept)) = ap (λ xs. get_or xs k 0) init ∙ ap (λ n. get_or config.init n 0) (sym e) in
+    let value : get_or c.init-value-items.result.now k 0 ≡ initial_value config (suc (length kept)) = ap (λ xs. get_or xs k 0) init
+    ∙ ap (λ n. get_or config.init n 0) (sym e) in
     let node = c.in_ok-new.ensures ∙ ap opening value in (
       ap length c.in_ok-push.ensures.items ∙ length_push kept _ ∙ ap (λ n. n + 1) c.loop-value.invariant.0,
       rw c.in_ok-push.ensures.items (AreOpening-push config kept _ c.loop-value.invariant.1

@@ -17,5 +17,6 @@ returns-in-Some-clause-refused c =
     let p = c.args.p in
     let waiting : c.as_slice.result.now ≡ buffer steps p = c.as_slice.ensures.value ∙ c.requires.receiver.buffer in
     let early : (c.args.ends && is_some (next_send config steps p)) ≡ false = sym c.is_early.ensures ∙ c.if-is_early.false in
-    let some : take_refusal c.args.take (buffer steps p) ≡ Some c.in-Some.why = ap (take_refusal c.args.take) (sym waiting) ∙ sym c.take_refusal.ensures ∙ c.in-Some.is in
+    let some : take_refusal c.args.take (buffer steps p) ≡ Some c.in-Some.why = ap (take_refusal c.args.take) (sym waiting)
+    ∙ sym c.take_refusal.ensures ∙ c.in-Some.is in
     rw (early, some) (IsStepRefusal-take c.args.take (buffer steps p) c.in-Some.why some)

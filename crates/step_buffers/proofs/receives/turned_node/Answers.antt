@@ -3,11 +3,13 @@ use Rattle.step_buffers.proofs.KeptInboxes.{IsInbox-moved}
 use Rattle.step_buffers.proofs.receives.turned_node.Goals as goal
 use Rattle.step_buffers.proofs.receives.turned_node.Goals.{After-gather}
 
-moved : (c : After-gather) → IsProcessor c.args.trace.now.config c.args.trace.now.steps c.args.p (record c.args.receiver.now { inbox = c.gather.new.self })
+moved : (c : After-gather)
+    → IsProcessor c.args.trace.now.config c.args.trace.now.steps c.args.p (record c.args.receiver.now { inbox = c.gather.new.self })
 moved c = record {
   stands = c.requires.receiver.stands;
   buffer = c.requires.receiver.buffer;
-  inbox = IsInbox-moved c.args.trace.now.steps c.args.p c.args.receiver.now.round c.args.receiver.now.inbox _ _ c.gather.ensures.moved c.requires.receiver.inbox;
+  inbox = IsInbox-moved c.args.trace.now.steps c.args.p
+      c.args.receiver.now.round c.args.receiver.now.inbox _ _ c.gather.ensures.moved c.requires.receiver.inbox;
 }
 
 pub returns-in_err-gather-clause-receiver : goal.returns-in_err-gather-clause-receiver

@@ -7,5 +7,6 @@ pub returns-clause-below : goal.returns-clause-below
 returns-clause-below c =
     let rises = IsNonDecreasingBy-from_default (λ y. y) c.args.ids.now 0 (rising-nondecreasing c.args.ids.now c.requires) in
     let parted = IsPartitionedBy-ltb (λ y. y) c.args.ids.now c.args.bound rises in
-    let point = IsPartitionPoint-from_clause (λ y. ltb y c.args.bound) _ _ c.partition_point.ensures.partitioned parted (λ a r q k. search rules) in
+    let point = IsPartitionPoint-from_clause (λ y. ltb y c.args.bound) _ _ c.partition_point.ensures.partitioned parted
+    (λ a r q k. search rules) in
     λ k h. ltb-true _ _ (point.0 k 0 (omega arith) h)

@@ -8,5 +8,6 @@ pub returns-clause-above : goal.returns-clause-above
 returns-clause-above c =
     let rises = IsNonDecreasingBy-from_default (λ y. y) c.args.ids.now 0 (rising-nondecreasing c.args.ids.now c.requires) in
     let parted = IsPartitionedBy-leb (λ y. y) c.args.ids.now c.args.bound rises in
-    let point = IsPartitionPoint-from_clause (λ y. leb y c.args.bound) _ _ c.partition_point.ensures.partitioned parted (λ a r q k. search rules) in
+    let point = IsPartitionPoint-from_clause (λ y. leb y c.args.bound) _ _ c.partition_point.ensures.partitioned parted
+    (λ a r q k. search rules) in
     λ k l h. leb-false _ _ (point.1 k 0 l h)

@@ -13,5 +13,6 @@ loop-at-preserved c =
     let next : length ids - 1 - at ≡ length ids - (at + 1) = omega arith in
     let waits : length waiting - 1 - at + 1 ≡ length waiting - at = omega arith in
     let later : length waiting - 1 - at ≡ length waiting - (at + 1) = omega arith in
-    let step = shared-last ids waiting (length ids - 1 - at) (length waiting - 1 - at) c.requires (omega arith) (omega arith) c.if-waiting-at.false in
+    let step = shared-last ids waiting (length ids - 1 - at)
+    (length waiting - 1 - at) c.requires (omega arith) (omega arith) c.if-waiting-at.false in
     c.loop-at.invariant ∙ (rw (here, waits, next, later) at step)

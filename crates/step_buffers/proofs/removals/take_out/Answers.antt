@@ -12,7 +12,8 @@ take_out_between-requires-clause-waiting c =
     let front = c.shared_front-front.result in
     let back = c.shared_back-back.result in
     let rest = drop front (drop start old) in
-    let last : back ≤ length rest = rw (c.deref-2.ensures.value, take_rest old (start + front), ← drop-drop front start old) at c.shared_back-back.ensures.waiting in
+    let last : back ≤ length rest =
+    rw (c.deref-2.ensures.value, take_rest old (start + front), ← drop-drop front start old) at c.shared_back-back.ensures.waiting in
     let first : front ≤ length (drop start old) = rw (c.deref.ensures.value, take_rest old start) at c.shared_front-front.ensures.waiting in
     let within = c.requires.within in
     let long = length-drop start old in
@@ -32,15 +33,18 @@ returns-clause-left c =
     let others = take (length ids - front) (drop front ids) in
     let v = c.deref.result.now in
     let w = c.deref-2.result.now in
-    let last : back ≤ length rest = rw (c.deref-2.ensures.value, take_rest old (start + front), ← drop-drop front start old) at c.shared_back-back.ensures.waiting in
+    let last : back ≤ length rest =
+    rw (c.deref-2.ensures.value, take_rest old (start + front), ← drop-drop front start old) at c.shared_back-back.ensures.waiting in
     let first : front ≤ length waiting = rw (c.deref.ensures.value, take_rest old start) at c.shared_front-front.ensures.waiting in
     let within = c.requires.within in
     let long = length-drop start old in
     let size : vec_len c.args.list.now ≡ length old = sym c.deref.ensures.len ∙ ap length c.deref.ensures.value in
     let seen = take (length v - start) (drop start v) in
-    let front_left : filter (λ s. not (is_in ids s)) seen ≡ filter (λ s. not (is_in (drop front ids) s)) (drop front seen) = c.shared_front-front.ensures.left in
+    let front_left : filter (λ s. not (is_in ids s)) seen
+    ≡ filter (λ s. not (is_in (drop front ids) s)) (drop front seen) = c.shared_front-front.ensures.left in
     let seen-2 = take (length w - (start + front)) (drop (start + front) w) in
-    let back_left : filter (λ s. not (is_in others s)) seen-2 ≡ filter (λ s. not (is_in (take (length others - back) others) s)) (take (length seen-2 - back) seen-2) = c.shared_back-back.ensures.left in
+    let back_left : filter (λ s. not (is_in others s)) seen-2 ≡ filter
+    (λ s. not (is_in (take (length others - back) others) s)) (take (length seen-2 - back) seen-2) = c.shared_back-back.ensures.left in
     let between : drop c.take_out_between.result c.take_out_between.new.list.items ≡ filter
     (λ s. not (is_in (take (length others - back) others) s)) (drop (start + front) c.truncate.new.self.items) =
     c.take_out_between.ensures.left in

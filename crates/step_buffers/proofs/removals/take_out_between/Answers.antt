@@ -32,8 +32,10 @@ returns-clause-left c =
     let long-2 = length-drop n waiting in
     let same : start + n + m - (start + n) ≡ m = omega arith in
     let within : n ≤ length waiting = rw (c.deref.ensures.value, take_rest old start) at c.count_below.ensures.within in
-    let below : (k : ℕ) → k < n → get_or waiting k 0 < get_or ids 0 0 = rw (c.deref.ensures.value, take_rest old start) at c.count_below.ensures.below in
-    let within-2 : m ≤ length (drop n waiting) = rw (c.deref-2.ensures.value, take_rest old (start + n), ← drop-drop n start old) at c.count_up_to.ensures.within in
+    let below : (k : ℕ) → k < n → get_or waiting k 0
+    < get_or ids 0 0 = rw (c.deref.ensures.value, take_rest old start) at c.count_below.ensures.below in
+    let within-2 : m ≤ length (drop n waiting) =
+    rw (c.deref-2.ensures.value, take_rest old (start + n), ← drop-drop n start old) at c.count_up_to.ensures.within in
     let above : (k : ℕ) → m ≤ k → k < length (drop n waiting)
     → get_or ids (length ids - 1) 0 < get_or (drop n waiting) k 0 =
     rw (
@@ -42,14 +44,18 @@ returns-clause-left c =
       ← drop-drop n start
           old,
     ) at c.count_up_to.ensures.above in
-    let kept : take r part ≡ filter (λ s. not (is_in ids s)) (take m (drop n waiting)) = rw (c.deref_mut.ensures.value, same, ← drop-drop n start old) at c.keep_others.ensures.kept in
-    let size : length part ≡ m = (rw (c.deref_mut.ensures.value, same, ← drop-drop n start old) at c.keep_others.ensures.length) ∙ length-take-le m (drop n waiting) within-2 in
+    let kept : take r part ≡ filter (λ s. not (is_in ids s)) (take m (drop n waiting)) =
+    rw (c.deref_mut.ensures.value, same, ← drop-drop n start old) at c.keep_others.ensures.kept in
+    let size : length part ≡ m = (rw (c.deref_mut.ensures.value, same, ← drop-drop n start old) at c.keep_others.ensures.length)
+    ∙ length-take-le m (drop n waiting) within-2 in
     let short : r ≤ length part = c.keep_others.ensures.within in
     let written = take (start + n) v ++ (part ++ drop (start + n + m - (start + n)) (drop (start + n) v)) in
     let value = ap length c.deref_mut.ensures.value in
-    let whole : length written ≡ c.args.list.now.len = length-written v part (start + n) (start + n + m - (start + n)) (omega arith) (size ∙ sym same) ∙ c.deref_mut.ensures.len in
+    let whole : length written ≡ c.args.list.now.len =
+    length-written v part (start + n) (start + n + m - (start + n)) (omega arith) (size ∙ sym same) ∙ c.deref_mut.ensures.len in
     let gap : drop c.close_gap.result c.close_gap.new.list.items
-    ≡ drop start (take (start + n + r) (with_items c.args.list.now written).items) ++ drop (start + n + m) (with_items c.args.list.now written).items = c.close_gap.ensures.left in
+    ≡ drop start (take (start + n + r) (with_items c.args.list.now written).items) ++ drop
+    (start + n + m) (with_items c.args.list.now written).items = c.close_gap.ensures.left in
     (rw (with_items_is c.args.list.now written whole, c.deref_mut.ensures.value, same) at gap)
     ∙ without-gap old part start n m r (omega arith) size (omega arith)
     ∙ ap (λ ys. take n waiting ++ (ys ++ drop m (drop n waiting))) kept

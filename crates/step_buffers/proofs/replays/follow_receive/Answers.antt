@@ -11,5 +11,6 @@ returns-clause-off c =
     let ends = c.args.ends in
     let ids = c.args.ids.now in
     off-from_refusal c.not_made.result c.in-Err.why _ _ c.not_made.ensures.reason c.in-Err.ensures.refused (λ run.
-    let none : take_refusal (These c.as_slice.result) (buffer steps p) ≡ None = rw c.as_slice.ensures (takes-from_run config steps p ends ids run) in
+    let none : take_refusal (These c.as_slice.result) (buffer steps p)
+    ≡ None = rw c.as_slice.ensures (takes-from_run config steps p ends ids run) in
     step_refusal-receive config c.args.world.now.limit steps p (These c.as_slice.result) ends ids c.requires run none)

@@ -16,7 +16,8 @@ returns-in-Ok-clause-off c = λ off run.
     let due = IsDue-from_run config steps x run in
     let before = c.args.world.now.trace.steps in
     let one : Some (before ++ x ∷ []) ≡ Some c.advance.new.self.trace.steps =
-    sym (ap (λ (o : Option ℕ). option_map (λ (y : Step). before ++ y ∷ []) (option_map (λ (t : ℕ). let y : Step = record { proc = p; act = Send t } in y) o)) due) ∙ c.in-Ok.ensures.made in
+    sym (ap (λ (o : Option ℕ). option_map (λ (y : Step). before ++ y ∷ [])
+    (option_map (λ (t : ℕ). let y : Step = record { proc = p; act = Send t } in y) o)) due) ∙ c.in-Ok.ensures.made in
     let made : c.advance.new.self.trace.steps ≡ before ++ x ∷ [] = sym (same_Some (before ++ x ∷ []) c.advance.new.self.trace.steps one) in
     let yes : c.last_sends_to.result ≡ true = c.last_sends_to.ensures before x (rw c.trace.ensures.value made) ∙ eq-eqb to to refl in
     false≢true (sym off ∙ yes)

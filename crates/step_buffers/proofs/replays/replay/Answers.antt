@@ -9,14 +9,16 @@ loop-step-preserved c =
     record {
       config = c.in_ok-follow.ensures.config ∙ is.config;
       limit = c.in_ok-follow.ensures.limit ∙ is.limit;
-      steps = rw c.in_ok-follow.ensures.made (made-next c.args.trace.now.steps c.loop-step.world.trace.steps c.in-Some.step.now is.steps (sym c.in-Some.ensures.value));
+      steps = rw c.in_ok-follow.ensures.made
+          (made-next c.args.trace.now.steps c.loop-step.world.trace.steps c.in-Some.step.now is.steps (sym c.in-Some.ensures.value));
     }
 
 pub returns-in_err-follow-clause-refused : goal.returns-in_err-follow-clause-refused
 returns-in_err-follow-clause-refused c =
     let is = c.loop-step.invariant in
     let why = err_from_is_err_and c.from_residual.result c.from_residual.ensures.1 in
-    rw (why.1, why.2) (IsReplayRefusal-next c.args.trace.now.config c.args.trace.now.steps c.loop-step.world.trace.steps c.in-Some.step.now c.in_err-follow.field-0.0 is.steps
+    rw (why.1, why.2) (IsReplayRefusal-next c.args.trace.now.config
+    c.args.trace.now.steps c.loop-step.world.trace.steps c.in-Some.step.now c.in_err-follow.field-0.0 is.steps
     (sym c.in-Some.ensures.value) (rw is.config at c.in_err-follow.ensures.refused))
 
 pub returns-in_err-follow-clause-complete : goal.returns-in_err-follow-clause-complete

@@ -8,5 +8,6 @@ returns-clause-processors c = λ config steps are.
     let low = c.requires.low in
     let high = c.requires.high in
     let ra = c.index_mut-receiver.result.now in
-    let at = slice_get_read c.args.processors.now.items (length c.args.processors.now.items) (c.args.to - 1) ra refl (omega arith) c.index_mut-receiver.ensures.value in
+    let at = slice_get_read c.args.processors.now.items
+    (length c.args.processors.now.items) (c.args.to - 1) ra refl (omega arith) c.index_mut-receiver.ensures.value in
     AreProcessors-room config steps c.args.processors.now.items c.args.to ra c.reserve-2.new.self low are at c.reserve-2.ensures.items

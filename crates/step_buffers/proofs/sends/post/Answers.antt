@@ -62,17 +62,21 @@ returns-clause-world c =
     let roomy = c.make_room.new.processors.items in
     let ra = c.index_mut-receiver.result.now in
     let at = slice_get_read roomy (length roomy) (to - 1) ra refl (omega arith) c.index_mut-receiver.ensures.value in
-    let size : length c.append.new.trace.steps ≡ suc (length steps) = ap length grown.steps ∙ length_push steps _ ∙ (let e : length steps + 1 ≡ suc (length steps) = omega arith in e) in
-    let items : c.push_reserved.new.self.items ≡ ra.buffer.items ++ suc (length steps) ∷ [] = c.push_reserved.ensures.items ∙ rw (c.len.ensures.value, size) refl in
+    let size : length c.append.new.trace.steps ≡ suc (length steps) = ap length grown.steps
+    ∙ length_push steps _ ∙ (let e : length steps + 1 ≡ suc (length steps) = omega arith in e) in
+    let items : c.push_reserved.new.self.items ≡ ra.buffer.items ++ suc (length steps) ∷ [] = c.push_reserved.ensures.items
+    ∙ rw (c.len.ensures.value, size) refl in
     let posted = slice_set roomy (to - 1) (record ra { buffer = c.push_reserved.new.self }) in
     let at_p = slice_get_read posted (length posted) (p - 1) c.index_mut-sender.result.now refl
     (let e = length-set roomy (to - 1) (record ra { buffer = c.push_reserved.new.self }) in omega arith)
     c.index_mut-sender.ensures.value in
     let place = c.requires.place in
     let said = place.2 in
-    let letters = AreLetters-sent config steps p to c.args.letters.now.items place.0 world.paced.run.well_formed world.letters said.sender said.round (rw said.round said.body) in
+    let letters = AreLetters-sent config steps p to
+    c.args.letters.now.items place.0 world.paced.run.well_formed world.letters said.sender said.round (rw said.round said.body) in
     let kept = AreProcessors-sent config steps p to roomy ra c.index_mut-sender.result.now c.push_reserved.new.self c.in_ok-said.said
-    (rw (← grown.config, ← grown.steps) c.in_ok-append.ensures.run.run.well_formed) mine c.requires.next.due are at items at_p (rw c.in_ok-said.ensures place) in
+    (rw (← grown.config, ← grown.steps) c.in_ok-append.ensures.run.run.well_formed) mine c.requires.next.due are at items at_p
+    (rw c.in_ok-said.ensures place) in
     record {
       setup = rw grown.config world.setup;
       paced = c.in_ok-append.ensures.run;
@@ -89,4 +93,5 @@ push_reserved-requires c =
     let count = c.requires.world.processors.count in
     let ra = c.index_mut-receiver.result.now in
     c.in_ok-make_room.ensures.room ra
-    (slice_get_read c.make_room.new.processors.items (length c.make_room.new.processors.items) (c.args.to - 1) ra refl (omega arith) c.index_mut-receiver.ensures.value)
+    (slice_get_read c.make_room.new.processors.items
+    (length c.make_room.new.processors.items) (c.args.to - 1) ra refl (omega arith) c.index_mut-receiver.ensures.value)

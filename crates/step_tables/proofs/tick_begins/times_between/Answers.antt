@@ -15,12 +15,14 @@ returns-then-width-eq0-clause-only c = λ t positive b e order.
 pub returns-then-begin-passed-clause-only : goal.returns-then-begin-passed-clause-only
 returns-then-begin-passed-clause-only c = λ t positive b e order.
     let same = between-width t.first t.width c.args.before c.args.later c.args.begin c.args.end b e order in
-    let first = between-first t.first t.width c.args.before c.args.begin ((c.args.end - c.args.begin) / (c.args.later - c.args.before)) c.ranges.begin.fits b same in
+    let first = between-first t.first t.width c.args.before c.args.begin
+    ((c.args.end - c.args.begin) / (c.args.later - c.args.before)) c.ranges.begin.fits b same in
     absurd (omega (arith, first.0, c.saturating_mul-passed.ensures, c.if-begin-passed.true))
 
 pub returns-clause-only : goal.returns-clause-only
 returns-clause-only c = λ t positive b e order.
     let same = between-width t.first t.width c.args.before c.args.later c.args.begin c.args.end b e order in
-    let first = between-first t.first t.width c.args.before c.args.begin ((c.args.end - c.args.begin) / (c.args.later - c.args.before)) c.ranges.begin.fits b same in
+    let first = between-first t.first t.width c.args.before c.args.begin
+    ((c.args.end - c.args.begin) / (c.args.later - c.args.before)) c.ranges.begin.fits b same in
     let begins : c.args.begin - c.saturating_mul-passed.result ≡ t.first = rw c.saturating_mul-passed.ensures (first.1) in
     λ i. Some (record { first = begins i; width = same i })

@@ -9,5 +9,6 @@ loop-s-preserved c =
     let below = c.loop-s-test.true in
     record {
       long = length-set c.loop-s.notes.items _ c.args.number ∙ known.long;
-      noted = λ s. noted-more c.args.notes.now.items c.loop-s.notes.items c.args.ids.now c.args.number c.loop-s.s-index s below known.long (c.requires c.loop-s.s-index 0 below) (known.noted s);
+      noted = λ s. noted-more c.args.notes.now.items c.loop-s.notes.items c.args.ids.now c.args.number c.loop-s.s-index s below known.long
+          (c.requires c.loop-s.s-index 0 below) (known.noted s);
     }

@@ -12,7 +12,8 @@ pub returns-then-field-eq0-clause-none : goal.returns-then-field-eq0-clause-none
 returns-then-field-eq0-clause-none c = λ n h e. let some = rw (← e) at (decimal_nonempty n h) in omega (arith, some, c.if-field-eq0.true)
 
 pub returns-then-field-gt1-clause-none : goal.returns-then-field-gt1-clause-none
-returns-then-field-gt1-clause-none c = λ n h e. let one = decimal-leading_zero n _ h e c.if-field-eq48.true in omega (arith, one, c.if-field-gt1.true)
+returns-then-field-gt1-clause-none c = λ n h e. let one = decimal-leading_zero n _ h e c.if-field-eq48.true in
+    omega (arith, one, c.if-field-gt1.true)
 
 pub returns-then-not-is_ascii_digit-clause-none : goal.returns-then-not-is_ascii_digit-clause-none
 returns-then-not-is_ascii_digit-clause-none c = λ n h e.
@@ -37,13 +38,21 @@ loop-byte-preserved c =
     let digit : digit_value (get_or field i 0) ≡ c.from.result = grind (arith, nat_tests) in
     let small : digit_value (get_or field i 0) < 10 = grind (arith, nat_tests) in (
       digits_more 10 field i inside c.loop-byte.invariant.0 small,
-      omega (arith, digits_value_more 10 field i inside, digit, c.in_ok-number.ensures.1, c.in_ok-checked_mul.ensures.1, c.loop-byte.invariant.1),
+      omega (
+        arith,
+        digits_value_more 10 field i inside,
+        digit,
+        c.in_ok-number.ensures.1,
+        c.in_ok-checked_mul.ensures.1,
+        c.loop-byte.invariant.1,
+      ),
       omega (arith, c.in_ok-number.ensures.0, c.in_ok-number.ensures.1),
     )
 
 pub returns-clause-some : goal.returns-clause-some
 returns-clause-some c =
     let all = take_all c.loop-byte.byte-index c.args.field.now c.loop-byte-test.false in
-    digits-decimal c.args.field.now c.loop-byte.number (subst (AllDigits 10) all c.loop-byte.invariant.0) (c.loop-byte.invariant.1 ∙ ap (digits_value 10) all) c.loop-byte.invariant.2
+    digits-decimal c.args.field.now c.loop-byte.number
+    (subst (AllDigits 10) all c.loop-byte.invariant.0) (c.loop-byte.invariant.1 ∙ ap (digits_value 10) all) c.loop-byte.invariant.2
     (omega (arith, c.if-field-eq0.false))
     (λ lead. elim c.else-field-eq48.either [ inl p ↦ omega (arith, p.1, c.if-field-eq0.false) | inr p ↦ absurd (p lead) ])

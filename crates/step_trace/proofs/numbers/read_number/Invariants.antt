@@ -4,4 +4,5 @@ use Rattle.step_trace.proofs.numbers.read_number.Given as goal
 
 -- the bytes so far are digits, and the number is theirs
 abbrev pub invariant-loop-byte : goal.invariant-loop-byte
-invariant-loop-byte l = AllDigits 10 (take l.byte-index l.field) × (l.number ≡ digits_value 10 (take l.byte-index l.field)) × (l.number < 2 ^ 64)
+invariant-loop-byte l = AllDigits 10 (take l.byte-index l.field)
+    × (l.number ≡ digits_value 10 (take l.byte-index l.field)) × (l.number < 2 ^ 64)

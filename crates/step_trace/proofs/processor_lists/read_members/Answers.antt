@@ -10,13 +10,16 @@ loop-piece-init c = nothing_read _ c.empty-set.ensures
 
 pub returns-in_default-clause-refused : goal.returns-in_default-clause-refused
 returns-in_default-clause-refused c = λ numbers list.
-    let turn = YieldsList-turn (YieldsList-from_str_split 44 c.args.text.now (lit< tt) (cc) (cc) (cc)) c.loop-piece.yielded _ c.loop-piece.yielded_by _ _ c.in-Some.piece c.in-Some.is c.next.ensures.steps in
+    let turn = YieldsList-turn (YieldsList-from_str_split 44 c.args.text.now (lit< tt) (cc) (cc) (cc))
+    c.loop-piece.yielded _ c.loop-piece.yielded_by _ _ c.in-Some.piece c.in-Some.is c.next.ensures.steps in
     unread_is_no_member _ _ c.as_bytes.ensures.value c.in_default.ensures.none (part_is_member _ numbers _ _ list turn)
 
 pub returns-then-p-lt1-clause-refused : goal.returns-then-p-lt1-clause-refused
 returns-then-p-lt1-clause-refused c = λ numbers list.
-    let turn = YieldsList-turn (YieldsList-from_str_split 44 c.args.text.now (lit< tt) (cc) (cc) (cc)) c.loop-piece.yielded _ c.loop-piece.yielded_by _ _ c.in-Some.piece c.in-Some.is c.next.ensures.steps in
-    outside_is_no_member _ c.in-Some-read_number.p (omega arith) (sym c.as_bytes.ensures.value ∙ c.in-Some-read_number.ensures.some) c.then-p-lt1.either (part_is_member _ numbers _ _ list turn)
+    let turn = YieldsList-turn (YieldsList-from_str_split 44 c.args.text.now (lit< tt) (cc) (cc) (cc))
+    c.loop-piece.yielded _ c.loop-piece.yielded_by _ _ c.in-Some.piece c.in-Some.is c.next.ensures.steps in
+    outside_is_no_member _ c.in-Some-read_number.p (omega arith)
+    (sym c.as_bytes.ensures.value ∙ c.in-Some-read_number.ensures.some) c.then-p-lt1.either (part_is_member _ numbers _ _ list turn)
 
 pub loop-piece-preserved : goal.loop-piece-preserved
 loop-piece-preserved c =
@@ -27,5 +30,6 @@ loop-piece-preserved c =
 
 pub returns-clause-members : goal.returns-clause-members
 returns-clause-members c =
-    let end = YieldsList-end (YieldsList-from_str_split 44 c.args.text.now (lit< tt) (cc) (cc) (cc)) c.loop-piece.yielded _ c.loop-piece.yielded_by _ _ c.in-None.is c.next.ensures.steps in
+    let end = YieldsList-end (YieldsList-from_str_split 44 c.args.text.now (lit< tt) (cc) (cc) (cc))
+    c.loop-piece.yielded _ c.loop-piece.yielded_by _ _ c.in-None.is c.next.ensures.steps in
     all_read _ _ _ c.loop-piece.invariant end.0

@@ -4,4 +4,5 @@ use Rattle.suffix_staircase.proofs.NextSteps.{AreNextTicks-after_all}
 use Rattle.suffix_staircase.proofs.next_steps.no_next_steps.Goals as goal
 
 pub returns : goal.returns
-returns c = λ members. AreNextTicks-after_all (λ p. IsTrue (has_proc members p)) c.args.trace.now _ (ap (λ (xs : List ℕ). set xs 0 0) (search rules))
+returns c = λ members. AreNextTicks-after_all (λ p. IsTrue (has_proc members p)) c.args.trace.now _
+    (ap (λ (xs : List ℕ). set xs 0 0) (search rules))

@@ -9,7 +9,8 @@ last : (c : After-index_mut)
     let kept = c.args.stretches.now.items in
     IsRepeated (reverse kept) c.args.count (reverse (set kept (c.len-last.result - 1) reaching))
 last c =
-    let long : c.len-last.result ≡ length c.args.stretches.now.items = c.len-last.ensures ∙ sym c.deref.ensures.len ∙ ap length c.deref.ensures.value in
+    let long : c.len-last.result ≡ length c.args.stretches.now.items = c.len-last.ensures
+    ∙ sym c.deref.ensures.len ∙ ap length c.deref.ensures.value in
     let some : 0 < length c.args.stretches.now.items = omega (arith, c.len.ensures, c.if-len-eq0.false, long, c.len-last.ensures) in
     IsRepeated-last c.args.stretches.now.items c.args.count c.len-last.result
     (c.height.result + c.args.count) c.index_mut.result.now _ c.requires.stretches long some

@@ -12,5 +12,6 @@ one_more f n = rw (range_with_len-more 0 n n (omega arith)) (flat_map_more f [] 
 pub loop-place-preserved : goal.loop-place-preserved
 loop-place-preserved c =
     let line = clock_line_at c.args.is_nanoseconds c.args.nodes.now c.args.offsets.now in
-    c.in_ok-push_str.ensures.bytes ∙ ap (λ (text : List ℕ). string_bytes c.loop-place.lines ++ text) (c.as_str.ensures.value ∙ c.in_ok-line.ensures)
+    c.in_ok-push_str.ensures.bytes
+    ∙ ap (λ (text : List ℕ). string_bytes c.loop-place.lines ++ text) (c.as_str.ensures.value ∙ c.in_ok-line.ensures)
     ∙ ap (λ (text : List ℕ). text ++ line c.loop-place.place) c.loop-place.invariant ∙ one_more line c.loop-place.place

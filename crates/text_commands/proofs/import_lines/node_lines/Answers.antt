@@ -27,6 +27,8 @@ loop-place-preserved c =
     let nodes = c.args.nodes.now in
     let line = λ (p : ℕ). node_line p (node_name nodes p) in
     let e : p + 1 - 1 ≡ p = omega arith in
-    let name : c.unwrap_or-name.result.now ≡ node_name nodes (p + 1) = rw (e, c.unwrap_or-name.ensures) (named c.name_at.result _ nodes p c.name_at.ensures) in
-    c.in_ok-push_str.ensures.bytes ∙ ap (λ (text : List ℕ). string_bytes c.loop-place.lines ++ text) (c.as_str.ensures.value ∙ c.in_ok-line.ensures.ok ∙ ap (node_line (p + 1)) name)
+    let name : c.unwrap_or-name.result.now ≡ node_name nodes (p + 1) =
+    rw (e, c.unwrap_or-name.ensures) (named c.name_at.result _ nodes p c.name_at.ensures) in
+    c.in_ok-push_str.ensures.bytes ∙ ap (λ (text : List ℕ). string_bytes c.loop-place.lines ++ text)
+    (c.as_str.ensures.value ∙ c.in_ok-line.ensures.ok ∙ ap (node_line (p + 1)) name)
     ∙ ap (λ (text : List ℕ). text ++ line (p + 1)) c.loop-place.invariant ∙ one_more line p

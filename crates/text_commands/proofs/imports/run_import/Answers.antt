@@ -28,8 +28,9 @@ returns-in_err-write_text-clause-served g c =
     let text = c.in_ok-text.text.items in
     let told = rw (sym c.as_str.ensures.value) at c.in_ok-texts.ensures.texts in
     rw (p.1, p.2) (record {
-      cause = of_known (λ known. IsServeFault (IsImportTold c.args.form o Told) (IsUnimported c.args.form o) known _ _ _) text _ c.in_ok-text.ensures.text
-          (cut (IsImportTold c.args.form o Told) (IsUnimported c.args.form o) text c.deref.result.now _ _ _ (rw c.deref.ensures.value (now_told c.args.form o Told _ _ _ told c.print_notes.ensures)) tt
+      cause = of_known (λ known. IsServeFault (IsImportTold c.args.form o Told) (IsUnimported c.args.form o) known _ _ _)
+          text _ c.in_ok-text.ensures.text (cut (IsImportTold c.args.form o Told) (IsUnimported c.args.form o) text c.deref.result.now _ _ _
+          (rw c.deref.ensures.value (now_told c.args.form o Told _ _ _ told c.print_notes.ensures)) tt
           (front-untold _ _ _ _ c.in_err-write_text.ensures.part));
       own = write-told IsToldOfLogs _;
       unread = search rules;
@@ -45,7 +46,8 @@ returns-clause-served g c =
       out = c.deref.result.now;
       all = c.in_ok-text.ensures.text;
       end = search rules;
-      gives = rw c.deref.ensures.value (now_told c.args.form o (WentOut g.N.Write.contents c.args.notes.now c.print_notes.new.writer) _ _ _ told c.print_notes.ensures);
+      gives = rw c.deref.ensures.value
+          (now_told c.args.form o (WentOut g.N.Write.contents c.args.notes.now c.print_notes.new.writer) _ _ _ told c.print_notes.ensures);
       whole = c.in_ok-write_text.ensures.whole;
       flushed = search rules;
       readable = search rules;

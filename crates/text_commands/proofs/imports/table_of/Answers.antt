@@ -6,7 +6,8 @@ use Rattle.text_commands.proofs.imports.table_of.Goals as goal
 pub returns-in_err-log_table-clause-refused : goal.returns-in_err-log_table-clause-refused
 returns-in_err-log_table-clause-refused c =
     let p = err_from_is_err_and c.from_residual.result c.from_residual.ensures.1 in
-    rw (p.1, p.2) (refused-unimported forms.Table c.args.options.now c.args.text.items c.in_err-log_table.field-0.0 (rw c.deref.ensures.value at c.in_err-log_table.ensures.refused))
+    rw (p.1, p.2) (refused-unimported forms.Table c.args.options.now c.args.text.items c.in_err-log_table.field-0.0
+    (rw c.deref.ensures.value at c.in_err-log_table.ensures.refused))
 
 pub returns-clause-table : goal.returns-clause-table
 returns-clause-table c = rw c.deref.ensures.value at c.in_ok-log_table.ensures.table

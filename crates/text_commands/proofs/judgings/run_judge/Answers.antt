@@ -16,8 +16,12 @@ returns-in_err-write_text-clause-served g c =
     let Gives = IsAnswerTo (IsJudgedText c.args.judging.now c.args.decisions.now) in
     let Refuses = IsUnanswered (IsUnjudged c.args.judging.now c.args.decisions.now) in
     rw (p.1, p.2) (record {
-      cause = of_known (λ text. IsServeFault Gives Refuses text _ _ _) read.text _ read.is (cut Gives Refuses read.text (string_bytes c.in_ok-told.told.text) _ _ _
-          (record { trace = c.in_ok-trace.trace; read = text_of read; holds = record { verdict = c.in_ok-told.told.verdict; exact = c.in_ok-told.ensures.verdict } })
+      cause = of_known (λ text. IsServeFault Gives Refuses text _ _ _) read.text _ read.is
+          (cut Gives Refuses read.text (string_bytes c.in_ok-told.told.text) _ _ _ (record {
+            trace = c.in_ok-trace.trace;
+            read = text_of read;
+            holds = record { verdict = c.in_ok-told.told.verdict; exact = c.in_ok-told.ensures.verdict };
+          })
           tt (front-untold _ _ _ _ (rw c.as_bytes.ensures.value at c.in_err-write_text.ensures.part)));
       own = write-told (MayTell (IsUnjudged c.args.judging.now c.args.decisions.now)) _;
       unread = search rules;

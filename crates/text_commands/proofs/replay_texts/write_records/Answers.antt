@@ -14,7 +14,8 @@ one_more : (before front : List ℕ) (f : ℕ → List (List ℕ)) (p : ℕ) →
 one_more before front f p h =
     let e : p + 1 - 1 ≡ (p - 1) + 1 = omega arith in
     rw append_assoc (ap (λ (xs : List ℕ). before ++ xs)
-    (rw (e, map-range_with_len_more f 1 (p - 1) p (omega arith)) (flat_map_more record_line front (map f (range_with_len 1 (p - 1))) (f p))))
+    (rw (e, map-range_with_len_more f 1 (p - 1) p (omega arith))
+    (flat_map_more record_line front (map f (range_with_len 1 (p - 1))) (f p))))
 
 pub loop-p-preserved : goal.loop-p-preserved
 loop-p-preserved c =

@@ -8,6 +8,6 @@ use Rattle.text_commands.proofs.replay_texts.write_records.Given as goal
 abbrev pub invariant-loop-p : goal.invariant-loop-p
 invariant-loop-p l = record {
   ready : IsReady l.writer;
-  text : written l.writer
-      ≡ written l.fn.writer ++ text_of_records (replay_header ∷ map (processor_record l.world.trace.config l.world.trace.steps) (range_with_len 1 (l.p - 1)));
+  text : written l.writer ≡ written l.fn.writer ++ text_of_records
+      (replay_header ∷ map (processor_record l.world.trace.config l.world.trace.steps) (range_with_len 1 (l.p - 1)));
 }

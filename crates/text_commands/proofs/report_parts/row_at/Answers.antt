@@ -23,5 +23,6 @@ returns-clause-row c =
       report = c.in_ok-report.ensures.report;
       inside = inside;
       last = subst (λ n. row_at (record { len = n; rows = report.rows }) c.args.tick ≡ Some c.in-Some.row) len (sym c.in-Some.ensures.row);
-      serves = c.in-Some.ensures.serves c.args.set c.args.trace.now c.if-not-has_tick.ensures.timed c.in_ok-report.ensures.report len inside.0 high;
+      serves = c.in-Some.ensures.serves c.args.set
+          c.args.trace.now c.if-not-has_tick.ensures.timed c.in_ok-report.ensures.report len inside.0 high;
     }

@@ -45,9 +45,9 @@ returns-in_err-write_text-clause-served g c =
     let told = rw (sym c.as_str.ensures.value) at c.in_ok-texts.ensures.texts in
     let made = now_told c.args.form o Told _ _ _ told c.print_notes.ensures in
     rw (p.1, p.2) (record {
-      cause = of_known (λ known. IsServeFault (IsWindowTold c.args.form o from Told) (IsWindowless c.args.form o from) known _ _ _) window.text _ window.is
-          (cut (IsWindowTold c.args.form o from Told) (IsWindowless c.args.form o from) window.text c.deref.result.now _ _ _
-          (record { window = c.in_ok-window.window; is = window.window; told = rw c.deref.ensures.value made }) tt
+      cause = of_known (λ known. IsServeFault (IsWindowTold c.args.form o from Told) (IsWindowless c.args.form o from) known _ _ _)
+          window.text _ window.is (cut (IsWindowTold c.args.form o from Told) (IsWindowless c.args.form o from) window.text
+          c.deref.result.now _ _ _ (record { window = c.in_ok-window.window; is = window.window; told = rw c.deref.ensures.value made }) tt
           (front-untold _ _ _ _ c.in_err-write_text.ensures.part));
       own = write-told IsToldOfLogs _;
       unread = search rules;
@@ -59,7 +59,8 @@ returns-clause-served g c =
     let o = c.args.options.now in
     let window = c.in_ok-window.ensures.window in
     let told = rw (sym c.as_str.ensures.value) at c.in_ok-texts.ensures.texts in
-    let made = now_told c.args.form o (WentOut g.N.Write.contents c.args.notes.now c.print_notes.new.writer) _ _ _ told c.print_notes.ensures in
+    let made =
+    now_told c.args.form o (WentOut g.N.Write.contents c.args.notes.now c.print_notes.new.writer) _ _ _ told c.print_notes.ensures in
     record {
       text = window.text;
       out = c.deref.result.now;

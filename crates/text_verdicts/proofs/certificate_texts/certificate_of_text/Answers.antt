@@ -10,10 +10,12 @@ pub returns-clause-kept : goal.returns-clause-kept
 returns-clause-kept c =
     let short : length c.args.text.now ≤ MAX_TEXT_BYTES = omega (arith, c.if-text-gt-MAX_TEXT_BYTES.false) in
     let rows = rows_under c.args.last c.claimed_in.result (rows_of_records (records_of_text c.args.text.now)) c.claimed_in.ensures in
-    kept-stands c.args.last c.claimed_in.result rows.0 c.args.text.now rows.2 (stands-from (λ v. v) rows.0 (Some c.args.text.now) c.args.text.now rows.1 refl) short
+    kept-stands c.args.last c.claimed_in.result rows.0 c.args.text.now rows.2
+    (stands-from (λ v. v) rows.0 (Some c.args.text.now) c.args.text.now rows.1 refl) short
 
 pub returns-clause-refused : goal.returns-clause-refused
 returns-clause-refused c =
     let short : length c.args.text.now ≤ MAX_TEXT_BYTES = omega (arith, c.if-text-gt-MAX_TEXT_BYTES.false) in
     let rows = rows_under c.args.last c.claimed_in.result (rows_of_records (records_of_text c.args.text.now)) c.claimed_in.ensures in
-    unfaulted c.args.text.now c.claimed_in.result (kept-refused c.args.last c.claimed_in.result rows.0 _ rows.2 (refused-from (λ v. v) rows.0 (Some c.args.text.now) c.args.text.now 0 0 short rows.1 refl))
+    unfaulted c.args.text.now c.claimed_in.result (kept-refused c.args.last c.claimed_in.result rows.0 _ rows.2
+    (refused-from (λ v. v) rows.0 (Some c.args.text.now) c.args.text.now 0 0 short rows.1 refl))

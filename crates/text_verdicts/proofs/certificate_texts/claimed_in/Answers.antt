@@ -9,4 +9,5 @@ returns-in_err-read_records c =
     rw (p.1, p.2) (ended-refused c.args.last (records_of_text c.args.text.now) _ c.in_err-read_records.ensures)
 
 pub returns : goal.returns
-returns c = ended-gives c.args.last (records_of_text c.args.text.now) _ c.rows_at_end.result c.in_ok-read_records.ensures c.rows_at_end.ensures
+returns c =
+    ended-gives c.args.last (records_of_text c.args.text.now) _ c.rows_at_end.result c.in_ok-read_records.ensures c.rows_at_end.ensures

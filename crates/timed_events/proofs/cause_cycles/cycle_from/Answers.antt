@@ -16,7 +16,8 @@ loop-event-preserved c =
     let w = c.requires.walked in
     let i = c.loop-event.invariant.inside in
     let a : c.len.result ≡ length c.push.new.self.items = (let v = c.len.ensures in let ok = c.push.new.self.ok in omega (arith, v, ok)) in
-    let b : length c.push.new.self.items ≡ length (c.loop-event.path.items ++ record { event = c.index-event.result.now; message = c.index-message.result.now } ∷ []) = ap length c.in_ok-push.ensures.items in
+    let b : length c.push.new.self.items ≡ length (c.loop-event.path.items
+    ++ record { event = c.index-event.result.now; message = c.index-message.result.now } ∷ []) = ap length c.in_ok-push.ensures.items in
     let n = length_push c.loop-event.path.items (record { event = c.index-event.result.now; message = c.index-message.result.now }) in
     path-step c.args.events.now c.args.walk.now.heads.items c.args.walk.now.met.items c.args.walk.now.waits.items
     c.args.walk.now.ranks.items c.args.walk.now.order.items c.args.walk.now.awake.items c.loop-event.seen.items
@@ -35,7 +36,8 @@ loop-event-smaller c =
     let z = get_or_read c.loop-event.seen.items c.loop-event.at c.index.result.now (omega arith) c.index.ensures 0 in
     let t = c.loop-event-test.true in
     let a : c.len.result ≡ length c.push.new.self.items = (let v = c.len.ensures in let ok = c.push.new.self.ok in omega (arith, v, ok)) in
-    let b : length c.push.new.self.items ≡ length (c.loop-event.path.items ++ record { event = c.index-event.result.now; message = c.index-message.result.now } ∷ []) = ap length c.in_ok-push.ensures.items in
+    let b : length c.push.new.self.items ≡ length (c.loop-event.path.items
+    ++ record { event = c.index-event.result.now; message = c.index-message.result.now } ∷ []) = ap length c.in_ok-push.ensures.items in
     let m = length_push c.loop-event.path.items (record { event = c.index-event.result.now; message = c.index-message.result.now }) in
     let s = zeros-set c.loop-event.seen.items c.loop-event.at c.len.result (omega arith) (omega arith) (omega arith) in
     omega arith
@@ -47,7 +49,8 @@ rest_of-requires c =
     let z = get_or_read c.loop-event.seen.items c.loop-event.at c.index.result.now (omega arith) c.index.ensures 0 in
     let y = get_or_read c.loop-event.seen.items c.loop-event.at c.index-2.result.now (omega arith) c.index-2.ensures 0 in
     let t = c.loop-event-test.false in
-    let b = path-back c.args.events.now c.args.walk.now.heads.items c.loop-event.seen.items c.loop-event.path.items c.loop-event.at c.loop-event.at c.loop-event.invariant (omega arith) in
+    let b = path-back c.args.events.now c.args.walk.now.heads.items
+    c.loop-event.seen.items c.loop-event.path.items c.loop-event.at c.loop-event.at c.loop-event.invariant (omega arith) in
     let v = ap length c.deref.ensures.value in
     omega arith
 

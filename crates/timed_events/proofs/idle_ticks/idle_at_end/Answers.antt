@@ -13,4 +13,5 @@ loop-processor-preserved c = subst
 pub returns : goal.returns
 returns c =
     let e : c.loop-processor.processor ≡ c.args.n = omega arith in
-    subst (λ k. HaveEnded c.args.n c.args.events.now c.args.ticks.now c.args.lasts.now c.args.last c.args.limit k c.loop-processor.idles.items) e c.loop-processor.invariant
+    subst (λ k. HaveEnded c.args.n c.args.events.now
+    c.args.ticks.now c.args.lasts.now c.args.last c.args.limit k c.loop-processor.idles.items) e c.loop-processor.invariant

@@ -7,13 +7,16 @@ use Rattle.timed_events.proofs.SortedEvents.{places-inside}
 use Rattle.timed_events.proofs.idle_ticks.idle_before_events.Goals as goal
 
 pub loop-k-init : goal.loop-k-init
-loop-k-init c = walked-start c.args.events.now c.args.ticks.now c.args.order.now c.args.limit _ _ (c.in_ok-lasts.ensures.items_if_clones_equal (λ y e. e)) c.new-idles.ensures.items
+loop-k-init c = walked-start c.args.events.now c.args.ticks.now c.args.order.now c.args.limit _ _
+    (c.in_ok-lasts.ensures.items_if_clones_equal (λ y e. e)) c.new-idles.ensures.items
 
 pub processor_of-processor-requires-clause-inside : goal.processor_of-processor-requires-clause-inside
-processor_of-processor-requires-clause-inside c = (places-inside (length c.args.events.now) c.args.order.now c.requires.ordered.places).1 c.loop-k.k c.loop-k-test.true
+processor_of-processor-requires-clause-inside c =
+    (places-inside (length c.args.events.now) c.args.order.now c.requires.ordered.places).1 c.loop-k.k c.loop-k-test.true
 
 pub bounds-ticks-place : goal.bounds-ticks-place
-bounds-ticks-place c = let i = (places-inside (length c.args.events.now) c.args.order.now c.requires.ordered.places).1 c.loop-k.k c.loop-k-test.true in let n = c.requires.ticks in omega arith
+bounds-ticks-place c = let i = (places-inside (length c.args.events.now) c.args.order.now c.requires.ordered.places).1
+    c.loop-k.k c.loop-k-test.true in let n = c.requires.ticks in omega arith
 
 pub loop-k-preserved : goal.loop-k-preserved
 loop-k-preserved c =
@@ -35,9 +38,11 @@ loop-k-preserved c =
     (sym c.in_ok-note_silence.ensures) next
 
 pub overflow_sub-tick : goal.overflow_sub-tick
-overflow_sub-tick c = c.requires.first (slice_index c.args.order.now c.loop-k.k) ((places-inside (length c.args.events.now) c.args.order.now c.requires.ordered.places).1 c.loop-k.k c.loop-k-test.true)
+overflow_sub-tick c = c.requires.first (slice_index c.args.order.now c.loop-k.k)
+    ((places-inside (length c.args.events.now) c.args.order.now c.requires.ordered.places).1 c.loop-k.k c.loop-k-test.true)
 
 pub returns : goal.returns
 returns c =
     let e : c.loop-k.k ≡ length c.args.order.now = omega arith in
-    subst (λ k. IsWalkedTo c.args.events.now c.args.ticks.now c.args.order.now c.args.limit k c.loop-k.lasts.items c.loop-k.idles.items) e c.loop-k.invariant
+    subst (λ k. IsWalkedTo c.args.events.now c.args.ticks.now c.args.order.now c.args.limit k c.loop-k.lasts.items c.loop-k.idles.items)
+    e c.loop-k.invariant

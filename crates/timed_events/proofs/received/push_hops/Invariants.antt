@@ -4,4 +4,5 @@ use Rattle.timed_events.specs.Received.{hop_in}
 use Rattle.timed_events.proofs.received.push_hops.Given as goal
 
 abbrev pub invariant-loop-message : goal.invariant-loop-message
-invariant-loop-message l = l.hops.items ≡ l.initial.hops.items ++ flat_map (hop_in (length l.events) l.place) (take l.message-index l.messages)
+invariant-loop-message l = l.hops.items ≡ l.initial.hops.items ++ flat_map
+    (hop_in (length l.events) l.place) (take l.message-index l.messages)

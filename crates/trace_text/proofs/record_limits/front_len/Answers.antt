@@ -22,7 +22,8 @@ pub returns-then-progress-gt-MAX_FIELDS-clause-front : goal.returns-then-progres
 returns-then-progress-gt-MAX_FIELDS-clause-front c =
     let text = c.args.text.now in
     let many = c.if-progress-gt-MAX_FIELDS.true in
-    let byte = front-ends c.loop-i.progress.fields c.after-progress.result.fields (state_of c.loop-i.progress.place) text c.loop-i.i c.loop-i-test.true c.after-progress.ensures.fields (omega (arith, many)) in
+    let byte = front-ends c.loop-i.progress.fields c.after-progress.result.fields
+    (state_of c.loop-i.progress.place) text c.loop-i.i c.loop-i-test.true c.after-progress.ensures.fields (omega (arith, many)) in
     take_more text c.loop-i.i 0 c.loop-i-test.true ∙ sym (rw byte at c.loop-i.invariant.front)
 
 pub returns-clause-front : goal.returns-clause-front

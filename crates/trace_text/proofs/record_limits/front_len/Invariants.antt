@@ -9,5 +9,6 @@ use Rattle.trace_text.proofs.record_limits.front_len.Given as goal
 abbrev pub invariant-loop-i : goal.invariant-loop-i
 invariant-loop-i l = record {
   few : l.progress.fields ≤ MAX_FIELDS;
-  front : front_from 0 st.StartRecord l.text ≡ take l.i l.text ++ front_from l.progress.fields (state_of l.progress.place) (drop l.i l.text);
+  front : front_from 0 st.StartRecord l.text ≡ take l.i l.text ++ front_from l.progress.fields
+      (state_of l.progress.place) (drop l.i l.text);
 }

@@ -5,7 +5,8 @@ use Rattle.trace_text.proofs.records.read_front.Given as goal
 
 -- the records that were read lead to what was reached
 abbrev pub invariant-loop-taker : goal.invariant-loop-taker
-invariant-loop-taker g l = (done : List (List (List ℕ))) × HasRead l.fn.text l.reader done × (after_records g.T.TakeRecords.next l.fn.taker done ≡ Ok l.taker)
+invariant-loop-taker g l = (done : List (List (List ℕ)))
+    × HasRead l.fn.text l.reader done × (after_records g.T.TakeRecords.next l.fn.taker done ≡ Ok l.taker)
 
 abbrev pub decreases-loop-taker : goal.decreases-loop-taker
 decreases-loop-taker g l = bytes_left l.reader

@@ -20,7 +20,8 @@ returns-in_default-clause-numbers c =
     let split = c.split-part-items.ensures in
     let road = YieldsList-from_slice_split _ (λ b. b == 32) c.args.field.now (cc) (cc) (cc) (λ x b q k. search (rules, tests)) in
     let t = YieldsList-turn road c.loop-part.yielded _ c.loop-part.yielded_by _ _ c.in-Some.part c.in-Some.is c.next.ensures.steps in
-    let none = numbers_of-turn_none (slice_split (λ b. b == 32) c.args.field.now) (length c.loop-part.yielded) c.in-Some.part.now c.in-Some.part.now t.0 t.1 (sym c.number.ensures ∙ c.in_default.is) in
+    let none = numbers_of-turn_none (slice_split (λ b. b == 32) c.args.field.now)
+    (length c.loop-part.yielded) c.in-Some.part.now c.in-Some.part.now t.0 t.1 (sym c.number.ensures ∙ c.in_default.is) in
     ap (option_map judged) (sym (ids_of-split c.args.field.now some ∙ none))
 
 -- if a part was a number, so is the first
@@ -30,13 +31,15 @@ first-part c =
     let split = c.split-part-items.ensures in
     let road = YieldsList-from_slice_split _ (λ b. b == 32) c.args.field.now (cc) (cc) (cc) (λ x b q k. search (rules, tests)) in
     let t = YieldsList-turn road c.loop-part.yielded _ c.loop-part.yielded_by _ _ c.in-Some.part c.in-Some.is c.next.ensures.steps in
-    begins_with_number-turn (parts_of c.args.field.now) (length c.loop-part.yielded) c.in-Some.part.now c.in-Some-number.id c.in-Some.part.now c.loop-part.invariant.3 t.0 t.1 (sym c.number.ensures ∙ c.in-Some-number.is)
+    begins_with_number-turn (parts_of c.args.field.now) (length c.loop-part.yielded) c.in-Some.part.now
+    c.in-Some-number.id c.in-Some.part.now c.loop-part.invariant.3 t.0 t.1 (sym c.number.ensures ∙ c.in-Some-number.is)
 
 pub loop-part-preserved : goal.loop-part-preserved
 loop-part-preserved c =
     let kept = c.loop-part.invariant.2 in
     let all = kept.0 ++ c.in-Some-number.id ∷ [] in
-    let more = numbers_of-more (map (λ x. x.now) c.loop-part.yielded) kept.0 c.in-Some.part.now c.in-Some-number.id kept.1 (sym c.number.ensures ∙ c.in-Some-number.is) in (
+    let more = numbers_of-more (map (λ x. x.now) c.loop-part.yielded) kept.0 c.in-Some.part.now c.in-Some-number.id kept.1
+    (sym c.number.ensures ∙ c.in-Some-number.is) in (
       search rules,
       search rules,
       (all, rw (map-append (λ x. x.now) c.loop-part.yielded (c.in-Some.part ∷ [])) more, c.in_ok-rising.ensures kept.0 kept.2),

@@ -3,14 +3,15 @@ use Rattle.trace_text.proofs.OnePerTick.{one-where_numbered, two-otherwise, test
 use Rattle.trace_text.proofs.versions.version_of.Goals as goal
 
 pub returns-then-last_tick-steps-clause-version : goal.returns-then-last_tick-steps-clause-version
-returns-then-last_tick-steps-clause-version c = two-otherwise c.args.trace.now c.last_tick.ensures.timed (λ one. let e = one.end in omega (arith, e))
+returns-then-last_tick-steps-clause-version c = two-otherwise c.args.trace.now c.last_tick.ensures.timed
+    (λ one. let e = one.end in omega (arith, e))
 
 pub returns-then-last_tick-steps-clause-numbered : goal.returns-then-last_tick-steps-clause-numbered
 returns-then-last_tick-steps-clause-numbered c = tests-IsOnePerTick c.args.trace.now c.last_tick.ensures.timed
 
 pub returns-then-tick-no-clause-version : goal.returns-then-tick-no-clause-version
-returns-then-tick-no-clause-version c = two-otherwise c.args.trace.now c.last_tick.ensures.timed
-    (λ one. let within : c.loop-no.no ≤ length c.args.trace.now.steps = omega arith in let e = one.each c.loop-no.no within in omega (arith, e))
+returns-then-tick-no-clause-version c = two-otherwise c.args.trace.now c.last_tick.ensures.timed (λ one. let within : c.loop-no.no
+    ≤ length c.args.trace.now.steps = omega arith in let e = one.each c.loop-no.no within in omega (arith, e))
 
 pub returns-then-tick-no-clause-numbered : goal.returns-then-tick-no-clause-numbered
 returns-then-tick-no-clause-numbered c = tests-IsOnePerTick c.args.trace.now c.last_tick.ensures.timed

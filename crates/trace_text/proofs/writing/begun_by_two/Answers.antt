@@ -9,6 +9,9 @@ pub returns-clause-text : goal.returns-clause-text
 returns-clause-text g c =
     let half = c.args.count / 2 in
     let all : half + (c.args.count - half) ≡ c.args.count = omega arith in
-    let first = subst (λ r. IfOk r (λ text. text.items ≡ begun_text Two c.args.trace.now half)) c.in_ok-text.was c.join-second.ensures.second.0 in
-    let second = subst (λ r. IfOk r (λ text. text.items ≡ steps_text Two c.args.trace.now half c.args.count)) c.in_ok-second.was c.join-second.ensures.first in
-    rw (c.in_ok-extend_from_slice.ensures.items, first, c.deref.ensures.value, second) (rw all at (begun_text-parts Two c.args.trace.now half (c.args.count - half)))
+    let first =
+    subst (λ r. IfOk r (λ text. text.items ≡ begun_text Two c.args.trace.now half)) c.in_ok-text.was c.join-second.ensures.second.0 in
+    let second = subst (λ r. IfOk r (λ text. text.items ≡ steps_text Two c.args.trace.now half c.args.count))
+    c.in_ok-second.was c.join-second.ensures.first in
+    rw (c.in_ok-extend_from_slice.ensures.items, first, c.deref.ensures.value, second)
+    (rw all at (begun_text-parts Two c.args.trace.now half (c.args.count - half)))

@@ -36,16 +36,15 @@ loop-before-preserved c =
     let place : before + 1 - from ≡ before - from + 1 = omega (arith, order) in
     let parts : ℕ → List ℕ = λ k. text_of_records (step_records v ticks (from + 1) (take k (drop from steps))) in
     let more = text-step v ticks steps from (before - from) step (ap (step_at steps) number ∙ sym c.in-Some.ensures.value) in
-    let turn : parts (before + 1 - from) ≡ parts (before - from) ++ record_line (step_record v (before + 1) (tick_at ticks (before + 1)) step) =
+    let turn : parts (before + 1 - from) ≡ parts (before - from) ++ record_line
+    (step_record v (before + 1) (tick_at ticks (before + 1)) step) =
     ap parts place ∙ more ∙ ap (λ (i : ℕ). parts (before - from) ++ record_line (step_record v i (tick_at ticks i) step)) number in
     record {
       order = omega (arith, order);
-      text =
-          c.in_ok-push_step.ensures
-          ∙ ap (λ (n : ℕ). c.loop-before.text.items ++ record_line (step_record v (before + 1) n step)) c.tick.ensures.value
-          ∙ ap (λ (t : List ℕ). t ++ record_line (step_record v (before + 1) (tick_at ticks (before + 1)) step)) c.loop-before.invariant.text
-          ∙ append_assoc old (parts (before - from)) (record_line (step_record v (before + 1) (tick_at ticks (before + 1)) step))
-          ∙ ap (λ (t : List ℕ). old ++ t) (sym turn);
+      text = c.in_ok-push_step.ensures ∙ ap (λ (n : ℕ). c.loop-before.text.items ++ record_line (step_record v (before + 1) n step))
+          c.tick.ensures.value ∙ ap (λ (t : List ℕ). t ++ record_line (step_record v (before + 1) (tick_at ticks (before + 1)) step))
+          c.loop-before.invariant.text ∙ append_assoc old (parts (before - from))
+          (record_line (step_record v (before + 1) (tick_at ticks (before + 1)) step)) ∙ ap (λ (t : List ℕ). old ++ t) (sym turn);
     }
 
 pub returns : goal.returns
@@ -54,5 +53,6 @@ returns c =
     let end = c.loop-before.auto.before-end c.requires.order in
     let same : c.loop-before.before ≡ c.args.to = omega (arith, past, end) in
     let steps : ℕ → List Step = λ k. take (k - c.args.from) (drop c.args.from c.args.trace.now.steps) in
-    subst (λ k. c.loop-before.text.items ≡ c.args.text.now.items ++ text_of_records (step_records c.args.version c.args.trace.now.ticks (c.args.from + 1) (steps k)))
+    subst (λ k. c.loop-before.text.items ≡ c.args.text.now.items ++ text_of_records
+    (step_records c.args.version c.args.trace.now.ticks (c.args.from + 1) (steps k)))
     same c.loop-before.invariant.text

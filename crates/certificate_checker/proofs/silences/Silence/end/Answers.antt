@@ -8,11 +8,14 @@ use Rattle.certificate_checker.proofs.silences.Silence.end.Goals as goal
 use Rattle.certificate_checker.proofs.silences.Silence.end.Goals.{After-partition_point-passed}
 
 -- how many ticks were passed
-passed : (c : After-partition_point-passed) → IsNonDecreasing c.args.self.now.ticks.items → ArePassed c.args.x c.partition_point-passed.result c.args.self.now
+passed : (c : After-partition_point-passed) → IsNonDecreasing c.args.self.now.ticks.items
+    → ArePassed c.args.x c.partition_point-passed.result c.args.self.now
 passed c rising =
     let e = c.as_slice.ensures.value in
-    subst (λ (xs : List ℕ). IsPartitionPoint (λ y. ltb y c.args.x ≡ true) (λ y. ltb y c.args.x ≡ false) xs c.partition_point-passed.result) e
-    (IsPartitionPoint-from_clause (λ y. ltb y c.args.x) _ _ c.partition_point-passed.ensures.partitioned (IsPartitionedBy-ltb (λ y. y) _ c.args.x (subst IsNonDecreasing (sym e) rising)) (λ a r q k. search rules))
+    subst
+    (λ (xs : List ℕ). IsPartitionPoint (λ y. ltb y c.args.x ≡ true) (λ y. ltb y c.args.x ≡ false) xs c.partition_point-passed.result) e
+    (IsPartitionPoint-from_clause (λ y. ltb y c.args.x) _ _ c.partition_point-passed.ensures.partitioned
+    (IsPartitionedBy-ltb (λ y. y) _ c.args.x (subst IsNonDecreasing (sym e) rising)) (λ a r q k. search rules))
 
 pub returns-then-passed-len : goal.returns-then-passed-len
 returns-then-passed-len c = λ p s high.
@@ -32,4 +35,5 @@ returns-else-passed-len c = λ p s high.
     let past = c.if-passed-len.false in
     let len = c.len.ensures in
     let known = passed (goal.at.returns-else-passed-len c).After-partition_point-passed s.rising in
-    rw c.last_tick-after.ensures.value (IsNextStep-none t p c.args.x c.partition_point-passed.result c.args.self.now s known (omega (arith, past, len)) high)
+    rw c.last_tick-after.ensures.value
+    (IsNextStep-none t p c.args.x c.partition_point-passed.result c.args.self.now s known (omega (arith, past, len)) high)

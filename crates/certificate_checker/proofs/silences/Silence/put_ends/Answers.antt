@@ -24,6 +24,7 @@ loop-tick-preserved c =
 pub returns : goal.returns
 returns c = λ p own.
     let size = ap (λ (xs : List ℕ). length xs) c.deref-tick-items.ensures.value in
-    PutsEnds-last c.args.trace.now p c.loop-tick.from c.args.self.now c.args.ends.now.items c.loop-tick.ends.items c.raise-2.new.ends.items own c.requires
+    PutsEnds-last c.args.trace.now p c.loop-tick.from
+    c.args.self.now c.args.ends.now.items c.loop-tick.ends.items c.raise-2.new.ends.items own c.requires
     (λ k below. c.loop-tick.invariant.before p own k (omega (arith, below, size, c.loop-tick-test.false)))
     (c.loop-tick.invariant.puts p own) (rw c.last_tick.ensures.value at c.raise-2.ensures)

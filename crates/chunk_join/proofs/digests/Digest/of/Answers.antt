@@ -20,13 +20,15 @@ loop-next-preserved c =
                 (arith, high, c.requires.high),
             (c.in_ok-part.part, is, c.thin.ensures),
           ) in
-          let both = c.in_ok-whole.ensures w (c.args.from - 1) (c.loop-next.next - 1) c.block_end-end.result (c.loop-next.invariant.whole sound) block in
+          let both = c.in_ok-whole.ensures w (c.args.from - 1)
+          (c.loop-next.next - 1) c.block_end-end.result (c.loop-next.invariant.whole sound) block in
           let e : c.block_end-end.result ≡ c.block_end-end.result + 1 - 1 = omega arith in
           subst (λ k. IsDigestOf w (c.args.from - 1) k c.in_ok-whole.whole) e both);
     }
 
 -- past the last block the digest is that of all ticks
-ended : (w : Whole) (from to next : ℕ) (d : Option Summary) → next ≤ to + 1 → to < next → IsDigestOf w (from - 1) (next - 1) d → IsDigestOf w (from - 1) to d
+ended : (w : Whole) (from to next : ℕ) (d : Option Summary)
+    → next ≤ to + 1 → to < next → IsDigestOf w (from - 1) (next - 1) d → IsDigestOf w (from - 1) to d
 ended w from to next d high past h = let e : next - 1 ≡ to = omega (arith, high, past) in subst (λ k. IsDigestOf w (from - 1) k d) e h
 
 pub returns-clause-digest : goal.returns-clause-digest
@@ -36,4 +38,5 @@ returns-clause-digest c = λ sound.
     (c.loop-next.invariant.whole sound)
 
 pub returns-clause-keeps : goal.returns-clause-keeps
-returns-clause-keeps c = λ sound. (let w : Whole = record { set = c.args.set; trace = c.args.trace.now; sound = sound } in IsDigestOf-keeps w (c.args.from - 1) c.args.to c.loop-next.whole (returns-clause-digest c sound))
+returns-clause-keeps c = λ sound. (let w : Whole = record { set = c.args.set; trace = c.args.trace.now; sound = sound } in
+    IsDigestOf-keeps w (c.args.from - 1) c.args.to c.loop-next.whole (returns-clause-digest c sound))

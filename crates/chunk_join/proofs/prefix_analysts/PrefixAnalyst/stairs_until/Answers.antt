@@ -15,17 +15,22 @@ take_in-requires-clause-before c =
 pub invariant_of-self : goal.invariant_of-self
 invariant_of-self c =
     let low = c.begun-self-inside.ensures.inside in
-    let inside = c.self.invariant.0 in
-    (omega (arith, low, inside), rw c.in_err-take_in.ensures.err (c.begun-self-inside.ensures.before c.self.inside.set c.self.inside.trace.now c.self.invariant.1))
+    let inside = c.self.invariant.0 in (
+      omega (arith, low, inside),
+      rw c.in_err-take_in.ensures.err
+          (c.begun-self-inside.ensures.before c.self.inside.set c.self.inside.trace.now c.self.invariant.1),
+    )
 
 pub returns-clause-stairs : goal.returns-clause-stairs
 returns-clause-stairs c = IfOk-weaker c.last_stairs.result _ _
     (λ stairs levels cut sound at.
     (let whole : Whole = record { set = c.self.inside.set; trace = cut; sound = sound } in
-    let here : IsCutAt c.self.inside.trace.now c.args.to cut = subst (λ (f : Followed). IsCutAt f.seen c.args.to cut) (sym c.self.view_is) at in
+    let here : IsCutAt c.self.inside.trace.now c.args.to cut =
+    subst (λ (f : Followed). IsCutAt f.seen c.args.to cut) (sym c.self.view_is) at in
     let order = c.requires.order in
     let end = here.last in
     subst (λ (f : Followed). AreLevelsFrom f.set cut c.args.from stairs) c.self.view_is
-    (levels whole (IsDigestUpTo-cut c.self.inside.set c.self.inside.trace.now cut c.args.to c.take_in.new.digest c.last_tick-last.ensures.well_formed sound here c.in_ok-take_in.ensures.ok sound)
+    (levels whole (IsDigestUpTo-cut c.self.inside.set c.self.inside.trace.now
+    cut c.args.to c.take_in.new.digest c.last_tick-last.ensures.well_formed sound here c.in_ok-take_in.ensures.ok sound)
     (omega (arith, order, end)))))
     c.last_stairs.ensures

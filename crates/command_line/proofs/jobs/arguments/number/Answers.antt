@@ -12,5 +12,6 @@ returns-in_default-clause-value c =
 pub returns-clause-value : goal.returns-clause-value
 returns-clause-value c =
     let parsed = c.in-Ok.ensures.value.0 in
-    sym (one_number c.args.least c.args.most c.in_ok-word.word.now c.in-Ok.value parsed.0.0 parsed.0.1 parsed.1 c.if-value-least.false c.if-value-most.false)
+    sym (one_number c.args.least c.args.most c.in_ok-word.word.now
+    c.in-Ok.value parsed.0.0 parsed.0.1 parsed.1 c.if-value-least.false c.if-value-most.false)
     ∙ ap (option_and_then (number_of c.args.least c.args.most)) c.in_ok-word.ensures

@@ -12,15 +12,16 @@ loop-piece-init c = rw c.new-crashes.ensures.items (none_read IsCrash64 crash_te
 
 pub returns-in_default-clause-refused : goal.returns-in_default-clause-refused
 returns-in_default-clause-refused c = λ crashes list.
-    let turn = YieldsList-turn (YieldsList-from_str_split 44 c.args.text.now (lit< tt) (cc) (cc) (cc)) c.loop-piece.yielded _ c.loop-piece.yielded_by _ _ c.in-Some.piece c.in-Some.is c.next.ensures.steps in
+    let turn = YieldsList-turn (YieldsList-from_str_split 44 c.args.text.now (lit< tt) (cc) (cc) (cc))
+    c.loop-piece.yielded _ c.loop-piece.yielded_by _ _ c.in-Some.piece c.in-Some.is c.next.ensures.steps in
     unread_is_no_item IsCrash64 crash_text crash_no_comma _ crashes _ _ c.in_default.ensures.none turn list
 
 pub loop-piece-preserved : goal.loop-piece-preserved
-loop-piece-preserved c =
-    rw (c.in_ok-push.ensures.items, map-append)
-    (one_more_read IsCrash64 crash_text _ _ _ c.in-Some-read_crash.crash c.loop-piece.invariant c.in-Some-read_crash.ensures.some c.in-Some-read_crash.ensures.small)
+loop-piece-preserved c = rw (c.in_ok-push.ensures.items, map-append) (one_more_read IsCrash64
+    crash_text _ _ _ c.in-Some-read_crash.crash c.loop-piece.invariant c.in-Some-read_crash.ensures.some c.in-Some-read_crash.ensures.small)
 
 pub returns-clause-crashes : goal.returns-clause-crashes
 returns-clause-crashes c =
-    let end = YieldsList-end (YieldsList-from_str_split 44 c.args.text.now (lit< tt) (cc) (cc) (cc)) c.loop-piece.yielded _ c.loop-piece.yielded_by _ _ c.in-None.is c.next.ensures.steps in
+    let end = YieldsList-end (YieldsList-from_str_split 44 c.args.text.now (lit< tt) (cc) (cc) (cc))
+    c.loop-piece.yielded _ c.loop-piece.yielded_by _ _ c.in-None.is c.next.ensures.steps in
     all_read IsCrash64 crash_text _ _ _ c.loop-piece.invariant end.0

@@ -7,7 +7,13 @@ returns c = c.new_command.ensures _ (rw c.in_ok-arguments.ensures.items (
     c.correct_argument.ensures,
     (
       c.tick_argument.ensures,
-      (c.tick_argument-2.ensures, (c.optional_argument.ensures, (c.optional_argument-2.ensures, (c.optional_argument-3.ensures, (c.optional_argument-4.ensures, tt))))),
+      (
+        c.tick_argument-2.ensures,
+        (
+          c.optional_argument.ensures,
+          (c.optional_argument-2.ensures, (c.optional_argument-3.ensures, (c.optional_argument-4.ensures, tt))),
+        ),
+      ),
     ),
   ),
 ))

@@ -17,7 +17,10 @@ returns c = c.new_command.ensures _ (rw c.in_ok-arguments.ensures.items (
               c.optional_argument-6.ensures,
               (
                 c.flag_argument.ensures,
-                (c.flag_argument-2.ensures, (c.flag_argument-3.ensures, (c.flag_argument-4.ensures, (c.flag_argument-5.ensures, (c.flag_argument-6.ensures, tt))))),
+                (
+                  c.flag_argument-2.ensures,
+                  (c.flag_argument-3.ensures, (c.flag_argument-4.ensures, (c.flag_argument-5.ensures, (c.flag_argument-6.ensures, tt)))),
+                ),
               ),
             ),
           ),

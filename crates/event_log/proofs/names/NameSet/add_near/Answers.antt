@@ -9,14 +9,16 @@ use Rattle.event_log.proofs.names.NameSet.add_near.Goals as goal
 pub returns-then-is_at-clause-names : goal.returns-then-is_at-clause-names
 unfolding with_name
 returns-then-is_at-clause-names c =
-    let there : has_name c.args.self.now c.args.name.now ≡ true = any-found (bytes_eq c.args.name.now) c.args.self.now c.args.guess (c.is_at.ensures c.if-is_at.true) in
+    let there : has_name c.args.self.now c.args.name.now
+    ≡ true = any-found (bytes_eq c.args.name.now) c.args.self.now c.args.guess (c.is_at.ensures c.if-is_at.true) in
     rw there refl
 
 pub returns-then-is_at-clause-place : goal.returns-then-is_at-clause-place
 returns-then-is_at-clause-place c = position-is (bytes_eq c.args.name.now) c.args.self.now c.args.guess (c.is_at.ensures c.if-is_at.true)
 
 pub returns-then-is_at-clause-added : goal.returns-then-is_at-clause-added
-returns-then-is_at-clause-added c = ap not (sym (any-found (bytes_eq c.args.name.now) c.args.self.now c.args.guess (c.is_at.ensures c.if-is_at.true)))
+returns-then-is_at-clause-added c =
+    ap not (sym (any-found (bytes_eq c.args.name.now) c.args.self.now c.args.guess (c.is_at.ensures c.if-is_at.true)))
 
 pub returns-then-is_at-clause-within : goal.returns-then-is_at-clause-within
 returns-then-is_at-clause-within c = within-found (bytes_eq c.args.name.now) c.args.self.now c.args.guess (c.is_at.ensures c.if-is_at.true)

@@ -11,11 +11,13 @@ use Rattle.event_log.proofs.names.NameSet.place_of.Goals as goal
 
 pub returns-clause-place : goal.returns-clause-place
 unfolding names_in
-returns-clause-place c = c.get_index_of.ensures.index ∙ sym (position-map name_of (bytes_eq c.args.name.now) c.self.inside.names.keys) ∙ ap (λ names. position (bytes_eq c.args.name.now) names) c.self.view_is
+returns-clause-place c = c.get_index_of.ensures.index ∙ sym (position-map name_of (bytes_eq c.args.name.now) c.self.inside.names.keys)
+    ∙ ap (λ names. position (bytes_eq c.args.name.now) names) c.self.view_is
 
 pub returns-clause-found : goal.returns-clause-found
 unfolding names_in
-returns-clause-found c = c.get_index_of.ensures.found ∙ sym (list_any-map name_of (bytes_eq c.args.name.now) c.self.inside.names.keys) ∙ ap (λ names. list_any (bytes_eq c.args.name.now) names) c.self.view_is
+returns-clause-found c = c.get_index_of.ensures.found ∙ sym (list_any-map name_of (bytes_eq c.args.name.now) c.self.inside.names.keys)
+    ∙ ap (λ names. list_any (bytes_eq c.args.name.now) names) c.self.view_is
 
 pub returns-clause-within : goal.returns-clause-within
 unfolding names_in

@@ -14,7 +14,9 @@ returns c =
     record {
       sound = known.sound;
       few = known.few;
-      next = rw c.tick-tick.ensures.value (AreNextTicks-back (λ p. 1 ≤ p) t known.sound.time c.args.no s old.next_steps.items proc.0 proc.1 c.step_of.ensures.step known.next);
+      next = rw c.tick-tick.ensures.value (AreNextTicks-back (λ p. 1 ≤ p)
+          t known.sound.time c.args.no s old.next_steps.items proc.0 proc.1 c.step_of.ensures.step known.next);
       long = length-set old.bounds.items s.proc c.bound_from.result ∙ known.long;
-      each = λ p low high. rw (c.bound_from.ensures, c.tick-tick.ensures.value) (bounds_back t known.sound.time c.args.no s c.step_of.ensures.step proc.0 proc.1 old known p low high);
+      each = λ p low high. rw (c.bound_from.ensures, c.tick-tick.ensures.value)
+          (bounds_back t known.sound.time c.args.no s c.step_of.ensures.step proc.0 proc.1 old known p low high);
     }

@@ -16,19 +16,19 @@ loop-made-init g c = record {
 pub loop-made-preserved : goal.loop-made-preserved
 loop-made-preserved g c = record {
   peers = c.record_paced.ensures.peers ∙ c.loop-made.invariant.peers;
-  way = IsPacedUnderWay-more c.args.self.now c.args.patience c.loop-made.made c.loop-made.pace c.record_paced.new.pace c.args.seat.now c.loop-made.seat c.record_paced.new.self
-      c.loop-made.invariant.way c.in_default.ensures.tag c.in_default.ensures.recorded;
+  way = IsPacedUnderWay-more c.args.self.now c.args.patience c.loop-made.made c.loop-made.pace c.record_paced.new.pace c.args.seat.now
+      c.loop-made.seat c.record_paced.new.self c.loop-made.invariant.way c.in_default.ensures.tag c.in_default.ensures.recorded;
 }
 
 pub returns-in-Err-clause-stopped : goal.returns-in-Err-clause-stopped
 returns-in-Err-clause-stopped g c =
     let some = c.if-steps-eq0.false in
-    IsPacedStopped-refused c.args.self.now c.args.patience c.args.steps 0 (opening_pace c.args.self.now.config c.args.patience) c.args.seat.now c.args.seat.now c.in-Err.why
+    IsPacedStopped-refused c.args.self.now c.args.patience c.args.steps 0
+    (opening_pace c.args.self.now.config c.args.patience) c.args.seat.now c.args.seat.now c.in-Err.why
     (omega arith) (IsPacedUnderWay-none c.args.self.now c.args.patience c.args.seat.now _ refl) c.in-Err.ensures.refused
 
 pub returns-in-Err-record_paced-clause-stopped : goal.returns-in-Err-record_paced-clause-stopped
-returns-in-Err-record_paced-clause-stopped g c =
-    subst (λ s. IsPacedStopped c.args.self.now c.args.patience c.args.steps c.args.seat.now s (record { made = c.loop-made.made; why = Record c.in-Err-record_paced.why }))
-    (sym c.in-Err-record_paced.ensures.err)
-    (IsPacedStopped-refused c.args.self.now c.args.patience c.args.steps c.loop-made.made c.loop-made.pace c.args.seat.now c.loop-made.seat c.in-Err-record_paced.why
-    c.loop-made-test.true c.loop-made.invariant.way c.in-Err-record_paced.ensures.refused)
+returns-in-Err-record_paced-clause-stopped g c = subst (λ s. IsPacedStopped c.args.self.now c.args.patience c.args.steps c.args.seat.now s
+    (record { made = c.loop-made.made; why = Record c.in-Err-record_paced.why })) (sym c.in-Err-record_paced.ensures.err)
+    (IsPacedStopped-refused c.args.self.now c.args.patience c.args.steps c.loop-made.made c.loop-made.pace c.args.seat.now
+    c.loop-made.seat c.in-Err-record_paced.why c.loop-made-test.true c.loop-made.invariant.way c.in-Err-record_paced.ensures.refused)

@@ -9,4 +9,5 @@ returns-in-Send-clause-moved g c =
 pub returns-in-Receive-clause-moved : goal.returns-in-Receive-clause-moved
 returns-in-Receive-clause-moved g c =
     let made = rw c.is_over.ensures at c.in_ok-record.ensures.recorded in
-    IsMoved-received _ _ _ _ _ _ c.last.result.now c.in-Receive.ends c.in-Receive.ids made c.last.ensures c.in-Receive.is c.receive.ensures.received
+    IsMoved-received _ _ _ _ _ _ c.last.result.now
+    c.in-Receive.ends c.in-Receive.ids made c.last.ensures c.in-Receive.is c.receive.ensures.received

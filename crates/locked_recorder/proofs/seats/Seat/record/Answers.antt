@@ -7,7 +7,8 @@ use Rattle.locked_recorder.proofs.seats.Seat.record.Goals as goal
 pub returns-in_err-done-clause-refused : goal.returns-in_err-done-clause-refused
 returns-in_err-done-clause-refused g c =
     let why = err_from_is_err_and c.from_residual.result c.from_residual.ensures.1 in
-    rw (why.1, why.2) (IsChoiceRefusal-refused c.args.recorder.now c.args.self.now c.self.inside.proc (chosen c.args.sends c.args.step) c.in_err-done.field-0.0
+    rw (why.1, why.2) (IsChoiceRefusal-refused c.args.recorder.now c.args.self.now c.self.inside.proc
+    (chosen c.args.sends c.args.step) c.in_err-done.field-0.0
     (search rules) (search rules) c.in_err-done.ensures.refused)
 
 pub returns-clause-recorded : goal.returns-clause-recorded

@@ -17,4 +17,5 @@ returns-in_err-take c =
     let settles = sym c.times_by.ensures ∙ c.in_ok-times.was in
     let fits : SFits w128 c.in-Some.moment.time = search rules in
     let taken = simp to_z-of_z at c.in_err-take.ensures in
-    rw (p.1, p.2) (event-refused c.args.columns.now c.args.self.now (fields_of c.args.fields.now) c.in-Some.moment c.in_ok-times.times c.in_err-take.field-0.0 few told settles taken)
+    rw (p.1, p.2) (event-refused c.args.columns.now c.args.self.now
+    (fields_of c.args.fields.now) c.in-Some.moment c.in_ok-times.times c.in_err-take.field-0.0 few told settles taken)

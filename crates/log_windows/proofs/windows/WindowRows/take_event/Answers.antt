@@ -26,7 +26,8 @@ returns-in_err-take_part c =
     let front = YieldsList-so_far road c.loop-node.yielded _ c.loop-node.yielded_by in
     let p = err_from_is_err_and c.from_residual.result c.from_residual.ensures.1 in
     rw (p.1, p.2, sym c.if-not-field_is.ensures)
-    (part-refused is_memory (next_part c.args.columns.now c.args.place) c.args.self.now c.loop-node.self _ (with_field (fields_of c.args.fields.now) c.args.columns.now.to) (nodes_in to)
+    (part-refused is_memory (next_part c.args.columns.now c.args.place) c.args.self.now c.loop-node.self _
+    (with_field (fields_of c.args.fields.now) c.args.columns.now.to) (nodes_in to)
     (map (λ x. x.now) c.loop-node.yielded) c.in-Some.node.now (length c.loop-node.yielded) front t.0 t.1 c.loop-node.invariant.2
     (rw (c.in_err-take_part.was, c.in-Ok.ensures) at c.take_part-in-loop-node.ensures))
 
@@ -34,7 +35,8 @@ pub loop-node-preserved : goal.loop-node-preserved
 loop-node-preserved c = (
   search rules,
   search rules,
-  part-more (next_part c.args.columns.now c.args.place) c.args.self.now c.loop-node.self _ (with_field (fields_of c.args.fields.now) c.args.columns.now.to) c.loop-node.yielded c.in-Some.node
+  part-more (next_part c.args.columns.now c.args.place) c.args.self.now c.loop-node.self _
+      (with_field (fields_of c.args.fields.now) c.args.columns.now.to) c.loop-node.yielded c.in-Some.node
       c.loop-node.invariant.2 (rw (c.in_ok-take_part.was, c.in-Ok.ensures) at c.take_part-in-loop-node.ensures),
 )
 
@@ -47,4 +49,5 @@ returns c =
     let road = YieldsList-from_slice_split _ (λ b. b == 59) to (cc) (cc) (cc) (λ x b q k. search (rules, tests)) in
     let end = YieldsList-end road c.loop-node.yielded _ c.loop-node.yielded_by _ _ c.in-None.is c.next.ensures.steps in
     rw (sym c.if-not-field_is.ensures)
-    (ap (λ nodes. after_records (next_part c.args.columns.now c.args.place) c.args.self.now (map (with_field (fields_of c.args.fields.now) c.args.columns.now.to) nodes)) (sym end.0) ∙ c.loop-node.invariant.2)
+    (ap (λ nodes. after_records (next_part c.args.columns.now c.args.place) c.args.self.now
+    (map (with_field (fields_of c.args.fields.now) c.args.columns.now.to) nodes)) (sym end.0) ∙ c.loop-node.invariant.2)

@@ -8,4 +8,5 @@ use Rattle.log_windows.proofs.windows.WindowRows.take_event.Given as goal
 -- the records of the nodes so far lead to what is kept
 abbrev pub invariant-loop-node : goal.invariant-loop-node
 invariant-loop-node l = (goal.iterator-loop-node).can_next l.node-iterator × (goal.iterator-loop-node).is_finite l.node-iterator
-    × (after_records (next_part l.columns l.fn.place) l.fn.self (map (with_field (fields_of l.fields) l.columns.to) (map (λ x. x.now) l.yielded)) ≡ Ok l.self)
+    × (after_records (next_part l.columns l.fn.place) l.fn.self
+    (map (with_field (fields_of l.fields) l.columns.to) (map (λ x. x.now) l.yielded)) ≡ Ok l.self)

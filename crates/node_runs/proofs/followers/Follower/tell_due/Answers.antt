@@ -15,6 +15,9 @@ returns-in-Ok-clause-told g c =
     let less = subst (λ (n : ℕ). told < n) c.len.ensures.value (due_later _ _ _ (c.if-not-is_due.ensures.0 refl)) in
     let all = c.n-all.ensures.value ∙ ap (λ (s : Setup). s.n) c.config.ensures in
     let said =
-    c.as_str.ensures.value ∙ (c.in-Ok.ensures ∙ (ap (λ n. told_later n told c.deref.result.now) all ∙ ap (told_later c.args.prefix.now.trace.config.n told) c.deref.ensures.value)) in
-    next_told c.args.self.now.analyst.set c.args.prefix.now.trace c.args.prefix.now.decisions.items told c.tell.new.self.told c.as_str.result.now c.args.self.now.is_over _ _ less said
-    (λ over. let same = c.tell.ensures.over over in (ap (λ f. f.told) same, ap (λ f. g.W.Write.contents (inner_of f.writer)) same)) c.tell.ensures.count c.tell.ensures.told
+    c.as_str.ensures.value ∙ (c.in-Ok.ensures ∙ (ap (λ n. told_later n told c.deref.result.now) all
+    ∙ ap (told_later c.args.prefix.now.trace.config.n told) c.deref.ensures.value)) in
+    next_told c.args.self.now.analyst.set c.args.prefix.now.trace
+    c.args.prefix.now.decisions.items told c.tell.new.self.told c.as_str.result.now c.args.self.now.is_over _ _ less said
+    (λ over. let same = c.tell.ensures.over over in
+    (ap (λ f. f.told) same, ap (λ f. g.W.Write.contents (inner_of f.writer)) same)) c.tell.ensures.count c.tell.ensures.told

@@ -9,7 +9,8 @@ returns-in_err-stairs-clause-told g c = rw c.stairs.ensures.writer (begun_nothin
 pub returns-clause-told : goal.returns-clause-told
 returns-clause-told g c =
     let stands = c.standing_of.ensures c.args.self.now.analyst.set c.args.trace.now c.in_ok-stairs.ensures.stairs in
-    rw (← c.stairs.ensures.writer) (begun _ (told_standing c.standing_of.result ++ c.args.news.now) g.W.Write.contents c.stairs.new.self.writer c.tell_standing.new.writer c.tell_standing.result
+    rw (← c.stairs.ensures.writer) (begun _ (told_standing c.standing_of.result ++ c.args.news.now)
+    g.W.Write.contents c.stairs.new.self.writer c.tell_standing.new.writer c.tell_standing.result
     (inl (record { standing = c.standing_of.result; stands = stands; told = refl }))
     c.tell_standing.ensures.told c.tell_standing.ensures.part c.tell_standing.ensures.cause)
 

@@ -16,5 +16,5 @@ invariant_of-result c =
     }
 
 pub returns-clause-empty : goal.returns-clause-empty
-returns-clause-empty c =
-    table_of-empty (record { n = c.args.n; rounds = c.args.rounds; sets = _ }) (λ p. search rules) (All-map (λ sets. All IsEmpty sets) _ _ c.in_ok-sets.ensures.empty)
+returns-clause-empty c = table_of-empty (record { n = c.args.n; rounds = c.args.rounds; sets = _ })
+    (λ p. search rules) (All-map (λ sets. All IsEmpty sets) _ _ c.in_ok-sets.ensures.empty)

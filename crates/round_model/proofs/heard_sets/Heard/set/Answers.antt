@@ -9,7 +9,8 @@ invariant_of-self c =
     let kept : length c.put.new.sets ≡ c.self.inside.sets.len = omega arith in
     let processors : c.args.self.now.n ≡ c.self.inside.n = sym (ap (λ (h : HeardTable). h.n) c.self.view_is) in
     rw (with_items_is c.self.inside.sets c.put.new.sets kept, c.put.ensures, c.deref_mut.ensures.value)
-    (IsHeardTable-set _ (c.args.proc - 1) (c.args.round - 1) c.args.senders c.self.invariant (omega arith) (rw processors at c.requires.within))
+    (IsHeardTable-set _ (c.args.proc - 1) (c.args.round - 1) c.args.senders c.self.invariant
+    (omega arith) (rw processors at c.requires.within))
 
 pub returns-clause-set : goal.returns-clause-set
 returns-clause-set c =

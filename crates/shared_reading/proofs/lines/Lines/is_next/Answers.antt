@@ -14,7 +14,8 @@ pub returns-then-self-eq0 : goal.returns-then-self-eq0
 returns-then-self-eq0 c =
     let s = c.self.inside in
     let none : length s.steps.steps ≡ 0 = omega (arith, c.self.invariant.1) in
-    subst (λ (r : Read). true ≡ is_next r.lines c.args.no) c.self.view_is (sym (next-first s.first c.args.no s.steps.steps s.steps.ticks none))
+    subst (λ (r : Read). true ≡ is_next r.lines c.args.no) c.self.view_is
+    (sym (next-first s.first c.args.no s.steps.steps s.steps.ticks none))
 
 pub returns-in-Some : goal.returns-in-Some
 returns-in-Some c =
@@ -23,7 +24,8 @@ returns-in-Some c =
     let some : 0 < length s.steps.steps = omega (arith, count) in
     let at : c.args.no ≡ s.first + c.in-Some.place = omega arith in
     subst (λ (r : Read). nat_eq c.in-Some.place s.count ≡ is_next r.lines c.args.no) c.self.view_is
-    (same-place c.in-Some.place s.count c.args.no s.first (length s.steps.steps) at count ∙ sym (next-later s.first c.args.no s.steps.steps s.steps.ticks c.self.invariant.0 some))
+    (same-place c.in-Some.place s.count c.args.no s.first (length s.steps.steps) at count
+    ∙ sym (next-later s.first c.args.no s.steps.steps s.steps.ticks c.self.invariant.0 some))
 
 pub returns-in-None : goal.returns-in-None
 returns-in-None c =
@@ -31,4 +33,5 @@ returns-in-None c =
     let some : 0 < length s.steps.steps = omega (arith, c.self.invariant.1) in
     let less : c.args.no < s.first = omega arith in
     subst (λ (r : Read). false ≡ is_next r.lines c.args.no) c.self.view_is
-    (below c.args.no s.first (length s.steps.steps) less ∙ sym (next-later s.first c.args.no s.steps.steps s.steps.ticks c.self.invariant.0 some))
+    (below c.args.no s.first (length s.steps.steps) less
+    ∙ sym (next-later s.first c.args.no s.steps.steps s.steps.ticks c.self.invariant.0 some))

@@ -13,8 +13,10 @@ pub returns-in_err-append_pages-clause-refused : goal.returns-in_err-append_page
 returns-in_err-append_pages-clause-refused c =
     let s = c.self.inside in
     let p = err_from_is_err_and c.from_residual.result c.from_residual.ensures.1 in
-    rw (p.1, p.2) (subst (λ (a : Ticked). IsStepRefusal (appended c.args.trace a.steps a.ticks) c.in_err-append_pages.field-0.0) c.self.view_is
-    (appended-err c.args.trace (steps_of s.full.items) s.last.steps (ticks_of s.full.items) s.last.ticks c.in_err-append_pages.field-0.0 (paired-all s.full.items c.self.invariant.each)
+    rw (p.1, p.2)
+    (subst (λ (a : Ticked). IsStepRefusal (appended c.args.trace a.steps a.ticks) c.in_err-append_pages.field-0.0) c.self.view_is
+    (appended-err c.args.trace (steps_of s.full.items) s.last.steps
+    (ticks_of s.full.items) s.last.ticks c.in_err-append_pages.field-0.0 (paired-all s.full.items c.self.invariant.each)
     c.in_err-append_pages.ensures.refused))
 
 pub returns-clause-appended : goal.returns-clause-appended
@@ -23,7 +25,8 @@ returns-clause-appended c =
     let u = c.in_ok-append_pages.field-0 in
     let rest : appended c.args.trace c.args.self.steps c.args.self.ticks ≡ appended u s.last.steps s.last.ticks =
     subst (λ (a : Ticked). appended c.args.trace a.steps a.ticks ≡ appended u s.last.steps s.last.ticks) c.self.view_is
-    (appended-ok c.args.trace u (steps_of s.full.items) s.last.steps (ticks_of s.full.items) s.last.ticks (paired-all s.full.items c.self.invariant.each) c.in_ok-append_pages.ensures.appended) in
+    (appended-ok c.args.trace u (steps_of s.full.items) s.last.steps
+    (ticks_of s.full.items) s.last.ticks (paired-all s.full.items c.self.invariant.each) c.in_ok-append_pages.ensures.appended) in
     subst (λ (r : Result Recorded StepRefused). IfOk c.with_steps.result (λ longer. r ≡ Ok longer)) (sym rest) c.with_steps.ensures.appended
 
 pub returns-clause-refused : goal.returns-clause-refused
@@ -32,5 +35,6 @@ returns-clause-refused c =
     let u = c.in_ok-append_pages.field-0 in
     let rest : appended c.args.trace c.args.self.steps c.args.self.ticks ≡ appended u s.last.steps s.last.ticks =
     subst (λ (a : Ticked). appended c.args.trace a.steps a.ticks ≡ appended u s.last.steps s.last.ticks) c.self.view_is
-    (appended-ok c.args.trace u (steps_of s.full.items) s.last.steps (ticks_of s.full.items) s.last.ticks (paired-all s.full.items c.self.invariant.each) c.in_ok-append_pages.ensures.appended) in
+    (appended-ok c.args.trace u (steps_of s.full.items) s.last.steps
+    (ticks_of s.full.items) s.last.ticks (paired-all s.full.items c.self.invariant.each) c.in_ok-append_pages.ensures.appended) in
     subst (λ (r : Result Recorded StepRefused). IfErr c.with_steps.result (IsStepRefusal r)) (sym rest) c.with_steps.ensures.refused

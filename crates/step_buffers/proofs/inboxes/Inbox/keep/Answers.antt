@@ -24,9 +24,11 @@ returns-else-sent-round-clause-kept c =
     let id = c.args.id in
     let added = c.keep_for_later.ensures.later in
     let mapped : IsPermutation (id ∷ ids_of old) (ids_of new) =
-    subst (λ s. IsPermutation (s ∷ ids_of old) (ids_of new)) (ap (λ (x : ℕ × ℕ). x.1) added.1) (IsPermutation-map (λ (e : Entry). e.0.1) (added.0 ∷ old) new added.2) in
+    subst (λ s. IsPermutation (s ∷ ids_of old) (ids_of new))
+    (ap (λ (x : ℕ × ℕ). x.1) added.1) (IsPermutation-map (λ (e : Entry). e.0.1) (added.0 ∷ old) new added.2) in
     rw c.keep_for_later.ensures.near
-    (IsPermutation-trans (id ∷ (near ++ ids_of old)) (near ++ id ∷ ids_of old) (near ++ ids_of new) (to_front near (ids_of old) id) (IsPermutation-append_right near (id ∷ ids_of old) (ids_of new) mapped))
+    (IsPermutation-trans (id ∷ (near ++ ids_of old)) (near ++ id ∷ ids_of old)
+    (near ++ ids_of new) (to_front near (ids_of old) id) (IsPermutation-append_right near (id ∷ ids_of old) (ids_of new) mapped))
 
 pub returns-else-sent-round-clause-entries : goal.returns-else-sent-round-clause-entries
 returns-else-sent-round-clause-entries c = λ e d.

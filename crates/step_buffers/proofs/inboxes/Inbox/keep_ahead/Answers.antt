@@ -9,17 +9,21 @@ use Rattle.step_buffers.proofs.inboxes.Inbox.keep_ahead.Goals.{then-round-sent, 
 use Rattle.step_buffers.proofs.inboxes.Inbox.keep_ahead.Goals as goal
 
 -- one id more, which passes the test
-kept-more : (p : ℕ → Bool) (old now new ids : List ℕ) (id : ℕ) → p id ≡ true → IsPermutation (old ++ filter p ids) now → IsPermutation (id ∷ now) new
-    → IsPermutation (old ++ filter p (ids ++ id ∷ [])) new
+kept-more : (p : ℕ → Bool) (old now new ids : List ℕ) (id : ℕ) → p id ≡ true
+    → IsPermutation (old ++ filter p ids) now → IsPermutation (id ∷ now) new → IsPermutation (old ++ filter p (ids ++ id ∷ [])) new
 kept-more p old now new ids id t h k =
-    let more : filter p (ids ++ id ∷ []) ≡ filter p ids ++ id ∷ [] = filter-append p ids (id ∷ []) ∙ ap (λ b. filter p ids ++ cond b (id ∷ []) []) t in
-    let all : (old ++ filter p ids) ++ id ∷ [] ≡ old ++ filter p (ids ++ id ∷ []) = append_assoc old (filter p ids) (id ∷ []) ∙ ap (λ xs. old ++ xs) (sym more) in
+    let more : filter p (ids ++ id ∷ []) ≡ filter p ids ++ id ∷ [] = filter-append p ids (id ∷ [])
+    ∙ ap (λ b. filter p ids ++ cond b (id ∷ []) []) t in
+    let all : (old ++ filter p ids) ++ id ∷ [] ≡ old ++ filter p (ids ++ id ∷ []) = append_assoc old (filter p ids) (id ∷ [])
+    ∙ ap (λ xs. old ++ xs) (sym more) in
     subst (λ xs. IsPermutation xs new) all (IsPermutation-push_more (old ++ filter p ids) now new id h k)
 
 -- one id more, which doesn't
-passed-over : (p : ℕ → Bool) (old now ids : List ℕ) (id : ℕ) → p id ≡ false → IsPermutation (old ++ filter p ids) now → IsPermutation (old ++ filter p (ids ++ id ∷ [])) now
+passed-over : (p : ℕ → Bool) (old now ids : List ℕ) (id : ℕ)
+    → p id ≡ false → IsPermutation (old ++ filter p ids) now → IsPermutation (old ++ filter p (ids ++ id ∷ [])) now
 passed-over p old now ids id t h =
-    let more : filter p (ids ++ id ∷ []) ≡ filter p ids = filter-append p ids (id ∷ []) ∙ ap (λ b. filter p ids ++ cond b (id ∷ []) []) t ∙ append-nil (filter p ids) in
+    let more : filter p (ids ++ id ∷ []) ≡ filter p ids = filter-append p ids (id ∷ [])
+    ∙ ap (λ b. filter p ids ++ cond b (id ∷ []) []) t ∙ append-nil (filter p ids) in
     subst (λ xs. IsPermutation (old ++ xs) now) (sym more) h
 
 pub loop-id-preserved : goal.loop-id-preserved
@@ -42,7 +46,8 @@ loop-id-preserved c =
           let known = w.if-round-sent.true in
           let t : test id ≡ true = le-leb round (round_of letters id) (omega arith) in
           rw w.self-is (record {
-            kept = subst (λ xs. IsPermutation (old ++ filter test xs) new) (sym more) (kept-more test old now new (take i ids) id t is.kept w.keep.ensures.kept);
+            kept = subst (λ xs. IsPermutation (old ++ filter test xs) new)
+                (sym more) (kept-more test old now new (take i ids) id t is.kept w.keep.ensures.kept);
             entries = λ e d. elim (w.keep.ensures.entries e d) [
               | inl before ↦ is.entries e before
               | inr same ↦

@@ -11,7 +11,8 @@ invariant_of-result c =
         setup = world.setup;
         paced = world.paced;
         letters = world.letters;
-        processors = c.in_ok-processors.ensures c.self.inside.trace.config c.self.inside.trace.steps (rw c.deref-2.ensures.value world.processors);
+        processors = c.in_ok-processors.ensures c.self.inside.trace.config c.self.inside.trace.steps
+            (rw c.deref-2.ensures.value world.processors);
       },
       c.self.invariant.1,
       c.self.invariant.2,

@@ -5,7 +5,8 @@ use Rattle.step_buffers.proofs.worlds.World.decision_in.Goals as goal
 
 pub returns-then-round-processor : goal.returns-then-round-processor
 returns-then-round-processor c =
-    let is = IsProcessor-at c.self.inside.trace.config c.self.inside.trace.steps c.self.inside.processors.items c.args.p c.index-processor.result.now
+    let is = IsProcessor-at c.self.inside.trace.config
+    c.self.inside.trace.steps c.self.inside.processors.items c.args.p c.index-processor.result.now
     c.self.invariant.0.processors (rw (← c.self.view_is) at c.requires.processor) c.index-processor.ensures in
     let first = c.requires.first in
     let reached : c.args.round ≤ passed c.self.inside.trace.steps c.args.p + 1 = rw (← c.self.view_is) at c.requires.reached in
@@ -14,7 +15,8 @@ returns-then-round-processor c =
 
 pub returns : goal.returns
 returns c =
-    let is = IsProcessor-at c.self.inside.trace.config c.self.inside.trace.steps c.self.inside.processors.items c.args.p c.index-processor.result.now
+    let is = IsProcessor-at c.self.inside.trace.config
+    c.self.inside.trace.steps c.self.inside.processors.items c.args.p c.index-processor.result.now
     c.self.invariant.0.processors (rw (← c.self.view_is) at c.requires.processor) c.index-processor.ensures in
     let first = c.requires.first in
     let reached : c.args.round ≤ passed c.self.inside.trace.steps c.args.p + 1 = rw (← c.self.view_is) at c.requires.reached in

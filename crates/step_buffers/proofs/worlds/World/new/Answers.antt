@@ -6,7 +6,10 @@ pub invariant_of-result : goal.invariant_of-result
 invariant_of-result c = (
   record {
     setup = rw c.new.ensures.config c.in_ok-processors.ensures.setup;
-    paced = record { run = rw (c.new.ensures.config, c.new.ensures.steps) (IsRun-opening c.args.config); one_per_tick = c.new.ensures.numbered };
+    paced = record {
+      run = rw (c.new.ensures.config, c.new.ensures.steps) (IsRun-opening c.args.config);
+      one_per_tick = c.new.ensures.numbered;
+    };
     letters = rw (c.new.ensures.config, c.new.ensures.steps, c.new-2.ensures.items) (AreLetters-opening c.args.config);
     processors = rw (c.new.ensures.config, c.new.ensures.steps) c.in_ok-processors.ensures.kept;
   },

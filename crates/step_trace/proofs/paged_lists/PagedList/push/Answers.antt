@@ -10,7 +10,8 @@ invariant_of-self-then-len-lt-PAGE_LEN g c =
     let view = ap (λ xs. length xs) c.self.view_is in
     let room = c.requires in
     let b = c.self.inside.last.ok in
-    let less = c.if-len-lt-PAGE_LEN.true in let len = c.len.ensures in let kept = c.make_room.new.last.ok in let same = ap (λ xs. length xs) c.make_room.ensures.last in
+    let less = c.if-len-lt-PAGE_LEN.true in let len = c.len.ensures in
+    let kept = c.make_room.new.last.ok in let same = ap (λ xs. length xs) c.make_room.ensures.last in
     rw (c.push_reserved.ensures.items, c.make_room.ensures.last, c.make_room.ensures.pages) (record {
       full = c.self.invariant.full;
       less = grind (arith, common_steps);

@@ -13,12 +13,14 @@ pub returns-in-Some : goal.returns-in-Some
 returns-in-Some c =
     let f = c.if-no-by_number.false in
     let list = c.args.self.now in
-    let found : option_copied c.item_at.result ≡ slice_get list.others.items (c.args.no - list.by_number - 1) = rw (← c.from-by_number.ensures, ← c.deref.ensures.value) c.item_at.ensures in
+    let found : option_copied c.item_at.result ≡ slice_get list.others.items (c.args.no - list.by_number - 1) =
+    rw (← c.from-by_number.ensures, ← c.deref.ensures.value) c.item_at.ensures in
     sym (tick_after list.by_number list.others.items c.args.no (grind (arith, nat_tests)) ∙ rw (← found, c.in-Some.is) (sym c.from.ensures))
 
 pub returns-in-None : goal.returns-in-None
 returns-in-None c =
     let f = c.if-no-by_number.false in
     let list = c.args.self.now in
-    let found : option_copied c.item_at.result ≡ slice_get list.others.items (c.args.no - list.by_number - 1) = rw (← c.from-by_number.ensures, ← c.deref.ensures.value) c.item_at.ensures in
+    let found : option_copied c.item_at.result ≡ slice_get list.others.items (c.args.no - list.by_number - 1) =
+    rw (← c.from-by_number.ensures, ← c.deref.ensures.value) c.item_at.ensures in
     sym (tick_after list.by_number list.others.items c.args.no (grind (arith, nat_tests)) ∙ rw (← found, c.in-None.is) refl)

@@ -8,13 +8,24 @@ use Rattle.step_trace.proofs.traces.Trace.begins.Goals as goal
 
 pub returns-then-len : goal.returns-then-len
 returns-then-len c =
-    let longer : Recorded = record { config = c.self.inside.config; steps = c.self.inside.placed.steps; ticks = c.self.inside.placed.ticks; last = c.self.inside.last } in
-    let shorter : Recorded = record { config = c.other.inside.config; steps = c.other.inside.placed.steps; ticks = c.other.inside.placed.ticks; last = c.other.inside.last } in
+    let longer : Recorded = record {
+      config = c.self.inside.config;
+      steps = c.self.inside.placed.steps;
+      ticks = c.self.inside.placed.ticks;
+      last = c.self.inside.last;
+    } in
+    let shorter : Recorded = record {
+      config = c.other.inside.config;
+      steps = c.other.inside.placed.steps;
+      ticks = c.other.inside.placed.ticks;
+      last = c.other.inside.last;
+    } in
     let config : c.self.inside.config ≡ c.other.inside.config = c.if-not-is_same.ensures.0 refl in
     let a = c.len.ensures.steps in let past = c.if-first_difference-len.false in
     let after : length shorter.steps < c.first_difference.result = grind (arith, nat_tests) in
     let before = rw (← c.self.view_is, ← c.other.view_is) at c.first_difference.ensures.before in
-    let begins = begins_from_same longer shorter c.self.invariant.0.time.each c.other.invariant.0.time.each c.first_difference.result after before in
+    let begins =
+    begins_from_same longer shorter c.self.invariant.0.time.each c.other.invariant.0.time.each c.first_difference.result after before in
     let last : c.other.inside.last ≤ c.self.inside.last = omega arith in
     let b = c.len-2.ensures.steps in let d = c.len-3.ensures.steps in let e = c.if-len.true in
     let equal : length longer.steps ≡ length shorter.steps = grind (arith, nat_tests) in
@@ -31,13 +42,24 @@ returns-then-len c =
 
 pub returns-else-len : goal.returns-else-len
 returns-else-len c =
-    let longer : Recorded = record { config = c.self.inside.config; steps = c.self.inside.placed.steps; ticks = c.self.inside.placed.ticks; last = c.self.inside.last } in
-    let shorter : Recorded = record { config = c.other.inside.config; steps = c.other.inside.placed.steps; ticks = c.other.inside.placed.ticks; last = c.other.inside.last } in
+    let longer : Recorded = record {
+      config = c.self.inside.config;
+      steps = c.self.inside.placed.steps;
+      ticks = c.self.inside.placed.ticks;
+      last = c.self.inside.last;
+    } in
+    let shorter : Recorded = record {
+      config = c.other.inside.config;
+      steps = c.other.inside.placed.steps;
+      ticks = c.other.inside.placed.ticks;
+      last = c.other.inside.last;
+    } in
     let config : c.self.inside.config ≡ c.other.inside.config = c.if-not-is_same.ensures.0 refl in
     let a = c.len.ensures.steps in let past = c.if-first_difference-len.false in
     let after : length shorter.steps < c.first_difference.result = grind (arith, nat_tests) in
     let before = rw (← c.self.view_is, ← c.other.view_is) at c.first_difference.ensures.before in
-    let begins = begins_from_same longer shorter c.self.invariant.0.time.each c.other.invariant.0.time.each c.first_difference.result after before in
+    let begins =
+    begins_from_same longer shorter c.self.invariant.0.time.each c.other.invariant.0.time.each c.first_difference.result after before in
     let last : c.other.inside.last ≤ c.self.inside.last = omega arith in
     let b = c.len-2.ensures.steps in let d = c.len-3.ensures.steps in
     let other : length longer.steps ≢ length shorter.steps = λ e. (let f = c.if-len.false in grind (arith, nat_tests)) in

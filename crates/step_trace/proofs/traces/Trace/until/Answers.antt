@@ -25,7 +25,8 @@ returns-clause-only c = λ other time is.
     let high : c.args.tick ≤ MAX_TICKS = (let l = c.requires in let m = e.sound.time.end in omega (arith, l, m)) in
     let cut = IsCutAt-front c.args.self.now n c.args.tick e.sound e.inside c.requires e.after in
     let sound = IsTrace-front c.args.self.now n c.args.tick e.sound e.inside e.before high in
-    rw (c.in-Ok.ensures.passed, c.in_ok-cut.ensures) (one_cut c.args.self.now other (front_to c.args.self.now n c.args.tick) c.args.tick time sound.time is cut)
+    rw (c.in-Ok.ensures.passed, c.in_ok-cut.ensures)
+    (one_cut c.args.self.now other (front_to c.args.self.now n c.args.tick) c.args.tick time sound.time is cut)
 
 pub unreachable-requires : goal.unreachable-requires
 unreachable-requires c =

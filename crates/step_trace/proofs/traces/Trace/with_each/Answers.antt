@@ -7,8 +7,11 @@ pub loop-tick-preserved : goal.loop-tick-preserved
 loop-tick-preserved c =
     let next = c.in-Some.ensures.steps in
     let before = rw (next.0.0, next.1.0) at c.loop-tick.invariant in
-    let len : length c.next.new.self.a.rest.items ≡ length c.next.new.self.b.rest.items = (let b = before.1 in omega (arith, b)) in
-    (before.0 ∙ rw c.in_ok-push_next.ensures.appended (appended-next c.loop-tick.trace c.in-Some.step c.next.new.self.b.rest.items c.in-Some.tick c.next.new.self.a.rest.items c.in_ok-push_next.ensures.fits), len)
+    let len : length c.next.new.self.a.rest.items ≡ length c.next.new.self.b.rest.items = (let b = before.1 in omega (arith, b)) in (
+      before.0 ∙ rw c.in_ok-push_next.ensures.appended (appended-next c.loop-tick.trace
+          c.in-Some.step c.next.new.self.b.rest.items c.in-Some.tick c.next.new.self.a.rest.items c.in_ok-push_next.ensures.fits),
+      len,
+    )
 
 pub returns-in_err-push_next-clause-refused : goal.returns-in_err-push_next-clause-refused
 returns-in_err-push_next-clause-refused c =

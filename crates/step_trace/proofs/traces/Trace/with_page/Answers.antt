@@ -8,7 +8,8 @@ returns-clause-appended c =
     let checked = c.in_ok-check_all.ensures in
     let before = c.self.inside in
     let placed = rw c.deref.ensures.value at c.in-Ok.ensures in
-    let begins = rest-begin (record { config = before.config; steps = before.placed.steps; ticks = before.placed.ticks; last = before.last })
+    let begins =
+    rest-begin (record { config = before.config; steps = before.placed.steps; ticks = before.placed.ticks; last = before.last })
     c.page.inside.steps.items c.page.inside.ticks.items (length before.taken.items) c.self.invariant.1.long c.self.invariant.0.time.each in
     let after = c.check_all.new.self in
     let all = checked.all ∙ ap (λ p. length p.steps) (sym checked.placed) in

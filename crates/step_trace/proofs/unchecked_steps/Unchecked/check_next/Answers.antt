@@ -25,7 +25,8 @@ returns-in-Some-refusal-clause-refused c =
     let count : c.len-count.result ≡ n = (let l = c.len-count.ensures in let ok = u.taken.ok in omega (arith, l, ok)) in
     let at : step_at u.placed.steps (n + 1) ≡ Some c.in-Some.step.now = rw count at (sym c.in-Some.ensures) in
     let time : c.tick-tick.result ≡ tick_at u.placed.ticks (n + 1) = rw count at c.tick-tick.ensures in
-    let why : c.step_refusal-refusal.result ≡ refusal_in (checked u) c.tick-tick.result c.in-Some.step.now = rw (c.first-so_far.ensures, count) at c.step_refusal-refusal.ensures in
+    let why : c.step_refusal-refusal.result ≡ refusal_in (checked u) c.tick-tick.result c.in-Some.step.now =
+    rw (c.first-so_far.ensures, count) at c.step_refusal-refusal.ensures in
     let long = length-take-le n u.placed.steps c.requires.sound.inside in
     rw count (rest-refused u.config u.placed n u.last c.tick-tick.result c.in-Some.step.now c.requires.sound.each at time
     (record { no = n + 1; why = c.in-Some-refusal.why }) (λ other. rw (sym why ∙ c.in-Some-refusal.is, long) refl))
@@ -35,8 +36,10 @@ append_flag-requires-clause-known c =
     let u = c.args.self.now in
     let n = length u.taken.items in
     let count : c.len-count.result ≡ n = (let l = c.len-count.ensures in let ok = u.taken.ok in omega (arith, l, ok)) in
-    let why : c.step_refusal-refusal.result ≡ refusal_in (checked u) c.tick-tick.result c.in-Some.step.now = rw (c.first-so_far.ensures, count) at c.step_refusal-refusal.ensures in
-    let known = known_from_none (checked u) c.tick-tick.result c.in-Some.step.now c.requires.sound.trace (sym why ∙ c.in_default-refusal.is) in
+    let why : c.step_refusal-refusal.result ≡ refusal_in (checked u) c.tick-tick.result c.in-Some.step.now =
+    rw (c.first-so_far.ensures, count) at c.step_refusal-refusal.ensures in
+    let known = known_from_none (checked u) c.tick-tick.result c.in-Some.step.now c.requires.sound.trace
+    (sym why ∙ c.in_default-refusal.is) in
     rw (c.ids.ensures, c.reserve.ensures.items, c.requires.sound.index.long) known
 
 pub returns-clause-sound : goal.returns-clause-sound
@@ -49,14 +52,18 @@ returns-clause-sound c =
     let count : c.len-count.result ≡ n = (let l = c.len-count.ensures in let ok = u.taken.ok in omega (arith, l, ok)) in
     let at : step_at u.placed.steps (n + 1) ≡ Some x = rw count at (sym c.in-Some.ensures) in
     let time : tick ≡ tick_at u.placed.ticks (n + 1) = rw count at c.tick-tick.ensures in
-    let why : c.step_refusal-refusal.result ≡ refusal_in (checked u) tick x = rw (c.first-so_far.ensures, count) at c.step_refusal-refusal.ensures in
+    let why : c.step_refusal-refusal.result ≡ refusal_in (checked u) tick x =
+    rw (c.first-so_far.ensures, count) at c.step_refusal-refusal.ensures in
     let append = CanAppend-from_none (checked u) tick x c.requires.sound.trace (sym why ∙ c.in_default-refusal.is) in
     let next = front-next u.config u.placed n u.last tick x c.requires.sound.each at time in
     let len : length flags ≡ n + 1 = rw c.reserve.ensures.items at c.append_flag.ensures.len in
-    let index = IsIndex-push (take n u.placed.steps) x u.taken.items flags c.requires.sound.index len (rw (c.reserve.ensures.items, c.ids.ensures) at c.append_flag.ensures.flags) in
+    let index = IsIndex-push (take n u.placed.steps) x u.taken.items flags c.requires.sound.index len
+    (rw (c.reserve.ensures.items, c.ids.ensures) at c.append_flag.ensures.flags) in
     record {
-      trace = subst (λ k. IsTrace (front_of u.config u.placed k tick)) (sym len) (subst (λ (t : Recorded). IsTrace t) (sym next) append.sound);
-      index = subst (λ k. IsIndex (take k u.placed.steps) flags) (sym len) (subst (λ (xs : List Step). IsIndex xs flags) (sym (ap (λ t. t.steps) next)) index);
+      trace = subst (λ k. IsTrace (front_of u.config u.placed k tick))
+          (sym len) (subst (λ (t : Recorded). IsTrace t) (sym next) append.sound);
+      index = subst (λ k. IsIndex (take k u.placed.steps) flags)
+          (sym len) (subst (λ (xs : List Step). IsIndex xs flags) (sym (ap (λ t. t.steps) next)) index);
       inside = let more = c.requires.more in omega (arith, more, len);
       each = c.requires.sound.each;
     }
@@ -68,7 +75,9 @@ returns-clause-leads c =
     let count : c.len-count.result ≡ n = (let l = c.len-count.ensures in let ok = u.taken.ok in omega (arith, l, ok)) in
     let at : step_at u.placed.steps (n + 1) ≡ Some c.in-Some.step.now = rw count at (sym c.in-Some.ensures) in
     let time : c.tick-tick.result ≡ tick_at u.placed.ticks (n + 1) = rw count at c.tick-tick.ensures in
-    let why : c.step_refusal-refusal.result ≡ refusal_in (checked u) c.tick-tick.result c.in-Some.step.now = rw (c.first-so_far.ensures, count) at c.step_refusal-refusal.ensures in
+    let why : c.step_refusal-refusal.result ≡ refusal_in (checked u) c.tick-tick.result c.in-Some.step.now =
+    rw (c.first-so_far.ensures, count) at c.step_refusal-refusal.ensures in
     let len : length c.append_flag.new.taken.items ≡ n + 1 = rw c.reserve.ensures.items at c.append_flag.ensures.len in
     ap (λ k. rest_of u.config u.placed k c.tick-tick.result) len
-    ∙ rest-next u.config u.placed n u.last c.tick-tick.result c.in-Some.step.now c.requires.sound.each at time (sym why ∙ c.in_default-refusal.is)
+    ∙ rest-next u.config u.placed n u.last c.tick-tick.result c.in-Some.step.now c.requires.sound.each at time
+    (sym why ∙ c.in_default-refusal.is)

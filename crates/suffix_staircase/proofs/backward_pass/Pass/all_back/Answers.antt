@@ -5,7 +5,8 @@ use Rattle.suffix_staircase.proofs.TickBorders.{AreIdleUpTo-last, AreIdleUpTo-st
 use Rattle.suffix_staircase.proofs.backward_pass.Pass.all_back.Goals as goal
 
 pub ticks_back-requires-clause-idle : goal.ticks_back-requires-clause-idle
-ticks_back-requires-clause-idle c = rw (c.len-len.ensures.value, c.last_tick.ensures.value) (AreIdleUpTo-last c.args.trace.now c.last_tick.ensures.timed)
+ticks_back-requires-clause-idle c = rw (c.len-len.ensures.value, c.last_tick.ensures.value)
+    (AreIdleUpTo-last c.args.trace.now c.last_tick.ensures.timed)
 
 pub ticks_back-requires-clause-known : goal.ticks_back-requires-clause-known
 ticks_back-requires-clause-known c = rw (c.len-len.ensures.value, c.last_tick.ensures.value) c.requires.known
@@ -26,11 +27,12 @@ step_back-requires-clause-known c =
     subst (λ (s : ℕ). KnowsStepsAfter s c.args.trace.now (c.loop-no.no - 1) c.loop-no.self) (sym steps.members) steps
 
 pub ticks_back-requires-in-loop-no-clause-within : goal.ticks_back-requires-in-loop-no-clause-within
-ticks_back-requires-in-loop-no-clause-within c = rw (c.step_back.ensures.known.members, c.loop-no.invariant.known.steps.members) c.requires.within
+ticks_back-requires-in-loop-no-clause-within c =
+    rw (c.step_back.ensures.known.members, c.loop-no.invariant.known.steps.members) c.requires.within
 
 pub ticks_back-requires-in-loop-no-clause-idle : goal.ticks_back-requires-in-loop-no-clause-idle
-ticks_back-requires-in-loop-no-clause-idle c =
-    rw c.loop-no.invariant.tick (AreIdleUpTo-step c.args.trace.now c.last_tick.ensures.timed (c.loop-no.no - 1) (omega (arith, c.loop-no-test.true)) (omega (arith, c.loop-no.invariant.end)))
+ticks_back-requires-in-loop-no-clause-idle c = rw c.loop-no.invariant.tick (AreIdleUpTo-step c.args.trace.now c.last_tick.ensures.timed
+    (c.loop-no.no - 1) (omega (arith, c.loop-no-test.true)) (omega (arith, c.loop-no.invariant.end)))
 
 pub ticks_back-requires-in-loop-no-clause-known : goal.ticks_back-requires-in-loop-no-clause-known
 ticks_back-requires-in-loop-no-clause-known c =
@@ -41,7 +43,8 @@ ticks_back-requires-in-loop-no-clause-known c =
     let known = subst (λ (s : ℕ). KnowsTicksFrom s t k (tick_of t k + 1) c.loop-no.self c.loop-no.builder) (sym inv.steps.members) inv in
     rw c.loop-no.invariant.tick
     (subst (λ (s : ℕ). KnowsTicksFrom s t (k - 1) (tick_of t k + 1) c.step_back.new.self c.loop-no.builder) (sym back.known.members)
-    (KnowsTicksFrom-step c.loop-no.self.set t k (tick_of t k + 1) c.loop-no.self c.step_back.new.self c.loop-no.builder known back.known back.falling back.phi back.gap))
+    (KnowsTicksFrom-step c.loop-no.self.set t k (tick_of t k + 1)
+    c.loop-no.self c.step_back.new.self c.loop-no.builder known back.known back.falling back.phi back.gap))
 
 pub loop-no-preserved : goal.loop-no-preserved
 loop-no-preserved c =
@@ -50,11 +53,15 @@ loop-no-preserved c =
       start = omega (arith, c.loop-no-test.true);
       end = omega (arith, c.loop-no.invariant.end);
       tick = c.in_ok-tick-2.ensures.tick;
-      known = subst (λ (s : ℕ). KnowsTicksFrom s c.args.trace.now k (tick_of c.args.trace.now k + 1) c.ticks_back-in-loop-no.new.self c.ticks_back-in-loop-no.new.builder)
+      known = subst (λ (s : ℕ). KnowsTicksFrom s c.args.trace.now k
+          (tick_of c.args.trace.now k + 1) c.ticks_back-in-loop-no.new.self c.ticks_back-in-loop-no.new.builder)
           (c.step_back.ensures.known.members ∙ c.loop-no.invariant.known.steps.members) c.in_ok-tick-2.ensures.known;
     }
 
 pub returns : goal.returns
 returns c =
     let first : c.loop-no.no ≡ 1 = omega (arith, c.loop-no.invariant.start, c.loop-no-test.false) in
-    record { levels = AreLevels-from_first c.args.self.now.set c.args.trace.now c.loop-no.builder (rw first at c.loop-no.invariant.known).each }
+    record {
+      levels = AreLevels-from_first c.args.self.now.set c.args.trace.now c.loop-no.builder
+          (rw first at c.loop-no.invariant.known).each;
+    }

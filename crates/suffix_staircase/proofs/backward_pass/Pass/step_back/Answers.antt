@@ -23,7 +23,8 @@ returns-then-not-contains-clause-known c =
         next = AreNextTicks-other (λ p. IsTrue (has_proc set p)) t c.args.no step _ at other known.next_steps.next;
         latest = known.next_steps.latest;
       };
-      misses = KnowsMissesAfter-other set t c.args.no c.args.self.now.level.delta step c.args.self.now.level.miss c.requires.low at other known.misses;
+      misses = KnowsMissesAfter-other set t c.args.no
+          c.args.self.now.level.delta step c.args.self.now.level.miss c.requires.low at other known.misses;
     }
 
 pub step_back-requires-clause-member : goal.step_back-requires-clause-member
@@ -34,13 +35,16 @@ step_back-requires-clause-member c =
     subst (λ (s : Step). IsTrue (has_proc set s.proc)) (sym same) (sym c.contains.ensures ∙ c.if-not-contains.false)
 
 -- one step back by the last Receive that misses its message
-lowered : (c : After-note_miss) → MissesLowered c.args.self.now.set c.args.trace.now (c.args.no - 1) c.args.self.now.level c.note_miss.new.level
+lowered : (c : After-note_miss)
+    → MissesLowered c.args.self.now.set c.args.trace.now (c.args.no - 1) c.args.self.now.level c.note_miss.new.level
 lowered c =
     let t = c.args.trace.now in
     let level = c.args.self.now.level in
     let missed = c.step_back-missed.result in
-    let last = IsLastMissOf-from_numbers c.args.self.now.set t (record { steps = c.step_back-missed.ensures.sound; time = c.requires.timed }) c.args.no missed c.step_back-missed.ensures.missed in
-    let long : c.saturating_sub-long.result ≡ tick_of t missed - tick_of t c.args.no = omega (arith, c.saturating_sub-long.ensures, c.tick_at.ensures.value, c.requires.tick) in
+    let last = IsLastMissOf-from_numbers c.args.self.now.set t
+    (record { steps = c.step_back-missed.ensures.sound; time = c.requires.timed }) c.args.no missed c.step_back-missed.ensures.missed in
+    let long : c.saturating_sub-long.result ≡ tick_of t missed - tick_of t c.args.no =
+    omega (arith, c.saturating_sub-long.ensures, c.tick_at.ensures.value, c.requires.tick) in
     let is = c.note_miss.ensures ∙ ap (λ (n : ℕ). with_miss level (record { sent = c.args.no; missed = missed }) n) long in
     subst (λ (l : Level). MissesLowered c.args.self.now.set t (c.args.no - 1) level l) (sym is)
     (MissesLowered-with_miss c.args.self.now.set t c.args.no missed level c.requires.low c.requires.known.misses last)

@@ -6,13 +6,15 @@ use Rattle.suffix_staircase.proofs.backward_pass.Pass.ticks_back.Goals as goal
 use Rattle.suffix_staircase.proofs.backward_pass.Pass.ticks_back.Goals.{After-tick_back}
 
 pub tick_back-requires-clause-positive : goal.tick_back-requires-clause-positive
-tick_back-requires-clause-positive c = phi_positive c.args.self.now.set c.args.trace.now c.loop-g.g c.loop-g.self.level.phi c.loop-g.self.level.gap c.loop-g.invariant.known.gaps.named
+tick_back-requires-clause-positive c = phi_positive
+    c.args.self.now.set c.args.trace.now c.loop-g.g c.loop-g.self.level.phi c.loop-g.self.level.gap c.loop-g.invariant.known.gaps.named
 
 pub tick_back-requires-clause-latest : goal.tick_back-requires-clause-latest
 tick_back-requires-clause-latest c = c.loop-g.invariant.known.steps.next_steps.latest.within
 
 -- one tick back by the longest gap that begins there
-lowered : (c : After-tick_back) → TickLowered c.args.self.now.set c.args.trace.now c.args.done (c.loop-g.g - 1) c.tick_back.new.self c.loop-g.builder
+lowered : (c : After-tick_back)
+    → TickLowered c.args.self.now.set c.args.trace.now c.args.done (c.loop-g.g - 1) c.tick_back.new.self c.loop-g.builder
 lowered c =
     let g = c.loop-g.g - 1 in
     let next : c.loop-g.g ≡ g + 1 = omega (arith, c.loop-g-test.true) in
@@ -35,11 +37,13 @@ loop-g-preserved c =
     record {
       low = omega (arith, c.loop-g-test.true, c.tick_at-tick.ensures.value);
       high = omega (arith, c.loop-g.invariant.high);
-      known = subst (λ (levels : List Level). KnowsTicksFrom c.args.self.now.set c.args.trace.now c.args.done (c.loop-g.g - 1) c.tick_back.new.self levels)
-          (ap (λ (l : Level). l ∷ c.loop-g.builder) c.tick_back.ensures.kept ∙ sym c.in_ok-lower.ensures.ok) (lowered (goal.at.loop-g-preserved c).After-tick_back).known;
+      known = subst (λ (levels : List Level). KnowsTicksFrom c.args.self.now.set c.args.trace.now c.args.done
+          (c.loop-g.g - 1) c.tick_back.new.self levels) (ap (λ (l : Level). l ∷ c.loop-g.builder) c.tick_back.ensures.kept
+          ∙ sym c.in_ok-lower.ensures.ok) (lowered (goal.at.loop-g-preserved c).After-tick_back).known;
     }
 
 pub returns : goal.returns
 returns c =
-    let first : c.loop-g.g ≡ tick_of c.args.trace.now c.args.done + 1 = omega (arith, c.loop-g.invariant.low, c.tick_at-tick.ensures.value, c.loop-g-test.false) in
+    let first : c.loop-g.g ≡ tick_of c.args.trace.now c.args.done + 1 =
+    omega (arith, c.loop-g.invariant.low, c.tick_at-tick.ensures.value, c.loop-g-test.false) in
     record { known = rw first at c.loop-g.invariant.known; tick = c.tick_at-tick.ensures.value }

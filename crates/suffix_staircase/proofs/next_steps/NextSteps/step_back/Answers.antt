@@ -6,11 +6,13 @@ use Rattle.suffix_staircase.proofs.next_steps.NextSteps.step_back.Goals as goal
 use Rattle.suffix_staircase.proofs.next_steps.NextSteps.step_back.Goals.{After-step_of}
 
 -- the next steps with that of the processor whose step it is
-known_next : (c : After-step_of) → AreNextTicks (λ p. IsTrue (has_proc c.args.set p)) c.args.trace.now (c.args.no - 1) (set c.args.self.now.by_processor.items c.step_of.result.now.proc c.args.tick)
+known_next : (c : After-step_of) → AreNextTicks (λ p. IsTrue (has_proc c.args.set p)) c.args.trace.now
+    (c.args.no - 1) (set c.args.self.now.by_processor.items c.step_of.result.now.proc c.args.tick)
 known_next c =
     let proc = c.step_of.ensures.sound.procs c.args.no c.step_of.result.now c.step_of.ensures.step in
     rw c.requires.tick
-    (AreNextTicks-back (λ p. IsTrue (has_proc c.args.set p)) c.args.trace.now c.requires.timed c.args.no c.step_of.result.now c.args.self.now.by_processor.items proc.0 proc.1 c.step_of.ensures.step c.requires.known.next)
+    (AreNextTicks-back (λ p. IsTrue (has_proc c.args.set p)) c.args.trace.now c.requires.timed
+    c.args.no c.step_of.result.now c.args.self.now.by_processor.items proc.0 proc.1 c.step_of.ensures.step c.requires.known.next)
 
 pub index_mut-requires : goal.index_mut-requires
 index_mut-requires c =

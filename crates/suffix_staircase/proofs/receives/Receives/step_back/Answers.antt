@@ -15,8 +15,11 @@ last_missed-requires-clause-to c =
     omega (arith, to, c.requires.known.last_long)
 
 pub last_missed-requires-clause-taken : goal.last_missed-requires-clause-taken
-last_missed-requires-clause-taken c = taker_bound c.args.set c.args.trace.now c.args.no c.args.no c.in-Send.to c.args.self.now (sym c.contains-in-Send.ensures ∙ c.if-contains.true)
-    (c.step_of-step.result.now.proc, with_act c.args.trace.now.steps c.args.no c.step_of-step.result.now _ c.step_of-step.ensures.step c.in-Send.is) c.requires.known
+last_missed-requires-clause-taken c = taker_bound c.args.set c.args.trace.now c.args.no c.args.no c.in-Send.to c.args.self.now
+    (sym c.contains-in-Send.ensures ∙ c.if-contains.true) (
+      c.step_of-step.result.now.proc,
+      with_act c.args.trace.now.steps c.args.no c.step_of-step.result.now _ c.step_of-step.ensures.step c.in-Send.is,
+    ) c.requires.known
 
 pub note-requires-clause-ids : goal.note-requires-clause-ids
 note-requires-clause-ids c = rw c.as_slice.ensures
@@ -31,7 +34,8 @@ note-requires-clause-next c = first_bound c.args.set c.args.trace.now c.args.no 
     (sym c.contains.ensures ∙ c.if-not-contains.false)
 
 pub returns-then-not-contains-clause-known : goal.returns-then-not-contains-clause-known
-returns-then-not-contains-clause-known c = KnowsReceives-other c.args.set c.args.trace.now c.args.no c.step_of-step.result.now c.args.self.now c.step_of-step.ensures.sound c.step_of-step.ensures.step
+returns-then-not-contains-clause-known c = KnowsReceives-other
+    c.args.set c.args.trace.now c.args.no c.step_of-step.result.now c.args.self.now c.step_of-step.ensures.sound c.step_of-step.ensures.step
     (λ member. cc (member, c.contains.ensures, c.if-not-contains.true)) c.requires.known
 
 pub returns-then-contains-clause-known : goal.returns-then-contains-clause-known
@@ -49,13 +53,21 @@ returns-else-contains-clause-known c =
 pub returns-then-contains-clause-missed : goal.returns-then-contains-clause-missed
 returns-then-contains-clause-missed c =
     let sent = with_act c.args.trace.now.steps c.args.no c.step_of-step.result.now _ c.step_of-step.ensures.step c.in-Send.is in
-    rw c.last_missed.ensures (IsLastMissByNumber-from_known c.args.set c.args.trace.now c.args.no c.in-Send.to c.args.self.now c.step_of-step.ensures.sound
-    (dest_bound c.args.trace.now.config c.args.trace.now.steps c.args.no c.step_of-step.result.now.proc c.in-Send.to c.step_of-step.ensures.sound sent)
-    (record { from = c.step_of-step.result.now.proc; sent = sent; sender = sym c.contains.ensures ∙ c.if-not-contains.false; receiver = sym c.contains-in-Send.ensures ∙ c.if-contains.true }) c.requires.known)
+    rw c.last_missed.ensures
+    (IsLastMissByNumber-from_known c.args.set c.args.trace.now c.args.no c.in-Send.to c.args.self.now c.step_of-step.ensures.sound
+    (dest_bound c.args.trace.now.config c.args.trace.now.steps
+    c.args.no c.step_of-step.result.now.proc c.in-Send.to c.step_of-step.ensures.sound sent)
+    (record {
+      from = c.step_of-step.result.now.proc;
+      sent = sent;
+      sender = sym c.contains.ensures
+          ∙ c.if-not-contains.false;
+      receiver = sym c.contains-in-Send.ensures ∙ c.if-contains.true;
+    }) c.requires.known)
 
 pub returns-in-Receive-clause-known : goal.returns-in-Receive-clause-known
 returns-in-Receive-clause-known c = KnowsReceives-receive c.args.set c.args.trace.now c.args.no
     c.step_of-step.result.now.proc c.in-Receive.ids c.in-Receive.ends c.args.self.now c.note.new.self
-    c.step_of-step.ensures.sound
-    (c.step_of-step.ensures.sound.procs c.args.no c.step_of-step.result.now c.step_of-step.ensures.step).1 (sym c.contains.ensures ∙ c.if-not-contains.false)
-    (with_act c.args.trace.now.steps c.args.no c.step_of-step.result.now _ c.step_of-step.ensures.step c.in-Receive.is) c.requires.known (rw c.as_slice.ensures at c.note.ensures)
+    c.step_of-step.ensures.sound (c.step_of-step.ensures.sound.procs c.args.no c.step_of-step.result.now c.step_of-step.ensures.step).1
+    (sym c.contains.ensures ∙ c.if-not-contains.false) (with_act c.args.trace.now.steps c.args.no
+    c.step_of-step.result.now _ c.step_of-step.ensures.step c.in-Receive.is) c.requires.known (rw c.as_slice.ensures at c.note.ensures)

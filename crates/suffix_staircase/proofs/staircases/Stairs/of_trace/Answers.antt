@@ -20,5 +20,5 @@ all_back-requires-clause-known c =
     (subst (λ (s : ℕ). KnowsTicksFrom s t (length t.steps) (t.last + 1) pass []) (sym c.in_ok-pass.ensures.steps.members) known)
 
 pub returns : goal.returns
-returns c = rw c.build.ensures
-    (subst (λ (s : ℕ). AreLevels s c.args.trace.now c.all_back.new.builder) c.in_ok-pass.ensures.steps.members c.in_ok-all_back.ensures.levels)
+returns c = rw c.build.ensures (subst (λ (s : ℕ). AreLevels s c.args.trace.now c.all_back.new.builder)
+    c.in_ok-pass.ensures.steps.members c.in_ok-all_back.ensures.levels)

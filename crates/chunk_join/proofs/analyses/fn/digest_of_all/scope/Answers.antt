@@ -43,7 +43,8 @@ returns g c =
     let promised = c.loop-worker.invariant.2 in
     let count : length threads ≡ workers = search rules in
     let few : length threads ≤ workers = search rules in record {
-      digest = IsDigestBetween-whole threads c.joined-2.result set trace gate workers c.requires.some count promised c.joined-2.ensures.digest;
+      digest =
+          IsDigestBetween-whole threads c.joined-2.result set trace gate workers c.requires.some count promised c.joined-2.ensures.digest;
       entered = on_ok c.joined-2.result _ _ (all_in g.G.Gate.lets set trace gate workers threads count promised) c.joined-2.ensures.entered;
       held = on_held c.joined-2.result _ _ (one_held g.G.Gate.lets set trace gate workers threads few promised) c.joined-2.ensures.held;
     }
@@ -57,5 +58,6 @@ returns-in_default-spawn_with g c =
       digest = tt;
       entered = tt;
       held = unstarted_held c.joined.result c.unstarted.result _ c.unstarted.ensures.cause
-          (on_held c.joined.result _ _ (one_held g.G.Gate.lets c.captures.set.now c.captures.trace.now c.captures.gate.now workers threads few c.loop-worker.invariant.2) c.joined.ensures.held);
+          (on_held c.joined.result _ _ (one_held g.G.Gate.lets
+          c.captures.set.now c.captures.trace.now c.captures.gate.now workers threads few c.loop-worker.invariant.2) c.joined.ensures.held);
     }
