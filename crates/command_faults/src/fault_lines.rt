@@ -5,10 +5,10 @@ ghost use Rattle.command_faults.specs.FaultLines.{fault_line, ended_line};
 
 use crate::faults::{Fault, ListedField, PictureOption};
 use crate::hints::{
-    CertificateHint, DecisionsHint, DueHint, FileHint, FormulaHint, ListedHint, OutputHint,
-    PictureHint, RunListHint, TableHint, TraceHint,
+    DueHint, FileHint, FormulaHint, PictureHint, certificate_hint, decisions_hint, listed_hint,
+    output_hint, run_list_hint, table_hint, trace_hint,
 };
-use crate::log_fault_lines::{HelpLine, ImportHint, LengthHint, LogLead};
+use crate::log_fault_lines::{HelpLine, ImportHint, LengthHint, log_lead};
 use crate::outside_lines::{MemberLine, TickLine};
 use std::alloc::{AllocError, Global};
 use std::fmt;
@@ -45,19 +45,19 @@ impl fmt::Display for Fault {
                 let line = MemberLine(*option, outside);
                 write!(f, "synchrony: no such processor in {option}{line}")
             }
-            Fault::Trace(why) => { write!(f, "synchrony: trace: {why}{}", TraceHint(why)) }
+            Fault::Trace(why) => { write!(f, "synchrony: trace: {why}{}", trace_hint(why)) }
             Fault::Swapped => f.write_str(
                 "synchrony: trace: bad header\nsynchrony: the decisions begin as a trace: the two files may be swapped, and the trace comes first",
             ),
             Fault::Certificate(why) => {
-                write!(f, "synchrony: certificate: {why}{}", CertificateHint(why))
+                write!(f, "synchrony: certificate: {why}{}", certificate_hint(why))
             }
             Fault::Decisions(why) => {
-                write!(f, "synchrony: decisions: {why}{}", DecisionsHint(why))
+                write!(f, "synchrony: decisions: {why}{}", decisions_hint(why))
             }
-            Fault::Runs(why) => { write!(f, "synchrony: runs: {why}{}", RunListHint(why)) }
-            Fault::Table(why) => { write!(f, "synchrony: table: {why}{}", TableHint(why)) }
-            Fault::Listed(field) => { write!(f, "synchrony: bad {field}{}", ListedHint(*field)) }
+            Fault::Runs(why) => { write!(f, "synchrony: runs: {why}{}", run_list_hint(why)) }
+            Fault::Table(why) => { write!(f, "synchrony: table: {why}{}", table_hint(why)) }
+            Fault::Listed(field) => { write!(f, "synchrony: bad {field}{}", listed_hint(*field)) }
             Fault::Within(why) => { write!(f, "synchrony: bad --within{}", FormulaHint(*why)) }
             Fault::Memory => f.write_str("synchrony: out of memory"),
             Fault::Read => f.write_str("synchrony: cannot read"),
@@ -70,7 +70,7 @@ impl fmt::Display for Fault {
             }
             Fault::Write(_) => f.write_str("synchrony: cannot write"),
             Fault::Unwritten(trouble) => {
-                write!(f, "synchrony: cannot write{}", OutputHint(*trouble))
+                write!(f, "synchrony: cannot write{}", output_hint(*trouble))
             }
             Fault::NotARun(no, due) => {
                 write!(f, "synchrony: not a run: step {no}{}", DueHint(*due))
@@ -82,7 +82,7 @@ impl fmt::Display for Fault {
             Fault::Report(option, outside) => {
                 write!(f, "synchrony: bad {option}{}", TickLine(*option, outside))
             }
-            Fault::Log(why) => write!(f, "synchrony: {}{why}{}", LogLead(why), HelpLine(why)),
+            Fault::Log(why) => write!(f, "synchrony: {}{why}{}", log_lead(why), HelpLine(why)),
             Fault::Import(option) => { write!(f, "synchrony: bad {option}{}", ImportHint(*option)) }
             Fault::Length(option, given) => {
                 let hint = LengthHint(*option, given.as_str());

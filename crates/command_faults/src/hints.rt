@@ -2,6 +2,8 @@
 //! is none if nothing is known.
 
 ghost use Rattle.std.specs.Prelude.{◌≡◌, ◌+◌, ◌-◌, ◌^◌, min};
+ghost use Rattle.command_faults.specs.Hints.{certificate_hint, decisions_hint, listed_hint, output_hint};
+ghost use Rattle.command_faults.specs.Hints.{run_list_hint, table_hint, trace_hint};
 
 use crate::faults::{ListedField, PictureOption};
 use crate::files::{FileTrouble, OutputTrouble};
@@ -46,158 +48,91 @@ impl fmt::Display for FileTrouble {
 }
 
 /// Why standard output wasn't written.
-#[derive(Clone, Copy)]
-pub(crate) struct OutputHint(pub(crate) OutputTrouble);
-
-impl fmt::Display for OutputHint {
-    ghost use Rattle.std.specs.Prelude.{Some};
-    ghost use Rattle.command_faults.specs.Hints.{output_hint};
-
-    ghost output = { λ hint. Some (output_hint hint.0) };
-
-    fn fmt<W: fmt::Write>(&self, f: &mut fmt::Formatter<W>) -> fmt::Result {
-        f.write_str(match self.0 {
-            OutputTrouble::NoSpace => "\nsynchrony: standard output: no space left",
-            OutputTrouble::QuotaExceeded => "\nsynchrony: standard output: disk quota exceeded",
-            OutputTrouble::FileTooLarge => "\nsynchrony: standard output: file too large",
-            OutputTrouble::Unwritten => "\nsynchrony: standard output: cannot be written",
-        })
+pub(crate) fn output_hint(trouble: OutputTrouble) -> &'static str
+    ensures { result.now ≡ output_hint trouble }
+{
+    match trouble {
+        OutputTrouble::NoSpace => "\nsynchrony: standard output: no space left",
+        OutputTrouble::QuotaExceeded => "\nsynchrony: standard output: disk quota exceeded",
+        OutputTrouble::FileTooLarge => "\nsynchrony: standard output: file too large",
+        OutputTrouble::Unwritten => "\nsynchrony: standard output: cannot be written",
     }
 }
 
 /// What a trace begins with, for a text that doesn't begin as one.
-#[derive(Clone, Copy)]
-pub(crate) struct TraceHint<'a>(pub(crate) &'a TextError);
-
-impl fmt::Display for TraceHint<'_> {
-    ghost use Rattle.std.specs.Prelude.{Some};
-    ghost use Rattle.command_faults.specs.Hints.{trace_hint};
-
-    ghost output = { λ hint. Some (trace_hint hint.0.now) };
-
-    fn fmt<W: fmt::Write>(&self, f: &mut fmt::Formatter<W>) -> fmt::Result {
-        match self.0 {
-            TextError::BadHeader => f.write_str(
-                "\nsynchrony: a trace begins with dls-trace; if this is a log, import makes a trace of it",
-            ),
-            _ => f.write_str(""),
-        }
+pub(crate) fn trace_hint(why: &TextError) -> &'static str
+    ensures { result.now ≡ trace_hint why.now }
+{
+    match why {
+        TextError::BadHeader =>
+            "\nsynchrony: a trace begins with dls-trace; if this is a log, import makes a trace of it",
+        _ => "",
     }
 }
 
 /// What a certificate begins with, for a text that doesn't begin as one.
-#[derive(Clone, Copy)]
-pub(crate) struct CertificateHint<'a>(pub(crate) &'a ReportError);
-
-impl fmt::Display for CertificateHint<'_> {
-    ghost use Rattle.std.specs.Prelude.{Some};
-    ghost use Rattle.command_faults.specs.Hints.{certificate_hint};
-
-    ghost output = { λ hint. Some (certificate_hint hint.0.now) };
-
-    fn fmt<W: fmt::Write>(&self, f: &mut fmt::Formatter<W>) -> fmt::Result {
-        match self.0 {
-            ReportError::BadHeader => f.write_str(
-                "\nsynchrony: a certificate begins with gst,delta,phi,sent,missed,proc,from,to; the trace comes before it",
-            ),
-            _ => f.write_str(""),
-        }
+pub(crate) fn certificate_hint(why: &ReportError) -> &'static str
+    ensures { result.now ≡ certificate_hint why.now }
+{
+    match why {
+        ReportError::BadHeader =>
+            "\nsynchrony: a certificate begins with gst,delta,phi,sent,missed,proc,from,to; the trace comes before it",
+        _ => "",
     }
 }
 
-/// What decisions begin with, for a text that doesn't begin as theirs.
-#[derive(Clone, Copy)]
-pub(crate) struct DecisionsHint<'a>(pub(crate) &'a DecisionsError);
-
-impl fmt::Display for DecisionsHint<'_> {
-    ghost use Rattle.std.specs.Prelude.{Some};
-    ghost use Rattle.command_faults.specs.Hints.{decisions_hint};
-
-    ghost output = { λ hint. Some (decisions_hint hint.0.now) };
-
-    fn fmt<W: fmt::Write>(&self, f: &mut fmt::Formatter<W>) -> fmt::Result {
-        match self.0 {
-            DecisionsError::BadHeader => f.write_str(
-                "\nsynchrony: decisions begin with proc,tick,value; the trace comes before them",
-            ),
-            DecisionsError::BadFields(_) | DecisionsError::BadNumber(_) => f.write_str(
-                "\nsynchrony: a record is a processor, a tick and a value, all of them whole numbers; record 1 is the one after the header",
-            ),
-            DecisionsError::BadProcessor(_) | DecisionsError::BadTick(_) => f.write_str(
-                "\nsynchrony: the processor and the tick are some of the trace; record 1 is the one after the header",
-            ),
-            _ => f.write_str(""),
-        }
+/// What decisions begin with, for a text that doesn't begin as theirs; and what a record of them has.
+pub(crate) fn decisions_hint(why: &DecisionsError) -> &'static str
+    ensures { result.now ≡ decisions_hint why.now }
+{
+    match why {
+        DecisionsError::BadHeader =>
+            "\nsynchrony: decisions begin with proc,tick,value; the trace comes before them",
+        DecisionsError::BadFields(_) | DecisionsError::BadNumber(_) =>
+            "\nsynchrony: a record is a processor, a tick and a value, all of them whole numbers; record 1 is the one after the header",
+        DecisionsError::BadProcessor(_) | DecisionsError::BadTick(_) =>
+            "\nsynchrony: the processor and the tick are some of the trace; record 1 is the one after the header",
+        _ => "",
     }
 }
 
-/// What a list of runs begins with, for a text that doesn't begin as one.
-#[derive(Clone, Copy)]
-pub(crate) struct RunListHint<'a>(pub(crate) &'a RunListError);
-
-impl fmt::Display for RunListHint<'_> {
-    ghost use Rattle.std.specs.Prelude.{Some};
-    ghost use Rattle.command_faults.specs.Hints.{run_list_hint};
-
-    ghost output = { λ hint. Some (run_list_hint hint.0.now) };
-
-    fn fmt<W: fmt::Write>(&self, f: &mut fmt::Formatter<W>) -> fmt::Result {
-        match self.0 {
-            RunListError::BadHeader => f.write_str(
-                "\nsynchrony: a list of runs begins with trace,decisions,correct,start",
-            ),
-            RunListError::BadFields(_) => f.write_str(
-                "\nsynchrony: a record has four fields, and quotes around one with commas, as \"1,2\"; record 1 is the one after the header",
-            ),
-            RunListError::NoRuns => f.write_str(
-                "\nsynchrony: after the header a list has a record for each run, such as run.trace,run.decisions,\"1,2\",1",
-            ),
-            _ => f.write_str(""),
-        }
+/// What a list of runs begins with, for a text that doesn't begin as one; and what a record of it has.
+pub(crate) fn run_list_hint(why: &RunListError) -> &'static str
+    ensures { result.now ≡ run_list_hint why.now }
+{
+    match why {
+        RunListError::BadHeader =>
+            "\nsynchrony: a list of runs begins with trace,decisions,correct,start",
+        RunListError::BadFields(_) =>
+            "\nsynchrony: a record has four fields, and quotes around one with commas, as \"1,2\"; record 1 is the one after the header",
+        RunListError::NoRuns =>
+            "\nsynchrony: after the header a list has a record for each run, such as run.trace,run.decisions,\"1,2\",1",
+        _ => "",
     }
 }
 
 /// Where the table of a trace comes from, for a text that is no table of it.
-#[derive(Clone, Copy)]
-pub(crate) struct TableHint<'a>(pub(crate) &'a TableError);
-
-impl fmt::Display for TableHint<'_> {
-    ghost use Rattle.std.specs.Prelude.{Some};
-    ghost use Rattle.command_faults.specs.Hints.{table_hint};
-
-    ghost output = { λ hint. Some (table_hint hint.0.now) };
-
-    fn fmt<W: fmt::Write>(&self, f: &mut fmt::Formatter<W>) -> fmt::Result {
-        match self.0 {
-            TableError::TooLarge => f.write_str(""),
-            _ => f.write_str(
-                "\nsynchrony: import LOG --table prints the table of a trace, by the options by which import LOG printed the trace",
-            ),
-        }
+pub(crate) fn table_hint(why: &TableError) -> &'static str
+    ensures { result.now ≡ table_hint why.now }
+{
+    match why {
+        TableError::TooLarge => "",
+        _ =>
+            "\nsynchrony: import LOG --table prints the table of a trace, by the options by which import LOG printed the trace",
     }
 }
 
 /// What a field of a run in a list takes.
-#[derive(Clone, Copy)]
-pub(crate) struct ListedHint(pub(crate) ListedField);
-
-impl fmt::Display for ListedHint {
-    ghost use Rattle.std.specs.Prelude.{Some};
-    ghost use Rattle.command_faults.specs.Hints.{listed_hint};
-
-    ghost output = { λ hint. Some (listed_hint hint.0) };
-
-    fn fmt<W: fmt::Write>(&self, f: &mut fmt::Formatter<W>) -> fmt::Result {
-        f.write_str(match self.0 {
-            ListedField::Trace => "\nsynchrony: trace takes the path of a file, in UTF-8",
-            ListedField::Decisions => {
-                "\nsynchrony: decisions takes the path of a file, in UTF-8, or nothing for those of the replay"
-            }
-            ListedField::Correct => {
-                "\nsynchrony: correct takes all, none, or numbers from 1 to 64 with one comma between them"
-            }
-            ListedField::Start => "\nsynchrony: start takes a tick, or nothing",
-        })
+pub(crate) fn listed_hint(field: ListedField) -> &'static str
+    ensures { result.now ≡ listed_hint field }
+{
+    match field {
+        ListedField::Trace => "\nsynchrony: trace takes the path of a file, in UTF-8",
+        ListedField::Decisions =>
+            "\nsynchrony: decisions takes the path of a file, in UTF-8, or nothing for those of the replay",
+        ListedField::Correct =>
+            "\nsynchrony: correct takes all, none, or numbers from 1 to 64 with one comma between them",
+        ListedField::Start => "\nsynchrony: start takes a tick, or nothing",
     }
 }
 

@@ -2,7 +2,7 @@
 //! the line of an option by which no log is read.
 
 ghost use Rattle.std.specs.Prelude.{◌≡◌};
-ghost use Rattle.command_faults.specs.LogFaultLines.{hint_line};
+ghost use Rattle.command_faults.specs.LogFaultLines.{hint_line, log_lead};
 
 use crate::faults::ImportOption;
 use event_log::LogError;
@@ -10,21 +10,13 @@ use std::fmt;
 use timed_events::Hint;
 
 /// What comes before the reason of a refused log: nothing if it begins with an option that doesn't fit.
-#[derive(Clone, Copy)]
-pub(crate) struct LogLead<'a>(pub(crate) &'a LogError);
-
-impl fmt::Display for LogLead<'_> {
-    ghost use Rattle.std.specs.Prelude.{Some};
-    ghost use Rattle.command_faults.specs.LogFaultLines.{log_lead};
-
-    ghost output = { λ lead. Some (log_lead lead.0.now) };
-
-    fn fmt<W: fmt::Write>(&self, f: &mut fmt::Formatter<W>) -> fmt::Result {
-        match self.0 {
-            LogError::TickUnfit | LogError::UntilUnfit | LogError::IdleUnfit => f.write_str(""),
-            LogError::FromUnfit => f.write_str(""),
-            _ => f.write_str("log: "),
-        }
+pub(crate) fn log_lead(why: &LogError) -> &'static str
+    ensures { result.now ≡ log_lead why.now }
+{
+    match why {
+        LogError::TickUnfit | LogError::UntilUnfit | LogError::IdleUnfit | LogError::FromUnfit =>
+            "",
+        _ => "log: ",
     }
 }
 
