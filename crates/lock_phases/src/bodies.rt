@@ -47,9 +47,11 @@ impl Values {
 }
 
 impl Clone for Values {
-    ghost use Rattle.std.specs.Prelude.{◌≡◌};
+    ghost use Rattle.std.specs.Prelude.{◌≡◌, []};
 
     ghost is_clone = { λ a b. b ≡ a };
+
+    ghost is_infallible = { λ a. a ≡ [] };
 
     fn clone(&self) -> Result<Self, AllocError> {
         Ok(Values {
@@ -95,9 +97,11 @@ impl LockPairs {
 }
 
 impl Clone for LockPairs {
-    ghost use Rattle.std.specs.Prelude.{◌≡◌};
+    ghost use Rattle.std.specs.Prelude.{◌≡◌, []};
 
     ghost is_clone = { λ a b. b ≡ a };
+
+    ghost is_infallible = { λ a. a ≡ [] };
 
     fn clone(&self) -> Result<Self, AllocError> {
         Ok(LockPairs {

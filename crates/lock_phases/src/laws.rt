@@ -6,7 +6,7 @@
 //! and `next` the node after the round (`specs/NodeFunctions.antt`).
 
 ghost use Rattle.std.specs.Prelude.{ℕ, ◌≡◌, ◌≢◌, ◌⊎◌, ◌+◌, ◌-◌, ◌≤◌, List, Option};
-ghost use Rattle.std.specs.Prelude.{Some, true, unwrap_or, map, Contains};
+ghost use Rattle.std.specs.Prelude.{Some, true, unwrap_or, map};
 ghost use Rattle.std.specs.List.Sorted.{IsStrictlyIncreasing};
 ghost use Rattle.step_trace.specs.Configurations.{Setup, IsSetup};
 ghost use Rattle.lock_phases.specs.declared.bodies.Body.{Body};

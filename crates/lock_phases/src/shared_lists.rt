@@ -12,12 +12,14 @@ pub(crate) struct SharedList<T> {
 }
 
 impl<T> Model for SharedList<T> {
-    ghost use Rattle.std.specs.Prelude.{List, [], unwrap_or, option_map, vec_items};
+    ghost use Rattle.std.specs.Prelude.{List, [], ◌<◌, length, unwrap_or, option_map, vec_items, IfSome};
     ghost use Rattle.std.specs.Arc.{arc_value};
 
     ghost Value = { List T };
 
     ghost view = { λ a. unwrap_or (option_map vec_items (option_map arc_value a.items)) [] };
+
+    ghost invariant = { λ a. IfSome a.items (λ items. 0 < length (arc_value items).items) };
 }
 
 impl<T: Drop> SharedList<T> {
@@ -55,9 +57,11 @@ impl<T: Drop> SharedList<T> {
 }
 
 impl<T: Drop> Clone for SharedList<T> {
-    ghost use Rattle.std.specs.Prelude.{◌≡◌};
+    ghost use Rattle.std.specs.Prelude.{◌≡◌, []};
 
     ghost is_clone = { λ a b. b ≡ a };
+
+    ghost is_infallible = { λ a. a ≡ [] };
 
     fn clone(&self) -> Result<Self, AllocError> {
         Ok(SharedList {

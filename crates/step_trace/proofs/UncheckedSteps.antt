@@ -1,5 +1,5 @@
 -- Steps that are checked one after the other.
-use Rattle.std.proofs.Common.{ℕ, ◌≡◌, ◌+◌, ◌<◌, ◌∙◌, List, [], ◌∷◌, ◌++◌, length, get_or, take, drop, Some, None, Ok, sym, ap, subst, suc, arith}
+use Rattle.std.proofs.Common.{ℕ, ◌≡◌, ◌+◌, ◌<◌, ◌∙◌, List, [], ◌∷◌, ◌++◌, length, get_or, take, drop, Some, None, Ok, sym, ap, subst, refl, suc, arith, length-drop}
 use Rattle.std.proofs.lemmas.List.{take_more, take_all, drop_all, at_drop_more}
 use Rattle.std.proofs.Math.Seq.{take-append_seam, drop-append_seam}
 use Rattle.std.proofs.lemmas.Option.{get_or_from_slice_get}
@@ -10,10 +10,10 @@ use Rattle.step_trace.specs.Traces.{Recorded, step_at}
 use Rattle.step_trace.specs.Ticks.{tick_at, with_step}
 use Rattle.step_trace.specs.TickRefusals.{refusal_in}
 use Rattle.step_trace.specs.PlacedSteps.{Ticked}
-use Rattle.step_trace.specs.AppendedSteps.{appended, unless_refused, IsStepRefusal}
+use Rattle.step_trace.specs.AppendedSteps.{appended, unless_refused, IsReached, IsStepRefusal}
 use Rattle.step_trace.specs.UncheckedSteps.{front_of, rest_of}
 use Rattle.step_trace.proofs.StepPositions.{step_at_within}
-use Rattle.step_trace.proofs.AppendedSteps.{appended-none, appended-next, appended-refused}
+use Rattle.step_trace.proofs.AppendedSteps.{appended-none, appended-next, appended-refused, reached-first, reached-next}
 
 module _ (config : Setup) (placed : Ticked) (n last tick : ℕ) (x : Step) (each : length placed.ticks ≡ length placed.steps)
     (at : step_at placed.steps (n + 1) ≡ Some x) (time : tick ≡ tick_at placed.ticks (n + 1)) where
@@ -40,12 +40,32 @@ module _ (config : Setup) (placed : Ticked) (n last tick : ℕ) (x : Step) (each
       ∙ ap (λ (t : List ℕ). record { config = config; steps = take n placed.steps ++ x ∷ []; ticks = t; last = tick }) ticks
 
   -- the steps that are left begin with the next one
+  steps-left : drop n placed.steps ≡ x ∷ drop (n + 1) placed.steps
+  steps-left = at_drop_more (λ xs. xs) placed.steps n x inside ∙ ap (λ y. y ∷ drop (n + 1) placed.steps) the_step
+
+  ticks-left : drop n placed.ticks ≡ tick ∷ drop (n + 1) placed.ticks
+  ticks-left = at_drop_more (λ ts. ts) placed.ticks n 0 (let l = inside in omega (arith, l, each))
+      ∙ ap (λ t. t ∷ drop (n + 1) placed.ticks) the_tick
+
   rest : rest_of config placed n last ≡ appended (front_of config placed n last)
       (x ∷ drop (n + 1) placed.steps) (tick ∷ drop (n + 1) placed.ticks)
-  rest = at_drop_more (λ xs. appended (front_of config placed n last) xs (drop n placed.ticks)) placed.steps n x inside ∙ ap (λ y. appended
-      (front_of config placed n last) (y ∷ drop (n + 1) placed.steps) (drop n placed.ticks)) the_step ∙ at_drop_more (λ ts. appended
-      (front_of config placed n last) (x ∷ drop (n + 1) placed.steps) ts) placed.ticks n 0 (let l = inside in omega (arith, l, each))
-      ∙ ap (λ t. appended (front_of config placed n last) (x ∷ drop (n + 1) placed.steps) (t ∷ drop (n + 1) placed.ticks)) the_tick
+  rest = ap (λ xs. appended (front_of config placed n last) xs (drop n placed.ticks)) steps-left
+      ∙ ap (λ ts. appended (front_of config placed n last) (x ∷ drop (n + 1) placed.steps) ts) ticks-left
+
+  -- it is reached
+  pub left-here : IsReached (front_of config placed n last) (drop n placed.steps) (drop n placed.ticks) (length (take n placed.steps) + 1)
+  left-here = rw (steps-left, ticks-left)
+      (reached-first (front_of config placed n last) (x ∷ drop (n + 1) placed.steps) (tick ∷ drop (n + 1) placed.ticks)
+      (omega arith) (let e = sym (ap length ticks-left) in let f = sym (ap length steps-left) in
+      omega (arith, each, e, f, length-drop n placed.ticks, length-drop n placed.steps)))
+
+  -- if nothing is against it, so is what is left after it
+  pub left-next : (m : ℕ) → refusal_in (front_of config placed n last) tick x ≡ None
+      → IsReached (front_of config placed (n + 1) tick) (drop (n + 1) placed.steps) (drop (n + 1) placed.ticks) m
+      → IsReached (front_of config placed n last) (drop n placed.steps) (drop n placed.ticks) m
+  left-next m none h = rw (steps-left, ticks-left)
+      (reached-next (front_of config placed n last) x (drop (n + 1) placed.steps) tick (drop (n + 1) placed.ticks) m none
+      (subst (λ (t : Recorded). IsReached t (drop (n + 1) placed.steps) (drop (n + 1) placed.ticks) m) front-next h))
 
   -- if nothing is against it, the others lead on from the trace with it
   pub rest-next : refusal_in (front_of config placed n last) tick x ≡ None
@@ -62,23 +82,20 @@ module _ (config : Setup) (placed : Ticked) (n last tick : ℕ) (x : Step) (each
       ∙ appended-refused (front_of config placed n last) x (drop (n + 1) placed.steps) tick (drop (n + 1) placed.ticks) e h other
 
 -- a trace and further steps, of which none is checked yet
+pub left-begin : (P : Recorded → List Step → List ℕ → Type 0) (t : Recorded) (xs : List Step) (ts : List ℕ) (n : ℕ)
+    → n ≡ length t.steps → length t.ticks ≡ length t.steps → P t xs ts
+    → P (front_of t.config (record { steps = t.steps ++ xs; ticks = t.ticks ++ ts }) n t.last)
+    (drop n (t.steps ++ xs)) (drop n (t.ticks ++ ts))
+left-begin P t xs ts n e each h =
+    let steps : take n (t.steps ++ xs) ≡ t.steps = ap (λ k. take k (t.steps ++ xs)) e ∙ take-append_seam t.steps xs in
+    let ticks : take n (t.ticks ++ ts) ≡ t.ticks = ap (λ k. take k (t.ticks ++ ts)) (e ∙ sym each) ∙ take-append_seam t.ticks ts in
+    let more : drop n (t.steps ++ xs) ≡ xs = ap (λ k. drop k (t.steps ++ xs)) e ∙ drop-append_seam t.steps xs in
+    let later : drop n (t.ticks ++ ts) ≡ ts = ap (λ k. drop k (t.ticks ++ ts)) (e ∙ sym each) ∙ drop-append_seam t.ticks ts in
+    rw (steps, ticks, more, later) h
+
 pub rest-begin : (t : Recorded) (xs : List Step) (ts : List ℕ) (n : ℕ) → n ≡ length t.steps → length t.ticks ≡ length t.steps
     → rest_of t.config (record { steps = t.steps ++ xs; ticks = t.ticks ++ ts }) n t.last ≡ appended t xs ts
-rest-begin t xs ts n e each =
-    let long : n ≡ length t.ticks = e ∙ sym each in
-    ap (λ k. appended (record { config = t.config; steps = take k (t.steps ++ xs); ticks = take n (t.ticks ++ ts); last = t.last })
-    (drop k (t.steps ++ xs)) (drop n (t.ticks ++ ts))) e
-    ∙ ap (λ k. appended
-    (record { config = t.config; steps = take (length t.steps) (t.steps ++ xs); ticks = take k (t.ticks ++ ts); last = t.last })
-    (drop (length t.steps) (t.steps ++ xs)) (drop k (t.ticks ++ ts))) long
-    ∙ ap
-    (λ (s : List Step).
-    appended (record { config = t.config; steps = s; ticks = take (length t.ticks) (t.ticks ++ ts); last = t.last })
-    (drop (length t.steps) (t.steps ++ xs)) (drop (length t.ticks) (t.ticks ++ ts))) (take-append_seam t.steps xs)
-    ∙ ap (λ (s : List ℕ). appended (record { config = t.config; steps = t.steps; ticks = s; last = t.last })
-    (drop (length t.steps) (t.steps ++ xs)) (drop (length t.ticks) (t.ticks ++ ts))) (take-append_seam t.ticks ts)
-    ∙ ap (λ (s : List Step). appended t s (drop (length t.ticks) (t.ticks ++ ts))) (drop-append_seam t.steps xs)
-    ∙ ap (λ (s : List ℕ). appended t xs s) (drop-append_seam t.ticks ts)
+rest-begin t xs ts n e each = left-begin (λ u ys us. appended u ys us ≡ appended t xs ts) t xs ts n e each refl
 
 -- all steps are checked
 pub rest-end : (config : Setup) (placed : Ticked) (n last : ℕ) → n ≡ length placed.steps → length placed.ticks ≡ length placed.steps

@@ -1,5 +1,5 @@
 -- Several steps that are appended, one after the other (own).
-use Rattle.std.specs.Prelude.{ℕ, ◌≡◌, ◌+◌, List, [], ◌∷◌, length, Option, Some, None, Result, Ok, Err}
+use Rattle.std.specs.Prelude.{ℕ, ◌≡◌, ◌+◌, ◌⊎◌, List, [], ◌∷◌, length, Option, Some, None, Result, Ok, Err}
 use Rattle.step_trace.specs.declared.steps.Step.{Step}
 use Rattle.step_trace.specs.declared.traces.PushError.{PushError}
 use Rattle.step_trace.specs.declared.traces.PushError.TheVariants.{Memory}
@@ -23,3 +23,10 @@ appended trace (x ∷ xs) (tick ∷ ticks) =
 -- the answer is this refusal, or out of memory
 abbrev pub IsStepRefusal : Result Recorded StepRefused → StepRefused → Type 0
 IsStepRefusal result e = (e.why ≡ Memory → ⊥) → result ≡ Err e
+
+-- this is the number of one of these steps, and the trace takes those before it, one after the other
+unfoldable pub IsReached : Recorded → List Step → List ℕ → ℕ → Type 0
+IsReached trace [] ticks at = ⊥
+IsReached trace (x ∷ xs) [] at = ⊥
+IsReached trace (x ∷ xs) (tick ∷ ticks) at = (at ≡ length trace.steps + 1)
+    ⊎ ((refusal_in trace tick x ≡ None) × IsReached (with_step trace tick x) xs ticks at)

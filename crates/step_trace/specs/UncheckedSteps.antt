@@ -7,7 +7,7 @@ use Rattle.step_trace.specs.Traces.{Recorded}
 use Rattle.step_trace.specs.Ticks.{IsTrace}
 use Rattle.step_trace.specs.PlacedSteps.{Ticked}
 use Rattle.step_trace.specs.DeliveryIndex.{IsIndex}
-use Rattle.step_trace.specs.AppendedSteps.{appended}
+use Rattle.step_trace.specs.AppendedSteps.{appended, IsReached}
 
 -- the first n of these steps, as a trace that ends in this tick
 abbrev pub front_of : Setup → Ticked → ℕ → ℕ → Recorded
@@ -25,6 +25,11 @@ checked u = front_of u.config u.placed (length u.taken.items) u.last
 -- where the others lead it
 abbrev pub unchecked : Unchecked → Result Recorded StepRefused
 unchecked u = rest_of u.config u.placed (length u.taken.items) u.last
+
+-- all steps before this number, which is that of an unchecked one, fit where they are
+abbrev pub IsLeft : Unchecked → ℕ → Type 0
+IsLeft u at = IsReached (checked u) (drop (length u.taken.items) u.placed.steps)
+    (drop (length u.taken.items) u.placed.ticks) at
 
 -- What was checked is a trace, and the flags say which of its messages were taken.
 pub record IsChecked (u : Unchecked) : Type 0 where

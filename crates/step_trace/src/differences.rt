@@ -1,7 +1,8 @@
 //! Where a trace differs from one that was seen before.
 
-ghost use Rattle.std.specs.Prelude.{◌≡◌, ◌≢◌, ◌↔◌, ◌+◌, ◌<◌, ◌≤◌, ℕ, None, length, IsTrue, IfOk, OnErr};
+ghost use Rattle.std.specs.Prelude.{◌≡◌, ◌≢◌, ◌+◌, ◌<◌, ◌≤◌, ℕ, None, length, IfOk, OnErr};
 ghost use Rattle.step_trace.specs.Differences.{placed_at};
+ghost use Rattle.step_trace.specs.Traces.{ids_at};
 
 use crate::steps::Step;
 use crate::traces::Trace;
@@ -10,10 +11,11 @@ use std::alloc::AllocError;
 impl Trace {
     /// A copy of the step of this number, with its tick before it, if there is one.
     ///
-    /// Fails only if out of memory, and only if there is a step.
+    /// Fails only if out of memory, and only if the step takes more than one message.
     pub fn placed(&self, no: u64) -> Result<Option<(u64, Step)>, AllocError>
         ensures placed { IfOk result (λ there. there ≡ placed_at self.now no) }
         ensures more { OnErr result (placed_at self.now no ≢ None) }
+        ensures several { OnErr result (1 < length (ids_at self.now.steps no)) }
     {
         match self.step(no) {
             Some(step) => Ok(Some((self.tick_at(no), step.clone()?))),

@@ -1,7 +1,7 @@
 //! Steps that no trace has yet.
 
-ghost use Rattle.std.specs.Prelude.{◌≡◌, [], ◌++◌, ◌∷◌, ◌+◌, length, IfOk, OnOk, IfErr, OnErr, Ok, None, Some};
-ghost use Rattle.step_trace.specs.AppendedSteps.{appended, unless_refused, IsStepRefusal};
+ghost use Rattle.std.specs.Prelude.{◌≡◌, [], ◌++◌, ◌∷◌, ◌+◌, length, IfOk, OnOk, IfErr, OnErr, Ok, None};
+ghost use Rattle.step_trace.specs.AppendedSteps.{appended, unless_refused, IsReached, IsStepRefusal};
 ghost use Rattle.step_trace.specs.Ticks.{with_step};
 ghost use Rattle.step_trace.specs.TickRefusals.{refusal_in};
 
@@ -77,12 +77,13 @@ impl Trace {
     /// The trace with these steps behind its own, each in its tick, as `push_at` appends one after the other. So many
     /// as a page of the trace has, which begin where one begins, are taken unchanged.
     ///
-    /// Refuses the first step that `push_at` refuses, for the same reason, and out of memory at any step. The trace is
-    /// then gone.
+    /// Refuses the first step that `push_at` refuses, for the same reason, and out of memory at any step up to that
+    /// one. The trace is then gone.
     pub fn with_steps(self, steps: LooseSteps) -> Result<Self, StepRefused>
         ensures appended { IfOk result
             (λ longer. appended self steps.steps steps.ticks ≡ Ok longer) }
         ensures refused { IfErr result (IsStepRefusal (appended self steps.steps steps.ticks)) }
+        ensures reached { IfErr result (λ e. IsReached self steps.steps steps.ticks e.no) }
     {
         let len = self.len();
         if steps.len() == PAGE_LEN && len % PAGE_LEN == 0 && len + PAGE_LEN <= MAX_STEPS {
@@ -97,6 +98,7 @@ impl Trace {
         ensures appended { IfOk result
             (λ longer. appended self steps.steps steps.ticks ≡ Ok longer) }
         ensures refused { IfErr result (IsStepRefusal (appended self steps.steps steps.ticks)) }
+        ensures reached { IfErr result (λ e. IsReached self steps.steps steps.ticks e.no) }
     {
         let LooseSteps { steps, ticks } = steps;
         let mut trace = self;
@@ -113,6 +115,7 @@ impl Trace {
         ensures refused { IfErr result
             (IsStepRefusal (unless_refused (refusal_in self.old tick step)
             (length self.old.steps + 1) (Ok self.old))) }
+        ensures no { IfErr result (λ e. e.no ≡ length self.old.steps + 1) }
     {
         let no = self.len() as u64 + 1;
         match self.push_at(u64::from(tick), step) {

@@ -1,5 +1,8 @@
 //! The ids that a Receive takes.
 
+ghost use Rattle.std.specs.Prelude.{◌≡◌, ◌<◌, IfOk, OnErr, length};
+ghost use Rattle.step_trace.specs.KeptIds.{BoxesOnlyMore, ids_in};
+
 use std::alloc::{AllocError, Global};
 use std::marker::Model;
 
@@ -25,7 +28,11 @@ impl Model for MessageIds {
 
     ghost Value = { List ℕ };
 
+    ghost use Rattle.step_trace.specs.KeptIds.{BoxesOnlyMore};
+
     ghost view = { λ a. ids_in a.ids };
+
+    ghost invariant = { λ a. BoxesOnlyMore a.ids };
 }
 
 impl MessageIds {
@@ -68,17 +75,31 @@ impl MessageIds {
 }
 
 impl Clone for MessageIds {
-    ghost use Rattle.std.specs.Prelude.{◌≡◌};
+    ghost use Rattle.std.specs.Prelude.{◌≡◌, ◌≤◌, length};
 
     ghost is_clone = { λ a b. b ≡ a };
 
+    // (one id or none takes no memory)
+    ghost is_infallible = { λ ids. length ids ≤ 1 };
+
     fn clone(&self) -> Result<Self, AllocError> {
-        let ids = match &self.ids {
-            Ids::Nothing => Ids::Nothing,
-            Ids::One(one) => Ids::One([one[0]]),
-            Ids::Two(two) => Ids::Two(two.clone()?),
-            Ids::Several(items) => Ids::Several(items.clone()?),
-        };
-        Ok(MessageIds { ids })
+        Ok(MessageIds {
+            ids: copied(&self.ids)?,
+        })
+    }
+}
+
+/// A copy of these ids. It takes memory only if there is more than one.
+fn copied(ids: &Ids) -> Result<Ids, AllocError>
+    requires { BoxesOnlyMore ids.now }
+    ensures ids { IfOk result (λ copy. ids_in copy ≡ ids_in ids.now) }
+    ensures boxes { IfOk result (λ copy. BoxesOnlyMore copy) }
+    ensures more { OnErr result (1 < length (ids_in ids.now)) }
+{
+    match ids {
+        Ids::Nothing => Ok(Ids::Nothing),
+        Ids::One(one) => Ok(Ids::One([one[0]])),
+        Ids::Two(two) => Ok(Ids::Two(two.clone()?)),
+        Ids::Several(items) => Ok(Ids::Several(items.clone()?)),
     }
 }

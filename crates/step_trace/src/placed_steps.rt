@@ -1,8 +1,7 @@
 //! The steps of a trace in the order of real time, each with its tick.
 
 ghost use Rattle.std.specs.Prelude.{◌≡◌, ◌++◌, ◌∷◌, [], ◌≤◌, ◌<◌, ◌+◌, ◌%◌, ◌↔◌, ℕ, length, vec_len};
-ghost use Rattle.std.specs.Prelude.{option_copied, option_map, OnOk, OnErr, IfOk, IsTrue, List};
-ghost use Rattle.std.specs.Option.{option_map_or};
+ghost use Rattle.std.specs.Prelude.{option_copied, OnOk, OnErr, IfOk, IsTrue, List};
 ghost use Rattle.step_trace.specs.declared.traces.TheConstants.{MAX_STEPS};
 ghost use Rattle.step_trace.specs.declared.steps.Step.{Step};
 ghost use Rattle.step_trace.specs.Steps.{act_ids};

@@ -1,6 +1,6 @@
 //! Sets of processors, as a command line writes them.
 
-ghost use Rattle.std.specs.Prelude.{◌≡◌, ◌≢◌, ℕ, List, IfSome, IfNone, codes};
+ghost use Rattle.std.specs.Prelude.{◌≢◌, ℕ, List, IfSome, IfNone, codes};
 ghost use Rattle.step_trace.specs.ProcessorLists.{IsListOf, IsSetIn, HasMembers};
 
 use crate::numbers::read_number;

@@ -1,6 +1,6 @@
 //! Well-formed lists of steps under a configuration, each step in its tick.
 
-ghost use Rattle.std.specs.Prelude.{◌≡◌, [], ◌++◌, ◌∷◌, ◌≤◌, ◌<◌, length, option_copied, option_map, OnOk};
+ghost use Rattle.std.specs.Prelude.{◌≡◌, [], ◌∷◌, ◌≤◌, ◌<◌, length, option_copied, OnOk};
 ghost use Rattle.std.specs.Prelude.{OnErr, IfErr, IfOk, IsTrue, ◌↔◌, None, Ok, ◌+◌, ◌%◌, ◌⊎◌, ℕ};
 
 use crate::configurations::Config;
@@ -101,7 +101,7 @@ impl Trace {
     ghost use Rattle.step_trace.specs.OwnSteps.{own_steps};
     ghost use Rattle.step_trace.specs.PushRefusals.{refusal, IsRefusal};
     ghost use Rattle.step_trace.specs.TickRefusals.{refusal_in, next_refusal, IsJustifiedIn, NamesLeastIn};
-    ghost use Rattle.step_trace.specs.AppendedSteps.{appended, IsStepRefusal};
+    ghost use Rattle.step_trace.specs.AppendedSteps.{appended, IsReached, IsStepRefusal};
     ghost use Rattle.step_trace.specs.declared.paged_lists.TheConstants.{PAGE_LEN};
 
     /// The trace of a configuration that has no steps, and no tick yet. Takes no memory.
@@ -306,6 +306,7 @@ impl Trace {
         requires room { length self.steps + PAGE_LEN ≤ MAX_STEPS }
         ensures appended { IfOk result (λ longer. appended self page.steps page.ticks ≡ Ok longer) }
         ensures refused { IfErr result (IsStepRefusal (appended self page.steps page.ticks)) }
+        ensures reached { IfErr result (λ e. IsReached self page.steps page.ticks e.no) }
     {
         let Trace {
             config,

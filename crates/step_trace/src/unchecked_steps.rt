@@ -1,8 +1,8 @@
 //! Steps that a trace has taken unchanged, and that are checked after that, one after the other.
 
-ghost use Rattle.std.specs.Prelude.{◌≡◌, ◌<◌, ◌+◌, length, OnOk, IfErr};
+ghost use Rattle.std.specs.Prelude.{◌≡◌, ◌<◌, ◌+◌, ℕ, length, OnOk, IfErr};
 ghost use Rattle.step_trace.specs.AppendedSteps.{IsStepRefusal};
-ghost use Rattle.step_trace.specs.UncheckedSteps.{IsChecked, unchecked};
+ghost use Rattle.step_trace.specs.UncheckedSteps.{IsChecked, IsLeft, unchecked};
 
 use crate::configurations::Config;
 use crate::delivery_index::append_flag;
@@ -33,6 +33,7 @@ impl Unchecked {
         ensures placed { self.new.placed ≡ self.old.placed }
         ensures leads { OnOk result (unchecked self.new ≡ unchecked self.old) }
         ensures refused { IfErr result (IsStepRefusal (unchecked self.old)) }
+        ensures reached { IfErr result (λ e. IsLeft self.old e.no) }
     {
         while self.taken.len() < self.placed.len() {
             self.check_next()?;
@@ -50,6 +51,8 @@ impl Unchecked {
         ensures placed { self.new.placed ≡ self.old.placed }
         ensures leads { OnOk result (unchecked self.new ≡ unchecked self.old) }
         ensures refused { IfErr result (IsStepRefusal (unchecked self.old)) }
+        ensures reached { IfErr result (λ e. IsLeft self.old e.no) }
+        ensures later { OnOk result ((no : ℕ) → IsLeft self.new no → IsLeft self.old no) }
     {
         let count = self.taken.len();
         let no = count as u64 + 1;

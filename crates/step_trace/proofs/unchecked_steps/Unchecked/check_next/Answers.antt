@@ -1,15 +1,16 @@
-use Rattle.std.proofs.Common.{◌≡◌, ◌+◌, ◌∙◌, List, length, take, ap, sym, subst, Some, refl, arith}
+use Rattle.std.proofs.Common.{◌≡◌, ◌+◌, ◌∙◌, List, length, take, ap, sym, subst, drop, Some, refl, arith}
 use Rattle.std.proofs.lemmas.List.{length-take-le}
 use Rattle.step_trace.specs.declared.steps.Step.{Step}
 use Rattle.step_trace.specs.Traces.{Recorded, step_at}
 use Rattle.step_trace.specs.Ticks.{tick_at, IsTrace}
 use Rattle.step_trace.specs.TickRefusals.{refusal_in}
 use Rattle.step_trace.specs.DeliveryIndex.{IsIndex}
+use Rattle.step_trace.specs.AppendedSteps.{IsReached}
 use Rattle.step_trace.specs.UncheckedSteps.{checked, front_of, rest_of}
 use Rattle.step_trace.proofs.Growth.{IsIndex-push}
 use Rattle.step_trace.proofs.TickReasons.{CanAppend-from_none, known_from_none}
 use Rattle.step_trace.proofs.TickPositions.{tick_of-limit}
-use Rattle.step_trace.proofs.UncheckedSteps.{front-next, rest-next, rest-refused}
+use Rattle.step_trace.proofs.UncheckedSteps.{front-next, left-here, left-next, rest-next, rest-refused}
 use Rattle.step_trace.proofs.unchecked_steps.Unchecked.check_next.Goals as goal
 
 pub step_refusal-refusal-requires-clause-ended : goal.step_refusal-refusal-requires-clause-ended
@@ -81,3 +82,39 @@ returns-clause-leads c =
     ap (λ k. rest_of u.config u.placed k c.tick-tick.result) len
     ∙ rest-next u.config u.placed n u.last c.tick-tick.result c.in-Some.step.now c.requires.sound.each at time
     (sym why ∙ c.in_default-refusal.is)
+
+pub returns-in-Some-refusal-clause-reached : goal.returns-in-Some-refusal-clause-reached
+returns-in-Some-refusal-clause-reached c =
+    let u = c.args.self.now in
+    let n = length u.taken.items in
+    let count : c.len-count.result ≡ n = (let l = c.len-count.ensures in let ok = u.taken.ok in omega (arith, l, ok)) in
+    let at : step_at u.placed.steps (n + 1) ≡ Some c.in-Some.step.now = rw count at (sym c.in-Some.ensures) in
+    let time : c.tick-tick.result ≡ tick_at u.placed.ticks (n + 1) = rw count at c.tick-tick.ensures in
+    rw count (subst (λ k. IsReached (checked u) (drop n u.placed.steps) (drop n u.placed.ticks) (k + 1))
+    (length-take-le n u.placed.steps c.requires.sound.inside)
+    (left-here u.config u.placed n u.last c.tick-tick.result c.in-Some.step.now c.requires.sound.each at time))
+
+pub returns-in_default-reserve-clause-reached : goal.returns-in_default-reserve-clause-reached
+returns-in_default-reserve-clause-reached c =
+    let u = c.args.self.now in
+    let n = length u.taken.items in
+    let count : c.len-count.result ≡ n = (let l = c.len-count.ensures in let ok = u.taken.ok in omega (arith, l, ok)) in
+    let at : step_at u.placed.steps (n + 1) ≡ Some c.in-Some.step.now = rw count at (sym c.in-Some.ensures) in
+    let time : c.tick-tick.result ≡ tick_at u.placed.ticks (n + 1) = rw count at c.tick-tick.ensures in
+    rw count (subst (λ k. IsReached (checked u) (drop n u.placed.steps) (drop n u.placed.ticks) (k + 1))
+    (length-take-le n u.placed.steps c.requires.sound.inside)
+    (left-here u.config u.placed n u.last c.tick-tick.result c.in-Some.step.now c.requires.sound.each at time))
+
+pub returns-clause-later : goal.returns-clause-later
+returns-clause-later c = λ m h.
+    let u = c.args.self.now in
+    let n = length u.taken.items in
+    let count : c.len-count.result ≡ n = (let l = c.len-count.ensures in let ok = u.taken.ok in omega (arith, l, ok)) in
+    let at : step_at u.placed.steps (n + 1) ≡ Some c.in-Some.step.now = rw count at (sym c.in-Some.ensures) in
+    let time : c.tick-tick.result ≡ tick_at u.placed.ticks (n + 1) = rw count at c.tick-tick.ensures in
+    let why : c.step_refusal-refusal.result ≡ refusal_in (checked u) c.tick-tick.result c.in-Some.step.now =
+    rw (c.first-so_far.ensures, count) at c.step_refusal-refusal.ensures in
+    let len : length c.append_flag.new.taken.items ≡ n + 1 = rw c.reserve.ensures.items at c.append_flag.ensures.len in
+    left-next u.config u.placed n u.last c.tick-tick.result c.in-Some.step.now c.requires.sound.each at time m
+    (sym why ∙ c.in_default-refusal.is)
+    (subst (λ k. IsReached (front_of u.config u.placed k c.tick-tick.result) (drop k u.placed.steps) (drop k u.placed.ticks) m) len h)
