@@ -1,11 +1,10 @@
 -- What it means that some of the first steps are in a column.
-use Rattle.std.proofs.Common.{ℕ, ◌≡◌, ◌∙◌, ◌<◌, ◌≤◌, ◌==◌, Bool, true, false, inl, inr, ◌↔◌, List, length, Option, Some, None, if◌then◌else◌, refl, zero, suc, arith, ap}
-use Rattle.std.specs.Option.{option_map_or}
+use Rattle.std.proofs.Common.{ℕ, ◌≡◌, ◌∙◌, ◌<◌, ◌≤◌, ◌==◌, Bool, true, false, inl, inr, ◌↔◌, List, [], ◌∷◌, length, Some, if◌then◌else◌, refl, zero, suc, arith, ap}
 use Rattle.std.proofs.lemmas.Bool.{cases_lt, eqb-true, le-leb, lt-ltb, and_parts, and_from}
 use Rattle.step_trace.specs.declared.processors.TheConstants.{MAX_MEMBER}
 use Rattle.step_trace.specs.declared.steps.Step.{Step}
 use Rattle.step_trace.specs.Ticks.{tick_of}
-use Rattle.step_trace.specs.Traces.{Recorded, IsStepOf, step_at}
+use Rattle.step_trace.specs.Traces.{Recorded, IsStepOf}
 use Rattle.step_trace.proofs.StepPositions.{step_at_within}
 use Rattle.picture_marks.specs.declared.report_rows.TheConstants.{COLUMNS}
 use Rattle.picture_marks.specs.declared.strokes.Strokes.{Strokes}
@@ -13,23 +12,23 @@ use Rattle.picture_marks.specs.Messages.{proc_of}
 use Rattle.picture_marks.specs.Rows.{column_in}
 use Rattle.picture_marks.specs.Strokes.{StepsInColumn, ShowsSteps, busy_at, has_stroke, is_in_column, steps_to}
 
--- a step whose processor is one
-step_of : (steps : List Step) (k p : ℕ) → 1 ≤ p → proc_of steps k ≡ p → IsStepOf steps k p
-step_of steps k p low e = go (step_at steps k) refl e
-  where
-    go : (o : Option Step) → step_at steps k ≡ o → option_map_or (λ x. x.proc) o 0 ≡ p → IsStepOf steps k p
-    go None at same = absurd (omega arith)
-    go (Some x) at same = (x.act, at ∙ ap (λ (q : ℕ). Some (record { proc = q; act = x.act })) same)
+-- a step whose processor is this one
+step_of : (steps : List Step) (k p : ℕ) → k < length steps → proc_of steps (suc k) ≡ p → IsStepOf steps (suc k) p
+step_of [] k p inside e = absurd (omega (arith, inside))
+step_of (x ∷ steps) zero p inside e = (x.act, ap (λ (q : ℕ). Some (record { proc = q; act = x.act })) e)
+step_of (x ∷ steps) (suc k) p inside e = step_of steps k p (omega (arith, inside)) e
 
-steps_so : (trace : Recorded) (columns p c n : ℕ) → 1 ≤ p → steps_to trace columns p c n ≡ true → StepsInColumn trace columns p c
-steps_so trace columns p c zero low h = cc
-steps_so trace columns p c (suc n) low h = go (is_in_column trace columns p c (suc n)) refl h (λ e. steps_so trace columns p c n low e)
+steps_so : (trace : Recorded) (columns p c n : ℕ)
+    → n ≤ length trace.steps → steps_to trace columns p c n ≡ true → StepsInColumn trace columns p c
+steps_so trace columns p c zero high h = cc
+steps_so trace columns p c (suc n) high h =
+    go (is_in_column trace columns p c (suc n)) refl h (λ e. steps_so trace columns p c n (omega (arith, high)) e)
   where
     go : (t : Bool) → is_in_column trace columns p c (suc n) ≡ t → (if t then true else steps_to trace columns p c n) ≡ true
         → (steps_to trace columns p c n ≡ true → StepsInColumn trace columns p c) → StepsInColumn trace columns p c
     go true e h before =
         let t = and_parts (proc_of trace.steps (suc n) == p) (column_in columns trace.last (tick_of trace (suc n)) == c) e in
-        let step = step_of trace.steps (suc n) p low (eqb-true _ _ t.0) in
+        let step = step_of trace.steps n p (omega (arith, high)) (eqb-true _ _ t.0) in
         record { tick = tick_of trace (suc n); steps = record { place = suc n; step = step; tick = refl }; column = eqb-true _ _ t.1 }
     go false e h before = before h
 
@@ -56,9 +55,9 @@ in_column trace columns p c g =
     grind (arith, own, tick, column)
 
 pub steps_exact : (trace : Recorded) (columns p c : ℕ)
-    → 1 ≤ p → steps_to trace columns p c (length trace.steps) ≡ true ↔ StepsInColumn trace columns p c
-steps_exact trace columns p c low = (
-  (λ h. steps_so trace columns p c (length trace.steps) low h),
+    → steps_to trace columns p c (length trace.steps) ≡ true ↔ StepsInColumn trace columns p c
+steps_exact trace columns p c = (
+  (λ h. steps_so trace columns p c (length trace.steps) (omega arith) h),
   (λ (g : StepsInColumn trace columns p c).
       let within = step_at_within trace.steps g.steps.place _ g.steps.step.1 in
       steps_test trace columns p c (length trace.steps) g.steps.place within.0 within.1 (in_column trace columns p c g)),
@@ -70,7 +69,7 @@ has_marked s p c high inside = let test = and_from _ _ (le-leb p MAX_MEMBER high
 pub strokes_exact : (trace : Recorded) (s : Strokes) → ((p c : ℕ)
     → p ≤ MAX_MEMBER → c < COLUMNS → busy_at s.busy.items p c ≡ steps_to trace s.columns p c (length trace.steps)) → ShowsSteps trace s
 strokes_exact trace s marked = record {
-  each = λ p c low high inside.
+  each = λ p c high inside.
       let same = has_marked s p c high inside ∙ marked p c high inside in
-      rw same (steps_exact trace s.columns p c low);
+      rw same (steps_exact trace s.columns p c);
 }

@@ -18,7 +18,7 @@ use Rattle.step_trace.specs.ReportRows.{row_at}
 use Rattle.step_trace.proofs.ReportRows.{Contains-row_at, row_at_within}
 use Rattle.picture_marks.specs.Rows.{gap_at, share_end}
 use Rattle.picture_marks.specs.Pictures.{shown_gap, shows_gap}
-use Rattle.picture_marks.specs.Marks.{Touches, HasGap, IsShownGap, Covers, ShowsGaps}
+use Rattle.picture_marks.specs.Marks.{HasGap, IsShownGap, Covers, ShowsGaps}
 use Rattle.picture_marks.proofs.GatheredLists.{gathered_has, gathered_from}
 use Rattle.picture_marks.proofs.RowPlaces.{if_option, rows_rise}
 use Rattle.picture_marks.proofs.ShownMarks.{touches_so, touches_test}

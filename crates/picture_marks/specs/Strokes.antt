@@ -24,10 +24,9 @@ busy_at busy p c = slice_index_or busy (p * COLUMNS + c) false
 abbrev pub has_stroke : Strokes → ℕ → ℕ → Bool
 has_stroke s p c = if nat_le p MAX_MEMBER && nat_lt c COLUMNS then busy_at s.busy.items p c else false
 
--- processors have strokes just in the columns in which they make steps
+-- processors have strokes just in the columns in which they make steps, of the first COLUMNS ones
 pub record ShowsSteps (trace : Recorded) (s : Strokes) : Type 0 where
-  pub each : (p c : ℕ) → 1 ≤ p → p ≤ MAX_MEMBER → c < COLUMNS → IsTrue (has_stroke s p c)
-      ↔ StepsInColumn trace s.columns p c
+  pub each : (p c : ℕ) → p ≤ MAX_MEMBER → c < COLUMNS → IsTrue (has_stroke s p c) ↔ StepsInColumn trace s.columns p c
 
 -- step k is one of processor p in column c
 abbrev pub is_in_column : Recorded → ℕ → ℕ → ℕ → ℕ → Bool

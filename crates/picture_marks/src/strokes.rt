@@ -31,7 +31,8 @@ pub struct Stroke {
     pub end: u64,
 }
 
-/// The columns of a trace's steps, of so many columns for all of its ticks, in time that grows with the trace.
+/// The columns of a trace's steps, of so many columns for all of its ticks, in time that grows with the trace. Of more
+/// than `COLUMNS` columns only the first `COLUMNS` show steps.
 ///
 /// Fails only if out of memory, and only if there is a step.
 pub fn strokes_of(alloc: Global, trace: &Trace, columns: u64) -> Result<Strokes, AllocError>

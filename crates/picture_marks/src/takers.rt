@@ -1,6 +1,6 @@
 //! For each message the Receive that takes it.
 
-ghost use Rattle.std.specs.Prelude.{◌≡◌, ℕ, ◌<◌, ◌==◌, length, All, IfOk, Some, if◌then◌else◌};
+ghost use Rattle.std.specs.Prelude.{◌≡◌, ℕ, ◌+◌, ◌<◌, ◌==◌, length, All, IfOk, Some, if◌then◌else◌};
 ghost use Rattle.std.specs.List.{list_any};
 ghost use Rattle.picture_marks.specs.Messages.{taker, taker_in};
 
@@ -10,7 +10,8 @@ use step_trace::{Trace, ids_at};
 /// For each number up to that of the last step, the step that takes the message of this number, in time
 /// that grows with the steps and the ids that they take.
 pub fn takers(alloc: Global, trace: &Trace) -> Result<Vec<Option<u64>>, AllocError>
-    ensures { IfOk result (λ takers. (s : ℕ)
+    ensures long { IfOk result (λ takers. length takers.items ≡ length trace.now.steps + 1) }
+    ensures each { IfOk result (λ takers. (s : ℕ)
         → taker_in takers.items s ≡ taker trace.now.steps (length trace.now.steps) s) }
 {
     let mut takers = vec![in alloc; None; trace.len() + 1]?;
