@@ -1,5 +1,5 @@
 -- Traces with the same steps up to a tick have the same summary of the ticks up to it.
-use Rattle.std.proofs.Common.{ℕ, ◌≡◌, ◌+◌, ◌-◌, ◌<◌, ◌≤◌, inl, inr, [], ◌∷◌, ◌++◌, length, length-append, append-nil, Option, Some, None, suc, refl, sym, subst, ◌∙◌, arith}
+use Rattle.std.proofs.Common.{ℕ, ◌≡◌, ◌≢◌, ◌+◌, ◌-◌, ◌<◌, ◌≤◌, inl, inr, [], ◌∷◌, ◌++◌, length, length-append, append-nil, Option, Some, None, zero, suc, refl, sym, subst, ◌∙◌, arith}
 use Rattle.std.specs.Prelude.{Result, Ok, Err, OnOk, OnErr}
 use Rattle.std.proofs.lemmas.Bool.{cases_lt}
 use Rattle.step_trace.specs.declared.steps.Step.{Step}
@@ -238,3 +238,10 @@ pub IsDigestUpTo-joined : (set : ℕ) (t : Recorded) (k l : ℕ) (left right : O
     → IsDigestUpTo set t l (joined_digests left right)
 IsDigestUpTo-joined set t k l left right h more = λ sound.
     digests_join.part (record { set = set; trace = t; sound = sound }) 0 k l left right (h sound) (more sound)
+
+-- what has a part is of some ticks
+pub IsDigestUpTo-some : (set : ℕ) (trace : Recorded) (k : ℕ) (d : Option Summary)
+    → IsTrace trace → IsDigestUpTo set trace k d → d ≢ None → 0 < k
+IsDigestUpTo-some set trace zero d sound h some =
+    absurd (some (digests_join.empty_part (record { set = set; trace = trace; sound = sound }) 0 d (h sound)))
+IsDigestUpTo-some set trace (suc k) d sound h some = omega arith

@@ -1,5 +1,5 @@
 -- What the gate answered the workers, as it is known of their threads.
-use Rattle.std.proofs.Common.{ℕ, ◌≡◌, ◌+◌, ◌-◌, ◌<◌, ◌≤◌, ◌⊎◌, inl, inr, List, [], ◌∷◌, length, Some, None, Option, refl, sym, ap, subst, ◌∙◌, zero, suc, arith, below_more}
+use Rattle.std.proofs.Common.{ℕ, ◌≡◌, ◌+◌, ◌-◌, ◌<◌, ◌≤◌, ◌⊎◌, inl, inr, List, [], ◌∷◌, length, Some, refl, sym, ap, subst, ◌∙◌, zero, suc, arith, below_more}
 use Rattle.std.specs.Prelude.{Bool, true, false, Result, Ok, Err, IfErr, OnOk, IsOk, slice_get}
 use Rattle.std.proofs.lemmas.Option.{same_Some, slice_get_within}
 use Rattle.std.specs.declared.thread.PromisedHandle.{PromisedHandle}

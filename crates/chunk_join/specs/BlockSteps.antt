@@ -1,13 +1,12 @@
 -- What passes over the steps of a block of ticks have found so far (own). The block begins after cut i; a pass by
 -- rising numbers has scanned the steps up to number k.
-use Rattle.std.specs.Prelude.{ℕ, ◌≡◌, ◌+◌, ◌-◌, ◌<◌, ◌≤◌, ◌⊎◌, List, [], Option, Some, None, Contains, length}
+use Rattle.std.specs.Prelude.{ℕ, ◌≡◌, ◌+◌, ◌-◌, ◌<◌, ◌≤◌, ◌⊎◌, List, Option, Some, None, Contains, length}
 use Rattle.std.specs.Prelude.{slice_index_or, IsTrue, false, Bool, find, map, ◌==◌, if◌then◌else◌}
 use Rattle.step_trace.specs.declared.processors.TheConstants.{MAX_MEMBER}
 use Rattle.step_trace.specs.declared.rows.Gap.{Gap}
 use Rattle.step_trace.specs.declared.steps.Step.{Step}
 use Rattle.step_trace.specs.Processors.{has_proc}
-use Rattle.step_trace.specs.Traces.{Recorded, step_at, IsReceiveOf, IsStepOf}
-use Rattle.step_trace.specs.Steps.{act_ids}
+use Rattle.step_trace.specs.Traces.{Recorded, IsReceiveOf, IsStepOf}
 use Rattle.step_trace.specs.Ticks.{tick_of, StepsIn}
 use Rattle.step_trace.specs.Bounds.{IsMessage}
 use Rattle.step_trace.specs.Witnesses.{IsGap}

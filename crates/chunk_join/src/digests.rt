@@ -92,7 +92,7 @@ impl Joined for Digest {
 }
 
 impl Digest {
-    ghost use Rattle.std.specs.Prelude.{◌≡◌, ◌+◌, ◌-◌, ◌≤◌, ◌↔◌, ℕ, None, IfOk, IfErr, OnOk, OnErr};
+    ghost use Rattle.std.specs.Prelude.{◌≡◌, ◌≢◌, ◌+◌, ◌-◌, ◌≤◌, ◌<◌, ◌↔◌, ℕ, None, IfOk, IfErr, OnOk, OnErr};
     ghost use Rattle.step_trace.specs.Ticks.{IsTrace};
     ghost use Rattle.suffix_staircase.specs.Analysis.{AreLevels, AreLevelsFrom};
     ghost use Rattle.chunk_join.specs.declared.finishes.FinishError.TheVariants.{NotWhole};
@@ -116,6 +116,7 @@ impl Digest {
         requires order { from ≤ to + 1 }
         requires high { to ≤ trace.now.last }
         ensures some { OnErr result (from ≤ to) }
+        ensures none { IfOk result (λ digest. to < from → digest ≡ None) }
         ensures digest { IfOk result (λ digest. (sound : IsTrace trace.now)
             → IsDigestOf (record { set = set; trace = trace.now; sound = sound })
             (from - 1) to digest) }
@@ -133,9 +134,10 @@ impl Digest {
         Ok(whole)
     }
 
-    /// An equal digest.
+    /// An equal digest. Takes no memory for the unit.
     pub(crate) fn copy(&self, alloc: Global) -> Result<Digest, AllocError>
-        ensures { IfOk result (λ copy. copy ≡ self.now) }
+        ensures copied { IfOk result (λ copy. copy ≡ self.now) }
+        ensures more { OnErr result (self.now ≢ None) }
     {
         match &self.part {
             None => Ok(Digest { part: None }),

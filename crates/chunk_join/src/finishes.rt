@@ -13,7 +13,7 @@ ghost use Rattle.chunk_join.specs.declared.finishes.FinishError.TheVariants.{Not
 ghost use Rattle.chunk_join.specs.Summaries.{Whole, IsPiece};
 ghost use Rattle.chunk_join.specs.Sufficient.{Suffices};
 ghost use Rattle.chunk_join.specs.Finishes.{BeginsWithFirst, AreLevelsUntil, last_at, missed, with_missed};
-ghost use Rattle.chunk_join.specs.Finishes.{with_silence, KeepsMisses, IsGoneOver, IsQuietFrom};
+ghost use Rattle.chunk_join.specs.Finishes.{with_silence, KeepsMisses, IsQuietFrom};
 
 use crate::parts::Part;
 use crate::pieces::Piece;

@@ -1,6 +1,6 @@
 //! Digests of the first ticks of a trace, which take in more of its ticks.
 
-ghost use Rattle.std.specs.Prelude.{◌≡◌, ◌+◌, ◌-◌, ◌≤◌, OnOk, OnErr};
+ghost use Rattle.std.specs.Prelude.{◌≡◌, ◌≢◌, ◌+◌, ◌-◌, ◌≤◌, None, OnOk, OnErr};
 ghost use Rattle.chunk_join.specs.Analysts.{IsDigestUpTo};
 ghost use Rattle.chunk_join.specs.Digests.{joined_digests};
 
@@ -11,7 +11,7 @@ use std::mem;
 use step_trace::{ProcSet, Trace};
 
 /// Takes the ticks `from` to `to` of a trace into the digest of its ticks before. If it is out of memory, the digest is
-/// as before.
+/// as before; no tick takes any.
 pub(crate) fn take_in(
     digest: &mut Digest,
     alloc: Global,
@@ -26,6 +26,7 @@ pub(crate) fn take_in(
     requires before { IsDigestUpTo set trace.now (from - 1) digest.old }
     ensures ok { OnOk result (IsDigestUpTo set trace.now to digest.new) }
     ensures err { OnErr result (digest.new ≡ digest.old) }
+    ensures more { OnErr result (from ≤ to) }
 {
     let more = Digest::of(alloc, trace, set, from, to)?;
     append(digest, more)
@@ -35,6 +36,7 @@ pub(crate) fn take_in(
 fn append(digest: &mut Digest, more: Digest) -> Result<(), AllocError>
     ensures ok { OnOk result (digest.new ≡ joined_digests digest.old more) }
     ensures err { OnErr result (digest.new ≡ digest.old) }
+    ensures more { OnErr result (more ≢ None) }
 {
     match mem::replace(digest, Digest::unit()).join(more) {
         Ok(both) => {

@@ -1,6 +1,6 @@
 //! Values that join in their order, as parts of a whole do.
 
-ghost use Rattle.std.specs.Prelude.{◌≡◌, ◌↔◌, None, ℕ, Option, IfOk, OnOk, IfErr, IsTrue};
+ghost use Rattle.std.specs.Prelude.{◌≡◌, ◌≢◌, ◌↔◌, None, ℕ, Option, IfOk, OnOk, IfErr, OnErr, IsTrue};
 ghost use Rattle.chunk_join.specs.Joins.{JoinedLaws, AreParts, IsRefusal, join_after, FitAfter, RefusesAfter};
 
 /// Why two values don't join, in the order in which the reasons are tested.
@@ -51,13 +51,14 @@ pub trait Joined: Drop {
         ensures { IsTrue result ↔ (refusal self.now right.now ≡ None) };
 
     /// Both as one. Refuses in the order of `Why`, and hands both back unchanged. `Memory` is answered only if
-    /// they fit.
+    /// they fit, and neither is the empty part.
     fn join(self, right: Self) -> Result<Self, JoinRefused<Self>>
         ensures ok { OnOk result (refusal self right ≡ None) }
         ensures value { IfOk result (λ whole. whole ≡ joined self right) }
         ensures refused { IfErr result (λ e. IsRefusal e.why (refusal self right)) }
         ensures left { IfErr result (λ e. e.left ≡ self) }
-        ensures right { IfErr result (λ e. e.right ≡ right) };
+        ensures right { IfErr result (λ e. e.right ≡ right) }
+        ensures more { OnErr result ((self ≢ empty) × (right ≢ empty)) };
 
     ghost laws: { JoinedLaws IsPart empty refusal joined };
 }

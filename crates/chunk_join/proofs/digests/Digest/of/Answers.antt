@@ -10,6 +10,7 @@ loop-next-preserved c =
     let high = c.block_end-end.ensures.high in
     record {
       low = omega (arith, low, c.loop-next.invariant.low);
+      none = λ h. absurd (omega (arith, h, c.loop-next.invariant.low, c.loop-next-test.true));
       high = omega (arith, high);
       whole = λ sound. (
           let w : Whole = record { set = c.args.set; trace = c.args.trace.now; sound = sound } in
