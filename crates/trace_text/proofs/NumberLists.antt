@@ -17,7 +17,8 @@ use Rattle.std.proofs.lemmas.Grind.{common_steps}
 use Rattle.csv.specs.Records.{field_at}
 use Rattle.trace_text.specs.Records.{field_of, number_of}
 use Rattle.trace_text.specs.TextRefusals.{numbers_of, begins_with_number, parts_of, ids_of}
-use Rattle.trace_text.proofs.Numbers.{own, number_of-decimal, number_of-some}
+use Rattle.step_trace.proofs.Digits.{decimal_digits}
+use Rattle.trace_text.proofs.Numbers.{number_of-decimal, number_of-some}
 
 -- one more field that is a number
 pub numbers_of-more : (fs : List (List ℕ)) (ns : List ℕ) (f : List ℕ) (n : ℕ)
@@ -93,9 +94,10 @@ no_space (d ∷ ds) h = All-cons (λ c. (c == 32) ≡ false) d ds (go (d == 32) 
 slice_split-decimals : (n : ℕ) (ns : List ℕ) → All (λ n. n < 2 ^ 64) (n ∷ ns)
     → slice_split (λ c. c == 32) (join_with_byte 32 (map decimal (n ∷ ns))) ≡ map decimal (n ∷ ns)
 slice_split-decimals n [] h = slice_split_none (λ c. c == 32)
-    (decimal n) (no_space (decimal n) (digits_decimal own n (All-head (λ n. n < 2 ^ 64) n [] h)))
+    (decimal n) (no_space (decimal n) (digits_decimal decimal_digits n (All-head (λ n. n < 2 ^ 64) n [] h)))
 slice_split-decimals n (m ∷ ns) h = slice_split_at (λ c. c == 32) (decimal n) 32
-    (join_with_byte 32 (map decimal (m ∷ ns))) (no_space (decimal n) (digits_decimal own n (All-head (λ n. n < 2 ^ 64) n (m ∷ ns) h))) refl
+    (join_with_byte 32 (map decimal (m ∷ ns)))
+    (no_space (decimal n) (digits_decimal decimal_digits n (All-head (λ n. n < 2 ^ 64) n (m ∷ ns) h))) refl
     ∙ ap (λ r. decimal n ∷ r) (slice_split-decimals m ns (All-tail (λ n. n < 2 ^ 64) n (m ∷ ns) h))
 
 -- the ids of a field that isn't empty

@@ -2,16 +2,13 @@
 use Rattle.std.proofs.Common.{ℕ, ◌≡◌, ◌≢◌, ◌<◌, ◌^◌, ◌==◌, ◌∙◌, List, Option, Some, None, Bool, true, false, ◌&&◌, cond, refl, sym, ap, arith, decimal, eq-eqb}
 use Rattle.std.specs.Prelude.{nat_lt, IfSome, IfNone}
 use Rattle.std.specs.Str.{bytes_eq}
-use Rattle.std.specs.Str.Parse.{AllDigits, digits_value}
-use Rattle.std.proofs.lemmas.Str.Parse.{IsNumeralModel}
+use Rattle.std.specs.Str.Parse.{digits_value}
 use Rattle.std.proofs.lemmas.Fmt.{digits_value-decimal}
 use Rattle.std.proofs.lemmas.Slice.Eq.{bytes_eq-Decides}
 use Rattle.std.proofs.lemmas.Bool.{eqb-true}
 use Rattle.std.proofs.lemmas.Bool.Decides.{nat_tests}
+use Rattle.step_trace.proofs.Digits.{decimal_digits}
 use Rattle.trace_text.specs.Records.{number_of}
-
-pub own : IsNumeralModel (AllDigits 10) (digits_value 10)
-own = record { to = λ ds h. h; from = λ ds h. h; same = λ ds h. refl }
 
 -- text that is the same is equal
 pub bytes_eq-same : (a b : List ℕ) → a ≡ b → bytes_eq a b ≡ true
@@ -30,7 +27,7 @@ bytes_eq-other a b n = go (bytes_eq a b) refl where
 pub number_of-decimal : (n : ℕ) → n < 2 ^ 64 → number_of (decimal n) ≡ Some n
 unfolding number_of
 number_of-decimal n h =
-    let value = digits_value-decimal own n h in
+    let value = digits_value-decimal decimal_digits n h in
     let small : nat_lt n (2 ^ 64) ≡ true = grind (arith, nat_tests) in
     rw (value, small, bytes_eq-same (decimal n) (decimal n) refl) refl
 

@@ -31,7 +31,8 @@ use Rattle.trace_text.specs.declared.step_records.Operation.TheVariants as op
 use Rattle.trace_text.specs.TraceTexts.{version_field, HasTextsOf, header_record, init_record, op_text, arg_text, step_record, step_records, end_record, trace_records, IsTextTrace}
 use Rattle.trace_text.specs.Records.{field_of, after_records, ◌>>=◌}
 use Rattle.trace_text.specs.TextRefusals.{version_named, step_fields, operation_of, act_of, step_of, next_stage, trace_of_records}
-use Rattle.trace_text.proofs.Numbers.{own, number_of-decimal, bytes_eq-same, bytes_eq-other}
+use Rattle.step_trace.proofs.Digits.{decimal_digits}
+use Rattle.trace_text.proofs.Numbers.{number_of-decimal, bytes_eq-same, bytes_eq-other}
 use Rattle.trace_text.proofs.NumberLists.{numbers_of-decimals, ids_of-joined}
 use Rattle.trace_text.proofs.Prefixes.{so_far, IsTrace-front, CanAppend-next, with_next, place-value}
 
@@ -82,7 +83,7 @@ reads-init : (v : Version) (c : Setup) → IsSetup c
 unfolding field_at
 reads-init v c s h = rw (numbers_of-decimals c.init h, none_from_IsSetup c s) refl
 
--- the act of its own operation and argument
+-- the act of its decimal_digits operation and argument
 reads-act : (a : Act) → IfSome (act_dest a) (λ p. p < 2 ^ 64)
     → All (λ n. n < 2 ^ 64) (act_ids a) → (o : Operation) × (operation_of (op_text a) ≡ Some o) × (act_of o (arg_text a) ≡ Some a)
 reads-act (Send to) d h = (op.Send, refl, rw (number_of-decimal to d) refl)
@@ -94,7 +95,7 @@ IsTickOf : Version → ℕ → ℕ → Type 0
 IsTickOf One at tick = tick ≡ at
 IsTickOf Two at tick = ⊤
 
--- a step of its own fields
+-- a step of its decimal_digits fields
 reads-fields : (v : Version) (at tick : ℕ) (x : Step) → IsTickOf v at tick → tick < 2 ^ 64 → x.proc < 2 ^ 64 → IfSome
     (act_dest x.act) (λ p. p < 2 ^ 64) → All (λ n. n < 2 ^ 64) (act_ids x.act) → step_of v at (step_record v at tick x) ≡ Ok (tick, x)
 unfolding field_at IsTickOf
@@ -113,7 +114,8 @@ all-fields Two at tick x = refl
 
 -- no number is the word that ends a trace
 pub not_end : (n : ℕ) → n < 2 ^ 64 → bytes_eq (decimal n) (codes "end") ≡ false
-not_end n h = bytes_eq-other (decimal n) (codes "end") (λ e. let digits : AllDigits 10 (codes "end") = rw e at (digits_decimal own n h) in
+not_end n h = bytes_eq-other (decimal n) (codes "end") (λ e.
+    let digits : AllDigits 10 (codes "end") = rw e at (digits_decimal decimal_digits n h) in
     let low : digit_value 101 < 10 = digits.0 in absurd (omega (arith, low)))
 
 dest_small : (c : Setup) (o : Option ℕ) → c.n ≤ MAX_PROCESSORS → IfSome o (IsProc c) → IfSome o (λ p. p < 2 ^ 64)

@@ -20,6 +20,10 @@ is_name name = nat_lt 0 (length name) && is_some (text_of name) && not (list_any
 unfoldable pub is_message_name : List ℕ → Bool
 is_message_name name = is_name name && not (list_any (λ byte. byte == 32) name)
 
+-- the name of a node, which has no semicolon: a send to several nodes lists them with one between them
+unfoldable pub is_node_name : List ℕ → Bool
+is_node_name name = is_name name && not (list_any (λ byte. byte == 59) name)
+
 -- the words of a field that have one space between them, possibly none
 abbrev pub words_of : List ℕ → List (List ℕ)
 words_of [] = []

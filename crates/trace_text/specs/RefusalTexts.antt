@@ -1,8 +1,11 @@
--- The refusals of a trace text in words (docs/FORMATS.md): without the program's name, and without a line feed.
+-- The refusals of a trace text, and of its writing, in words (docs/FORMATS.md): without the program's name, and without
+-- a line feed.
 use Rattle.std.specs.Prelude.{ℕ, List, ◌++◌, codes, decimal}
 use Rattle.step_trace.specs.PushErrorTexts.{push_error_text}
 use Rattle.trace_text.specs.declared.refusals.TextError.{TextError}
 use Rattle.trace_text.specs.declared.refusals.TextError.TheVariants as why
+use Rattle.trace_text.specs.declared.refusals.WriteError.{WriteError}
+use Rattle.trace_text.specs.declared.refusals.WriteError.TheVariants as unwritten
 
 -- a refusal of the step of this number
 abbrev pub at_step : ℕ → List ℕ → List ℕ
@@ -25,3 +28,8 @@ text_error_text why.NoEnd = codes "no end"
 text_error_text why.WrongEnd = codes "wrong end"
 text_error_text why.AfterEnd = codes "text after end"
 text_error_text why.Memory = codes "out of memory"
+
+-- the words of each reason why a text wasn't written whole
+abbrev pub write_error_text : WriteError → List ℕ
+write_error_text (unwritten.Write count) = codes "cannot write"
+write_error_text unwritten.Memory = codes "out of memory"

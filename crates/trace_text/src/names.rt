@@ -2,7 +2,7 @@
 
 ghost use Rattle.std.specs.Prelude.{◌≡◌, ◌==◌, IsTrue, false, option_map, true};
 ghost use Rattle.std.specs.List.{list_any};
-ghost use Rattle.trace_text.specs.Names.{is_control, is_message_name, is_name, text_of};
+ghost use Rattle.trace_text.specs.Names.{is_control, is_message_name, is_name, is_node_name, text_of};
 
 use std::str::from_utf8;
 
@@ -37,7 +37,7 @@ fn has_control(name: &[u8]) -> bool
 }
 
 /// Whether these bytes are a name of printable ASCII without this byte. Most names are, and need no other test.
-pub fn is_plain(name: &[u8], other: u8) -> bool
+fn is_plain(name: &[u8], other: u8) -> bool
     ensures name { IsTrue result → is_name name.now ≡ true }
     ensures other { IsTrue result → list_any (λ byte. byte == other) name.now ≡ false }
 {
@@ -61,4 +61,18 @@ pub fn is_message_name(name: &[u8]) -> bool
         return false;
     }
     !name.contains(&b' ')
+}
+
+/// Whether these bytes are the name of a node: one without a semicolon.
+#[tactic(auto, unfolding(crate::specs::Names::is_node_name))]
+pub fn is_node_name(name: &[u8]) -> bool
+    ensures { result ≡ is_node_name name.now }
+{
+    if is_plain(name, b';') {
+        return true;
+    }
+    if !is_name(name) {
+        return false;
+    }
+    !name.contains(&b';')
 }

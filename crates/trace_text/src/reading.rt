@@ -1,7 +1,7 @@
 //! Reading of trace text, record by record. The first record that is refused decides.
 
-ghost use Rattle.std.specs.Prelude.{◌≡◌, ◌≢◌, ◌<◌, ◌≤◌, ◌↔◌, ◌+◌, ◌&&◌, ◌||◌, drop, IsErrOf, IfOk, OnOk, IfErr};
-ghost use Rattle.std.specs.Prelude.{MatchResult, length, option_map, is_ok, Ok, Err, IsTrue, decimal, false};
+ghost use Rattle.std.specs.Prelude.{◌≡◌, ◌≢◌, ◌<◌, ◌≤◌, ◌↔◌, ◌+◌, ◌||◌, IsErrOf, IfOk, OnOk, IfErr};
+ghost use Rattle.std.specs.Prelude.{MatchResult, length, option_map, Ok, Err, IsTrue, decimal, false};
 ghost use Rattle.std.specs.Str.{bytes_eq};
 ghost use Rattle.csv.specs.Records.{fields_of};
 ghost use Rattle.step_trace.specs.Traces.{Recorded};

@@ -1,6 +1,6 @@
-//! The refusals of a trace text, in words.
+//! The refusals of a trace text, and of its writing, in words.
 
-use crate::refusals::TextError;
+use crate::refusals::{TextError, WriteError};
 use std::fmt;
 
 /// The words without the program's name and without a line feed, as `step 3: message 1 was received before`.
@@ -27,6 +27,21 @@ impl fmt::Display for TextError {
             TextError::WrongEnd => f.write_str("wrong end"),
             TextError::AfterEnd => f.write_str("text after end"),
             TextError::Memory => f.write_str("out of memory"),
+        }
+    }
+}
+
+/// The words without the program's name and without a line feed; how much went out isn't told.
+impl fmt::Display for WriteError {
+    ghost use Rattle.std.specs.Prelude.{Some};
+    ghost use Rattle.trace_text.specs.RefusalTexts.{write_error_text};
+
+    ghost output = { λ why. Some (write_error_text why) };
+
+    fn fmt<W: fmt::Write>(&self, f: &mut fmt::Formatter<W>) -> fmt::Result {
+        match self {
+            WriteError::Write(_) => f.write_str("cannot write"),
+            WriteError::Memory => f.write_str("out of memory"),
         }
     }
 }

@@ -44,9 +44,7 @@ pub enum TextError {
 #[derive(Debug, Drop, Error)]
 pub enum WriteError {
     /// The writer failed or took nothing; so many bytes of the text went out before.
-    #[error("cannot write")]
     Write(u64),
     /// Out of memory, and nothing was written.
-    #[error("out of memory")]
     Memory,
 }

@@ -1,13 +1,13 @@
 //! Writing of trace text: the whole text first, then its bytes.
 
 ghost use Rattle.std.specs.Prelude.{◌≡◌, ◌+◌, ◌-◌, ◌<◌, ◌≤◌, ◌^◌, [], ◌∷◌, ◌++◌, ◌↔◌, IfOk, OnOk, IfErr};
-ghost use Rattle.std.specs.Prelude.{IsTrue, All, length, map, take, drop, decimal};
+ghost use Rattle.std.specs.Prelude.{IsTrue, All, length, map, decimal};
 ghost use Rattle.std.specs.List.{join_with_byte};
 ghost use Rattle.step_trace.specs.Configurations.{IsSetup};
 ghost use Rattle.step_trace.specs.Ticks.{IsOnePerTick};
 ghost use Rattle.trace_text.specs.ByteLoops.{WasFaultless};
 ghost use Rattle.trace_text.specs.Faults.{is_flushed};
-ghost use Rattle.trace_text.specs.Records.{record_line, text_of_records};
+ghost use Rattle.trace_text.specs.Records.{record_line};
 ghost use Rattle.trace_text.specs.TextWriting.{Wrote, WrotePart, IsWriteCause};
 ghost use Rattle.trace_text.specs.TraceTexts.{IsTextTrace, StandsFor, is_one_per_tick, trace_text, trace_text_2};
 ghost use Rattle.trace_text.specs.TraceTexts.{version_text, version_field, header_record, init_record, step_record};

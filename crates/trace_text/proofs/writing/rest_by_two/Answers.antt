@@ -1,4 +1,4 @@
-use Rattle.std.proofs.Common.{◌≡◌, ◌+◌, ◌-◌, ◌/◌, arith, subst}
+use Rattle.std.proofs.Common.{◌≡◌, ◌+◌, ◌-◌, ◌/◌, subst}
 use Rattle.std.specs.Prelude.{IfOk}
 use Rattle.trace_text.specs.declared.versions.Version.TheVariants.{Two}
 use Rattle.trace_text.specs.TraceTexts.{rest_text, steps_text}
