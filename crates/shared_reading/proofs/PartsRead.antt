@@ -2,7 +2,7 @@
 use Rattle.std.proofs.Common.{◌≡◌, ◌≢◌, ◌≤◌, ◌<◌, ◌+◌, ◌∙◌, ℕ, List, [], ◌++◌, length, take, drop, Option, Some, None}
 use Rattle.std.proofs.Common.{IfSome, Result, Ok, Err, Bool, true, false, refl, sym, ap, subst, arith, append_assoc}
 use Rattle.std.proofs.Common.{append-nil, length-append, take-append-drop}
-use Rattle.std.specs.Prelude.{IfErr, IfOk, OnOk, MatchBool, ⊤, nat_le}
+use Rattle.std.specs.Prelude.{IfErr, IfOk, OnOk, IsErrOf, MatchBool, ⊤, nat_le}
 use Rattle.std.proofs.lemmas.Bool.Decides.{nat_tests}
 use Rattle.std.proofs.KnownBytes.{Consumes-nil, Consumes-trans, Consumes-whole}
 use Rattle.std.specs.Io.KnownBytes.{Consumes, IsAtEnd}
@@ -22,6 +22,7 @@ use Rattle.shared_reading.specs.Seams.{has_quote, ends_line}
 use Rattle.shared_reading.specs.Pieces.{IsUnmarked, read_on}
 use Rattle.shared_reading.specs.declared.progress.Progress.{Progress}
 use Rattle.shared_reading.specs.DeviceTexts.{IsReadTo, IsTaken, IsGiven, IsRefusalOf, IsRefused, IsReadOut, IsTraceRead, IsUnread}
+use Rattle.shared_reading.specs.DeviceTexts.{IsWithin}
 use Rattle.shared_reading.proofs.PieceLemmas.{read_on-ok, read_on-err}
 use Rattle.shared_reading.proofs.QuoteFree.{seam}
 
@@ -102,25 +103,52 @@ too-large (Some xs) (Some ys) (Some zs) taken bytes total h k t more =
     omega (arith, t, more, simp length-append at (ap length h), simp length-append at (ap length k))
 
 pub unread : (known left after : Option (List ℕ)) (before : List ℕ) (p : Progress) (e : TextError)
-    → IsReadTo known left before p → IsUnread p.total left after e → IsRefused known e
+    → IsReadTo known left before p → IsUnread p.total left after e → IsRefused known after e
 unread known left after before p why.Read h k = tt
 unread known left after before p why.TooLarge h k =
     too-large known left after (h.gone ++ (before ++ p.rest.items)) k.bytes p.total h.read k.read h.count k.size
 unread known left after before p e h k = absurd k
 
+-- ---- no more was read than a text may have
+
+consumed-within : (known left : Option (List ℕ)) (bytes : List ℕ) → Consumes known left bytes → length bytes ≤ MAX_TEXT_BYTES
+    → IsWithin known left
+consumed-within None left bytes read size = tt
+consumed-within (Some xs) None bytes read size = tt
+consumed-within (Some xs) (Some ys) bytes read size = omega (arith, size, simp length-append at (ap length read))
+
+pub given-within : (known left : Option (List ℕ)) (r : Result Recorded TextError) → IsGiven known r → IsWithin known left
+given-within None left r h = tt
+given-within (Some xs) None r h = tt
+given-within (Some xs) (Some ys) r h = omega (arith, h.size, ap length h.is)
+
+pub read-within : (known left : Option (List ℕ)) (before : List ℕ) (p : Progress) → p.total ≤ MAX_TEXT_BYTES
+    → IsReadTo known left before p → IsWithin known left
+read-within known left before p limit h =
+    consumed-within known left (h.gone ++ (before ++ p.rest.items)) h.read (omega (arith, limit, h.count))
+
+pub more-within : (known left after : Option (List ℕ)) (before bytes : List ℕ) (p : Progress) → Consumes left after bytes
+    → p.total + length bytes ≤ MAX_TEXT_BYTES → IsReadTo known left before p → IsWithin known after
+more-within known left after before bytes p read limit h =
+    let all : List ℕ = h.gone ++ (before ++ p.rest.items) in
+    consumed-within known after (all ++ bytes) (Consumes-trans known left after all bytes h.read read)
+    (omega (arith, limit, h.count, length-append all bytes))
+
 -- records that give a refusal are a reason for it
-pub given-refused : (known : Option (List ℕ)) (e : TextError) → IsGiven known (Err e) → IsRefused known e
-given-refused known why.Read h = tt
-given-refused known why.Memory h = tt
-given-refused known why.TooLarge h = absurd (never-answered (records_of_text h.text) why.TooLarge why.TooLarge refl refl h.gives refl)
-given-refused known e h = h
+pub given-refused : (known left : Option (List ℕ)) (e : TextError) → IsGiven known (Err e) → IsRefused known left e
+given-refused known left why.Read h = tt
+given-refused known left why.Memory h = given-within known left (Err why.Memory) h
+given-refused known left why.TooLarge h =
+    absurd (never-answered (records_of_text h.text) why.TooLarge why.TooLarge refl refl h.gives refl)
+given-refused known left e h = h
 
 err-stays : (e : TextError) (r : Result Stage TextError) → r ≡ Err e → r >>= trace_at_end ≡ Err e
 err-stays e r h = rw h refl
 
 -- what was read is refused, and the text is within the limit
 pub part-refused : (known left after : Option (List ℕ)) (before : List ℕ) (p : Progress) (t : Stage) (e : TextError)
-    → IsTaken p.stage t (before ++ p.rest.items) (Err e) → IsReadOut p.total left after → IsReadTo known left before p → IsRefused known e
+    → IsTaken p.stage t (before ++ p.rest.items) (Err e) → IsReadOut p.total left after → IsReadTo known left before p
+    → IsRefused known after e
 part-refused known left after before p t e front out h =
     let behind : (before ++ p.rest.items) ++ out.bytes
     ≡ before ++ (p.rest.items ++ out.bytes) = append_assoc before p.rest.items out.bytes in
@@ -129,7 +157,7 @@ part-refused known left after before p t e front out h =
     ∙ ap (λ xs. h.gone ++ xs) behind in
     let all : Consumes known after text = subst (Consumes known after) whole
     (Consumes-trans known left after (h.gone ++ (before ++ p.rest.items)) out.bytes h.read out.read) in
-    given-refused known e (record {
+    given-refused known after e (record {
       text = text;
       is = Consumes-whole known after text (λ xs. text ≡ xs) all out.end refl;
       size = omega (arith, out.size, h.count, ap length whole, length-append (h.gone ++ (before ++ p.rest.items)) out.bytes);
@@ -214,17 +242,22 @@ refuses-records text given e same short h =
     let fits : nat_le (length given) MAX_TEXT_BYTES ≡ true = grind (arith, nat_tests) in
     subst (λ xs. trace_of_text xs ≡ Err e) same (rw fits h)
 
-pub refused-known : (known : Option (List ℕ)) (e : TextError) → IsRefused known e → IfSome known (IsRefusalOf e)
-refused-known None e h = tt
-refused-known (Some text) why.Read h = tt
-refused-known (Some text) why.Memory h = tt
-refused-known (Some text) why.TooLarge h = refuses-large text h
-refused-known (Some text) e h = refuses-records text h.text e h.is h.size h.gives
+pub refused-known : (known left : Option (List ℕ)) (e : TextError) → IsRefused known left e → IfSome known (IsRefusalOf e)
+refused-known None left e h = tt
+refused-known (Some text) left why.Read h = tt
+refused-known (Some text) left why.Memory h = tt
+refused-known (Some text) left why.TooLarge h = refuses-large text h
+refused-known (Some text) left e h = refuses-records text h.text e h.is h.size h.gives
+
+-- out of memory before more was read than the limit
+pub refused-within : (A : Type 0) (known left : Option (List ℕ)) (e : TextError) → IsRefused known left e
+    → IsErrOf {T = A} (Err e) why.Memory → IsWithin known left
+refused-within A known left e h is = let same : e ≡ why.Memory = cc in rw same at h
 
 pub given-refusal : (known : Option (List ℕ)) (r : Result Recorded TextError)
     → IsGiven known r → IfErr r (λ e. IfSome known (IsRefusalOf e))
 given-refusal known (Ok t) h = tt
-given-refusal known (Err e) h = refused-known known e (given-refused known e h)
+given-refusal known (Err e) h = refused-known known known e (given-refused known known e h)
 
 -- what holds for any answer holds for an Ok
 pub on-ok : {A E : Type 0} (r : Result A E) (P : Type 0) → P → OnOk r P

@@ -3,7 +3,7 @@ use Rattle.std.proofs.Common.{◌≡◌, ◌==◌, ◌≤◌, ◌+◌, ◌-◌, 
 use Rattle.std.proofs.Common.{None, is_some, Result, Ok, Err, true, false, refl, sym, ap, subst, arith, nat_eq}
 use Rattle.std.proofs.Common.{not, slice_index_or}
 use Rattle.std.specs.Prelude.{MatchBool, ⊤}
-use Rattle.std.proofs.lemmas.Bool.{not-true, false_from_ne_true}
+use Rattle.std.proofs.lemmas.Bool.{eqb-true, not-true, false_from_ne_true}
 use Rattle.std.proofs.lemmas.List.{drop-drop, take-append-drop}
 use Rattle.csv.specs.Reading.{strip_bom}
 use Rattle.memchr.specs.Find.{IsFirstByte, Nowhere, Passes, is_byte}
@@ -52,6 +52,11 @@ pub unmarked-none : (xs : List ℕ) → length xs ≡ 0 → strip_bom xs ≡ xs
 unfolding strip_bom
 unmarked-none [] h = refl
 unmarked-none (x ∷ xs) h = absurd (omega (arith, h))
+
+-- the first byte is the first one of a byte order mark
+pub marked : (xs : List ℕ) → (length xs ≡ 0 → ⊥) → nat_eq (slice_index_or xs 0 0) 239 ≡ true → (rest : List ℕ) × (xs ≡ 239 ∷ rest)
+marked [] some h = absurd (some refl)
+marked (x ∷ rest) some h = (rest, ap (λ y. y ∷ rest) (eqb-true x 239 h))
 
 -- what comes behind bytes doesn't make a mark of their beginning
 pub unmarked-before : (xs : List ℕ) → (length xs ≡ 0 → ⊥) → not (nat_eq (slice_index_or xs 0 0) 239) ≡ true → IsUnmarked xs

@@ -8,6 +8,7 @@ use Rattle.trace_text.specs.declared.reading.Stage.{Stage}
 use Rattle.trace_text.specs.declared.reading.Stage.TheVariants.{Opening}
 use Rattle.trace_text.specs.declared.refusals.TextError.{TextError}
 use Rattle.trace_text.specs.declared.refusals.TextError.TheVariants as why
+use Rattle.trace_text.specs.ByteLoops.{bytes_read}
 use Rattle.trace_text.specs.Records.{records_of_text}
 use Rattle.trace_text.specs.TextRefusals.{Gives, is_memory, trace_of_records, trace_of_text}
 use Rattle.trace_text.specs.TraceTexts.{IsTextTrace, StandsFor}
@@ -35,12 +36,16 @@ pub record IsGiven (known : Option (List ℕ)) (r : Result Recorded TextError) :
   pub size : length text ≤ MAX_TEXT_BYTES
   pub gives : Gives r (trace_of_records (records_of_text text))
 
--- a refusal: of the reader, out of memory, of more bytes than the limit, or of the records
-abbrev pub IsRefused : Option (List ℕ) → TextError → Type 0
-IsRefused known why.Read = ⊤
-IsRefused known why.Memory = ⊤
-IsRefused known why.TooLarge = IfSome known (λ bytes. MAX_TEXT_BYTES < length bytes)
-IsRefused known e = IsGiven known (Err e)
+-- no more bytes were read than a text may have, if it is known how many
+abbrev pub IsWithin : Option (List ℕ) → Option (List ℕ) → Type 0
+IsWithin known left = IfSome (bytes_read known left) (λ n. n ≤ MAX_TEXT_BYTES)
+
+-- a refusal: of the reader, out of memory before more bytes were read than the limit, of more, or of the records
+abbrev pub IsRefused : Option (List ℕ) → Option (List ℕ) → TextError → Type 0
+IsRefused known left why.Read = ⊤
+IsRefused known left why.Memory = IsWithin known left
+IsRefused known left why.TooLarge = IfSome known (λ bytes. MAX_TEXT_BYTES < length bytes)
+IsRefused known left e = IsGiven known (Err e)
 
 -- Of the bytes that the reader had at first some were dropped, then come those before the rest, and the rest, and the
 -- others are left. For any bytes after the rest, the records of all lead where those after the first lead from the
@@ -61,7 +66,7 @@ IsTaken old new rest (Err e) = MatchBool (is_memory e) ⊤ ((more : List ℕ) �
 -- reading goes on, or is refused
 abbrev pub GoesOnTo : {A : Type 0} → Option (List ℕ) → Option (List ℕ) → List ℕ → Progress → Result A TextError → Type 0
 GoesOnTo known left before p (Ok x) = IsReadTo known left before p
-GoesOnTo known left before p (Err e) = IsRefused known e
+GoesOnTo known left before p (Err e) = IsRefused known left e
 
 -- a reader brought more bytes than there may be
 pub record IsTooMuch (total : ℕ) (old new : Option (List ℕ)) : Type 0 where

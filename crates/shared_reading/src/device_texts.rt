@@ -2,10 +2,10 @@
 //! holds a long text and its trace.
 
 ghost use Rattle.std.specs.Prelude.{◌≡◌, ◌≤◌, ◌<◌, ◌+◌, ℕ, List, [], Option, drop};
-ghost use Rattle.std.specs.Prelude.{length, vec_len, IfOk, OnOk, IfErr, IfSome};
+ghost use Rattle.std.specs.Prelude.{length, vec_len, IfOk, OnOk, IfErr, IsErrOf, IfSome};
 ghost use Rattle.std.specs.Io.KnownBytes.{IsAtEnd};
 ghost use Rattle.trace_text.specs.Faults.{inner_of, faults_of};
-ghost use Rattle.trace_text.specs.ByteLoops.{faults_after_reading};
+ghost use Rattle.trace_text.specs.ByteLoops.{bytes_read, faults_after_reading};
 ghost use Rattle.shared_reading.specs.DeviceTexts.{IsTraceRead, IsRefusalOf, IsReadTo, IsTaken, GoesOnTo, IsGiven};
 
 use crate::cuts::cut_leaving;
@@ -31,7 +31,7 @@ const PART_BYTES: usize = 1_048_576;
 /// that.
 ///
 /// Refuses Read at the first fault, TooLarge once more than `MAX_TEXT_BYTES` were read, and then, with the whole text
-/// read, what `read_trace` refuses. Memory may come at any step.
+/// read, what `read_trace` refuses. Memory may come at any step, but not once more than `MAX_TEXT_BYTES` were read.
 pub fn read_trace_from<T: Threads + Sync, R: Read>(
     rt: &T,
     alloc: Global,
@@ -42,6 +42,9 @@ pub fn read_trace_from<T: Threads + Sync, R: Read>(
     ensures end { OnOk result (IsAtEnd (R.remaining (inner_of reader.new))) }
     ensures refused { IfErr result
         (λ e. IfSome (R.remaining (inner_of reader.old)) (IsRefusalOf e)) }
+    ensures within { IsErrOf result TextError.Memory
+        → IfSome (bytes_read (R.remaining (inner_of reader.old))
+        (R.remaining (inner_of reader.new))) (λ n. n ≤ MAX_TEXT_BYTES) }
     ensures faults { faults_of reader.new ≡ faults_after_reading result (faults_of reader.old) }
 {
     let Ok(mut piece) = vec![in alloc; 0u8; READ_BYTES] else {
@@ -59,6 +62,9 @@ pub fn read_trace_by_parts<R: Read>(
     ensures end { OnOk result (IsAtEnd (R.remaining (inner_of reader.new))) }
     ensures refused { IfErr result
         (λ e. IfSome (R.remaining (inner_of reader.old)) (IsRefusalOf e)) }
+    ensures within { IsErrOf result TextError.Memory
+        → IfSome (bytes_read (R.remaining (inner_of reader.old))
+        (R.remaining (inner_of reader.new))) (λ n. n ≤ MAX_TEXT_BYTES) }
     ensures faults { faults_of reader.new ≡ faults_after_reading result (faults_of reader.old) }
 {
     let Ok(mut piece) = vec![in alloc; 0u8; READ_BYTES] else {
@@ -78,6 +84,9 @@ fn read_parts_from<R: Read>(
     ensures end { OnOk result (IsAtEnd (R.remaining (inner_of reader.new))) }
     ensures refused { IfErr result
         (λ e. IfSome (R.remaining (inner_of reader.old)) (IsRefusalOf e)) }
+    ensures within { IsErrOf result TextError.Memory
+        → IfSome (bytes_read (R.remaining (inner_of reader.old))
+        (R.remaining (inner_of reader.new))) (λ n. n ≤ MAX_TEXT_BYTES) }
     ensures faults { faults_of reader.new ≡ faults_after_reading result (faults_of reader.old) }
 {
     let mut progress = Progress {
@@ -102,6 +111,9 @@ fn read_whole_from<T: Threads + Sync, R: Read>(
     ensures end { OnOk result (IsAtEnd (R.remaining (inner_of reader.new))) }
     ensures refused { IfErr result
         (λ e. IfSome (R.remaining (inner_of reader.old)) (IsRefusalOf e)) }
+    ensures within { IsErrOf result TextError.Memory
+        → IfSome (bytes_read (R.remaining (inner_of reader.old))
+        (R.remaining (inner_of reader.new))) (λ n. n ≤ MAX_TEXT_BYTES) }
     ensures faults { faults_of reader.new ≡ faults_after_reading result (faults_of reader.old) }
 {
     let mut progress = Progress {

@@ -1,6 +1,6 @@
 //! Steps that were read without their trace.
 
-ghost use Rattle.std.specs.Prelude.{◌≡◌, List, [], ℕ, Bool, true, IfOk};
+ghost use Rattle.std.specs.Prelude.{◌≡◌, [], true, IfOk};
 ghost use Rattle.csv.specs.Records.{fields_of};
 ghost use Rattle.trace_text.specs.Records.{GivesUnless, ReachesUnless};
 ghost use Rattle.trace_text.specs.TextRefusals.{Gives, is_memory};

@@ -1,6 +1,6 @@
 //! Pieces of a trace text that are read without what comes before them.
 
-ghost use Rattle.std.specs.Prelude.{◌≡◌, ◌≤◌, length, drop, true, false};
+ghost use Rattle.std.specs.Prelude.{◌≡◌, ◌≤◌, ◌∷◌, ℕ, List, length, drop, true, false};
 ghost use Rattle.csv.specs.Reading.{strip_bom};
 ghost use Rattle.trace_text.specs.Records.{ReachesUnless, after_records, records_of_text};
 ghost use Rattle.trace_text.specs.TextRefusals.{is_memory};
@@ -74,7 +74,8 @@ pub(crate) fn ends_line(bytes: &[u8]) -> bool
 
 /// Whether the bytes may begin with a byte order mark.
 pub fn may_be_marked(bytes: &[u8]) -> bool
-    ensures { result ≡ false → strip_bom bytes.now ≡ bytes.now }
+    ensures unmarked { result ≡ false → strip_bom bytes.now ≡ bytes.now }
+    ensures marked { result ≡ true → (rest : List ℕ) × (bytes.now ≡ 239 ∷ rest) }
 {
     if bytes.len() == 0 {
         return false;

@@ -14,7 +14,7 @@ returns-in_err-read_records c =
     let ends : c.ends_line.result ≡ true = search rules in
     let line : ends_line bytes ≡ true = c.ends_line.ensures ends in
     let mark : strip_bom (drop c.args.end text) ≡ drop c.args.end text =
-    rw c.tail.ensures at c.may_be_marked.ensures c.if-may_be_marked.false in
+    rw c.tail.ensures at c.may_be_marked.ensures.unmarked c.if-may_be_marked.false in
     let p = err_from_is_err_and c.from_residual.result c.from_residual.ensures.1 in
     rw (p.1, p.2) (part-refused c.args.stage.now _ text c.args.from c.args.end c.requires.order quoteless line mark
     (rw c.in_err-read_records.was at c.read_records.ensures))
@@ -27,7 +27,7 @@ returns c =
     let ends : c.ends_line.result ≡ true = search rules in
     let line : ends_line bytes ≡ true = c.ends_line.ensures ends in
     let mark : strip_bom (drop c.args.end text) ≡ drop c.args.end text =
-    rw c.tail.ensures at c.may_be_marked.ensures c.if-may_be_marked.false in (
+    rw c.tail.ensures at c.may_be_marked.ensures.unmarked c.if-may_be_marked.false in (
       c.requires.within,
       part-read c.args.stage.now c.read_records.new.taker text c.args.from c.args.end c.requires.order quoteless line mark
           (rw c.in_ok-read_records.was at c.read_records.ensures),
