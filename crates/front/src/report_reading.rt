@@ -1,6 +1,6 @@
 //! Reading of report text, record by record. The first record that is refused decides.
 
-ghost use Rattle.std.specs.Prelude.{◌≡◌, ◌+◌, ◌≤◌, ◌∷◌, [], ◌++◌, ℕ, All, List, IfOk, IfErr, IfSome};
+ghost use Rattle.std.specs.Prelude.{◌≡◌, ◌+◌, ◌≤◌, ◌∷◌, [], ℕ, All, List, IfOk, IfErr, IfSome};
 ghost use Rattle.std.specs.Prelude.{IsErrOf, MatchResult, OnOk, Some, Ok, Err, length, is_ok};
 ghost use Rattle.std.specs.Io.KnownBytes.{IsAtEnd};
 ghost use Rattle.csv.specs.Records.{fields_of};

@@ -1,6 +1,6 @@
 //! The text of a report: a header and a record for each row, as csv writes them.
 
-ghost use Rattle.std.specs.Prelude.{◌≡◌, ◌<◌, ℕ, ◌∷◌, [], ◌++◌, IfOk, OnOk, IfErr, IsTrue, All, length};
+ghost use Rattle.std.specs.Prelude.{◌≡◌, ◌<◌, ℕ, ◌∷◌, [], ◌++◌, IfOk, OnOk, OnErr, IfErr, IsTrue, All, length};
 ghost use Rattle.csv.specs.Records.{fields_of, partial_of};
 ghost use Rattle.trace_text.specs.ByteLoops.{WasFaultless};
 ghost use Rattle.trace_text.specs.Faults.{is_flushed};
@@ -83,7 +83,7 @@ fn write_row(alloc: Global, writer: &mut Writer<Vec<u8>>, row: &Row) -> Result<(
     write_byte_record(writer, &fields)
 }
 
-/// One more field: a number, or none. Fails only if out of memory.
+/// One more field: a number, or none. Fails only if out of memory, and then the fields stay.
 pub fn push_entry(
     alloc: Global,
     fields: &mut ByteRecord,
@@ -94,6 +94,7 @@ pub fn push_entry(
     ensures text { OnOk result
         (fields_of fields.new ≡ fields_of fields.old ++ entry_text entry ∷ []) }
     ensures plain { OnOk result (IsPlain (entry_text entry)) }
+    ensures kept { OnErr result (fields_of fields.new ≡ fields_of fields.old) }
 {
     match entry {
         Some(n) => fields.push_field(number_text(alloc, n)?.as_bytes()),

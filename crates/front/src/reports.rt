@@ -1,6 +1,6 @@
 //! Reports: the rows of the front, and the row that applies to each tick.
 
-ghost use Rattle.std.specs.Prelude.{◌≡◌, ◌≤◌, length, map, IfOk, IsSomeAnd, ℕ, List};
+ghost use Rattle.std.specs.Prelude.{◌≡◌, ◌≤◌, ◌<◌, length, map, IfOk, OnErr, IsSomeAnd, ℕ, List};
 ghost use Rattle.std.specs.List.Sorted.{IsStrictlyIncreasing};
 ghost use Rattle.step_trace.specs.Traces.{Recorded};
 ghost use Rattle.step_trace.specs.Ticks.{IsTimed};
@@ -75,8 +75,9 @@ impl Report {
 
 /// The report of a trace, from its stairs: a row for each start of a stretch of equal bounds.
 ///
-/// Takes time that grows with the rows, not with the steps.
+/// Takes time that grows with the rows, not with the steps. Fails only if out of memory, and never without a tick.
 pub fn front(alloc: Global, stairs: &Stairs) -> Result<Report, AllocError>
+    ensures rows { IfOk result (λ r. r.rows ≡ rows_of stairs.now) }
     ensures report { IfOk result
         (λ r. (set : ℕ) (trace : Recorded) → AreLevels set trace stairs.now
         → IsReport set trace r.rows) }
@@ -86,6 +87,7 @@ pub fn front(alloc: Global, stairs: &Stairs) -> Result<Report, AllocError>
         → IsReport set trace rows → rows ≡ r.rows) }
     ensures len { IfOk result (λ r. r.len ≡ length stairs.now) }
     ensures rising { IfOk result (λ r. IsStrictlyIncreasing (map (λ row. row.gst) r.rows)) }
+    ensures more { OnErr result (0 < length stairs.now) }
 {
     let rows = rows_of(alloc, stairs)?;
     Ok(Report {
@@ -98,6 +100,7 @@ pub fn front(alloc: Global, stairs: &Stairs) -> Result<Report, AllocError>
 fn rows_of(alloc: Global, stairs: &Stairs) -> Result<Vec<Row>, AllocError>
     ensures items { IfOk result (λ v. v.items ≡ rows_of stairs.now) }
     ensures rising { IfOk result (λ v. IsStrictlyIncreasing (map (λ row. row.gst) v.items)) }
+    ensures more { OnErr result (0 < length stairs.now) }
 {
     let mut rows = Vec::new(alloc);
     while let Some(row) = stairs.row(rows.len()) {

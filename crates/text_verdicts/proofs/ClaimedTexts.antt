@@ -1,6 +1,6 @@
 -- What is kept of the rows of a certificate's text is kept of the rows that the text encodes.
 use Rattle.std.proofs.Common.{ℕ, ◌≡◌, ◌+◌, ◌≤◌, ◌∙◌, List, [], ◌∷◌, length, Option, Some, None, Result, Ok, Err, Bool}
-use Rattle.std.proofs.Common.{true, false, cond, IfOk, IfErr, IfSome, MatchResult, MatchBool, option_map, refl, sym, ap}
+use Rattle.std.proofs.Common.{true, false, cond, IfOk, IfErr, MatchResult, MatchBool, option_map, refl, sym, ap}
 use Rattle.std.proofs.Common.{subst, inl, inr, arith}
 use Rattle.std.specs.Prelude.{⊤}
 use Rattle.step_trace.specs.declared.rows.Row.{Row}

@@ -1,9 +1,9 @@
 //! Reading of the text of a certificate, of which no more rows are kept than its trace has ticks.
 
-ghost use Rattle.std.specs.Prelude.{◌≡◌, IfOk, IfErr, MatchResult, ◌+◌, Some, Ok, Err};
+ghost use Rattle.std.specs.Prelude.{◌≡◌, ◌≤◌, IfOk, IfErr, MatchResult, ◌+◌, Some, Ok, Err, length};
 ghost use Rattle.csv.specs.Records.{fields_of};
 ghost use Rattle.certificate_checker.specs.Claims.{count_of};
-ghost use Rattle.trace_text.specs.Records.{ReachesUnless, WantsOnlyWhere, records_of_text};
+ghost use Rattle.trace_text.specs.Records.{WantsOnlyWhere, records_of_text};
 ghost use Rattle.front.specs.ReportRefusals.{Gives, is_memory, row_of, rows_of_records};
 ghost use Rattle.text_verdicts.specs.CertificateTexts.{IsKeptOf, IsRefusalOf, keeps_claimed, kept_at_end, kept_of};
 ghost use Rattle.text_verdicts.specs.CertificateTexts.{kept_with, next_claimed, refuses_long, row_keeps};
@@ -27,7 +27,8 @@ struct Certificate {
 
 /// What is kept of the rows of a certificate's text, claimed of a trace with this last tick.
 ///
-/// Refuses in the order of `ReportError`; `Read` is never answered.
+/// Refuses in the order of `ReportError`; `Read` is never answered. Memory may come instead of any refusal but
+/// TooLarge.
 pub fn certificate_of_text(
     alloc: Global,
     text: &[u8],
@@ -35,6 +36,7 @@ pub fn certificate_of_text(
 ) -> Result<ClaimedRows, ReportError>
     ensures kept { IfOk result (IsKeptOf last text.now) }
     ensures refused { IfErr result (IsRefusalOf text.now) }
+    ensures within { result ≡ Err ReportError.Memory → length text.now ≤ MAX_TEXT_BYTES }
 {
     if text.len() > MAX_TEXT_BYTES {
         return Err(ReportError::TooLarge);

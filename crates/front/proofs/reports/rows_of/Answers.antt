@@ -1,9 +1,10 @@
-use Rattle.std.proofs.Common.{ℕ, ◌≡◌, ◌+◌, ◌∙◌, List, [], ◌∷◌, ◌++◌, length, Some, None, inl, inr, slice_get, take, take_all, vec_len, refl, sym, arith}
+use Rattle.std.proofs.Common.{ℕ, ◌≡◌, ◌<◌, ◌+◌, ◌∙◌, List, [], ◌∷◌, ◌++◌, length, Some, None, inl, inr, slice_get, take, take_all, vec_len, refl, sym, arith}
 use Rattle.std.proofs.lemmas.Bool.{cases_lt}
 use Rattle.std.proofs.lemmas.List.{take_more}
 use Rattle.std.proofs.lemmas.Option.{none-some, slice_get_within, slice_get-get_or, get_or_from_slice_get}
 use Rattle.step_trace.specs.declared.rows.Row.{Row}
 use Rattle.suffix_staircase.specs.Levels.{rows_of}
+use Rattle.suffix_staircase.specs.declared.levels.Level.{Level}
 use Rattle.suffix_staircase.proofs.RowLaws.{AreRows-rows}
 use Rattle.front.proofs.reports.rows_of.Goals as goal
 
@@ -19,6 +20,11 @@ all_taken (r ∷ rest) k none = take_all k (r ∷ rest) (elim (cases_lt k (lengt
   | inl l ↦ absurd (none-some _ (none ∙ slice_get-get_or (r ∷ rest) k r l))
   | inr m ↦ m
 ])
+
+-- only levels have rows
+levels-of_row : (levels : List Level) (k : ℕ) (r : Row) → Some r ≡ slice_get (rows_of levels) k → 0 < length levels
+levels-of_row [] k r e = absurd (none-some r (sym e))
+levels-of_row (level ∷ rest) k r e = omega arith
 
 pub loop-row-preserved : goal.loop-row-preserved
 loop-row-preserved c =
