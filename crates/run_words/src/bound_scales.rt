@@ -2,7 +2,7 @@
 
 ghost use Rattle.std.specs.Prelude.{◌≡◌, ◌≤◌, ◌*◌, ◌/◌, ◌+◌, min, max};
 ghost use Rattle.step_trace.specs.declared.traces.TheConstants.{MAX_TICKS};
-ghost use Rattle.run_words.specs.BoundScales.{is_log, line, log_below, log_of, measure, power_of_ten, rise};
+ghost use Rattle.run_words.specs.BoundScales.{is_log, line, log_of, measure, power_of_ten, rise};
 
 use crate::round_numbers::round_step;
 use step_trace::MAX_TICKS;

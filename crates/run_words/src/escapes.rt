@@ -1,6 +1,6 @@
 //! Text inside XML and HTML.
 
-ghost use Rattle.std.specs.Prelude.{◌≡◌, ◌<◌, ◌++◌, OnOk, length};
+ghost use Rattle.std.specs.Prelude.{◌≡◌, ◌<◌, ◌++◌, OnOk};
 ghost use Rattle.run_words.specs.Escapes.{ends_unheld, escape_of, escaped, held_byte};
 
 use crate::names::byte_at;

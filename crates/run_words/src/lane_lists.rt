@@ -1,8 +1,8 @@
 //! Lanes of processors, as a command line lists them.
 
-ghost use Rattle.std.specs.Prelude.{◌≡◌, ◌≢◌, ◌≤◌, ◌<◌, ℕ, IfErr, IfNone, IfOk, IfSome, OnErr, map, length};
+ghost use Rattle.std.specs.Prelude.{◌≤◌, ◌<◌, ℕ, IfErr, IfNone, IfOk, IfSome, map};
 ghost use Rattle.run_words.specs.LaneLists.{AreLanes, IsLane, IsLaneRefusal, IsLanesRefusal, IsNamed};
-ghost use Rattle.run_words.specs.Names.{name_at, parts_of};
+ghost use Rattle.run_words.specs.Names.{parts_of};
 
 use crate::names::parts_of;
 use std::alloc::Global;

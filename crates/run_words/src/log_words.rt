@@ -1,6 +1,7 @@
 //! What a log calls things, and how it tells time.
 
-ghost use Rattle.std.specs.Prelude.{◌≡◌, ◌*◌, IfSome, None};
+ghost use Rattle.std.specs.Prelude.{◌≡◌, ◌<◌, ◌*◌, IfSome, None, length};
+ghost use Rattle.step_tables.specs.TickBegins.{ticks_before};
 ghost use Rattle.run_words.specs.LogWords.{IsClockOf, IsUnclocked, clock_by, clock_within, unit_for};
 
 use crate::clocks::{Clock, LONGEST};
@@ -26,6 +27,8 @@ pub struct LogWords<'a> {
 /// the table doesn't give the length of a tick, or the unit isn't known.
 pub fn clock_of(trace: &Trace, said: &[StepRow], unit: Option<u64>) -> Option<Clock>
     ensures known { IfSome result (IsClockOf trace.now said.now unit) }
+    ensures told { IfSome result (λ _. ticks_before trace.now 1
+        < ticks_before trace.now (length said.now)) }
     ensures unknown { result ≡ None → IsUnclocked trace.now said.now unit }
 {
     let times = tick_times(trace, said)?;

@@ -1,6 +1,6 @@
 //! Names of processors, as a command line lists them.
 
-ghost use Rattle.std.specs.Prelude.{◌≡◌, ◌≢◌, ◌↔◌, ◌<◌, ℕ, IsTrue, IfOk, IfErr, OnOk, map, length};
+ghost use Rattle.std.specs.Prelude.{◌≡◌, ◌↔◌, ◌<◌, IsTrue, IfOk, IfErr, OnOk, map, length};
 ghost use Rattle.run_words.specs.Names.{parts_of, IsNew, IsName, IsNamesRefusal, AreNames, byte_at, is_refused_at};
 
 use std::alloc::{AllocError, Global};

@@ -1,6 +1,6 @@
 -- When the ticks of a trace begin, by a table of its steps (own).
 use Rattle.std.specs.Prelude.{ℕ, ◌≡◌, ◌≤◌, ◌<◌, ◌+◌, ◌-◌, ◌*◌, ◌==◌, Bool, true, false}
-use Rattle.std.specs.Prelude.{List, length, Option, Some, None, slice_get}
+use Rattle.std.specs.Prelude.{List, length, Option, slice_get}
 use Rattle.std.specs.Option.{option_and_then, option_map_or}
 use Rattle.step_trace.specs.Traces.{Recorded}
 use Rattle.step_trace.specs.Ticks.{tick_of}

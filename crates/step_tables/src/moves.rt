@@ -1,6 +1,6 @@
 //! How far the events of a table were moved to later ticks.
 
-ghost use Rattle.std.specs.Prelude.{◌≡◌, ◌≤◌, count_by, length};
+ghost use Rattle.std.specs.Prelude.{◌≡◌, ◌≤◌, count_by};
 ghost use Rattle.step_tables.specs.Moves.{ahead_of, farthest_of, is_moved, is_timed, moved_by, moves_of};
 
 use crate::tables::StepRow;

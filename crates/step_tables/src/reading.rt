@@ -1,7 +1,6 @@
 //! Reading of a table, record by record. The first record that is refused decides.
 
-ghost use Rattle.std.specs.Prelude.{◌≡◌, ◌≤◌, Err, IfOk, IsTrue, MatchResult, Ok, [], length, map, string_bytes};
-ghost use Rattle.std.proofs.Math.ListN.{replicate};
+ghost use Rattle.std.specs.Prelude.{◌≡◌, ◌≤◌, Err, IfOk, IsTrue, MatchResult, Ok, [], length};
 ghost use Rattle.csv.specs.Records.{fields_of};
 ghost use Rattle.step_tables.specs.Tables.{Gives, at_end, is_header, is_memory, next_told, nothing, record_keeps};
 ghost use Rattle.step_tables.specs.Tables.{refuses_long, told_of_records, told_of_text};

@@ -1,7 +1,7 @@
 //! The records of a table, each tested against the step that it is to be of.
 
-ghost use Rattle.std.specs.Prelude.{◌≡◌, ◌≢◌, ◌-◌, ◌+◌, ◌∷◌, [], ◌++◌, Err, IfErr, IfOk, MatchBool, OnOk};
-ghost use Rattle.std.specs.Prelude.{false, length, map, slice_index_or, slice_set, string_bytes, true, ⊤};
+ghost use Rattle.std.specs.Prelude.{◌≡◌, ◌≢◌, ◌-◌, ◌+◌, ◌∷◌, [], ◌++◌, Err, IfErr, MatchBool, OnOk};
+ghost use Rattle.std.specs.Prelude.{false, map, slice_index_or, slice_set, string_bytes, true, ⊤};
 ghost use Rattle.std.specs.Cmp.Lexicographic.{slice_cmp};
 ghost use Rattle.std.specs.List.{list_all};
 ghost use Rattle.std.specs.List.Sorted.{IsSorted};

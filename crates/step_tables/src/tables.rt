@@ -1,6 +1,6 @@
 //! What a table says about a trace, to be looked up.
 
-ghost use Rattle.std.specs.Prelude.{◌≡◌, ◌-◌, IfOk, [], length, map, slice_index_or};
+ghost use Rattle.std.specs.Prelude.{◌≡◌, ◌-◌, IfOk, [], map};
 ghost use Rattle.step_tables.specs.Records.{message_at, source_at, time_at};
 
 use std::alloc::{AllocError, Global};

@@ -22,6 +22,8 @@ pub struct TickTimes {
 /// Time grows with the steps.
 pub fn tick_times(trace: &Trace, rows: &[StepRow]) -> Option<TickTimes>
     ensures known { IfSome result (AreTickTimes trace.now rows.now) }
+    ensures told { IfSome result (λ _. ticks_before trace.now 1
+        < ticks_before trace.now (length rows.now)) }
     ensures unknown { result ≡ None → AreUntimed trace.now rows.now }
 {
     let times = times_of_ends(trace, rows)?;
@@ -35,6 +37,8 @@ pub fn tick_times(trace: &Trace, rows: &[StepRow]) -> Option<TickTimes>
 /// The times by which the ticks of the first and the last row begin.
 fn times_of_ends(trace: &Trace, rows: &[StepRow]) -> Option<TickTimes>
     ensures positive { IfSome result (λ t. 1 ≤ t.width) }
+    ensures told { IfSome result (λ _. ticks_before trace.now 1
+        < ticks_before trace.now (length rows.now)) }
     ensures only { (t : TickTimes) → 1 ≤ t.width → AreAt trace.now t rows.now
         → ticks_before trace.now 1 < ticks_before trace.now (length rows.now) → result ≡ Some t }
 {
@@ -48,6 +52,7 @@ fn times_of_ends(trace: &Trace, rows: &[StepRow]) -> Option<TickTimes>
 /// The times by which a tick with so many before it begins at one time, and a later one at another time.
 fn times_between(before: u64, begin: u64, later: u64, end: u64) -> Option<TickTimes>
     ensures positive { IfSome result (λ t. 1 ≤ t.width) }
+    ensures told { IfSome result (λ _. before < later) }
     ensures only { (t : TickTimes) → 1 ≤ t.width → begin ≡ t.first + before * t.width
         → end ≡ t.first + later * t.width → before < later → result ≡ Some t }
 {

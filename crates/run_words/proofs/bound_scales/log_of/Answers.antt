@@ -1,4 +1,4 @@
-use Rattle.std.proofs.Common.{ℕ, ◌≡◌, ◌≤◌, ◌<◌, ◌^◌, ◌-◌, ◌∙◌, sym, ap, subst, arith}
+use Rattle.std.proofs.Common.{ℕ, ◌≤◌, ◌<◌, ◌^◌, ◌-◌, ◌∙◌, sym, ap, subst, arith}
 use Rattle.run_words.specs.BoundScales.{log_below}
 use Rattle.run_words.proofs.PowersOfTwo.{half_power, log_below-here, log_below-next, log-limit}
 use Rattle.run_words.proofs.bound_scales.log_of.Goals as goal

@@ -1,4 +1,4 @@
-use Rattle.std.proofs.Common.{◌≡◌, ◌≤◌, ◌<◌, ◌∙◌, refl, sym, arith}
+use Rattle.std.proofs.Common.{◌∙◌, refl, arith}
 use Rattle.run_words.proofs.PowersOfTen.{all-left, first-here, first-later}
 use Rattle.run_words.proofs.clocks.power_within.Goals as goal
 

@@ -1,4 +1,4 @@
-use Rattle.std.proofs.Common.{◌≡◌, ◌≤◌, ◌<◌, ◌∙◌, sym, arith}
+use Rattle.std.proofs.Common.{◌∙◌, sym, arith}
 use Rattle.run_words.proofs.RoundSteps.{all-left, divisor, first-here, first-later}
 use Rattle.run_words.proofs.round_numbers.round_step.Goals as goal
 
