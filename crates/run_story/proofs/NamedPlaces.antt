@@ -5,19 +5,31 @@ use Rattle.std.proofs.lemmas.Bool.{cases_lt}
 use Rattle.std.proofs.lemmas.Option.{same_Some, slice_get-get_or}
 use Rattle.run_story.specs.declared.evidence.Evidence.{Evidence}
 use Rattle.run_story.specs.declared.named.Named.{Named}
-use Rattle.run_story.specs.Named.{AreNamedBelow, IsNamedBelow, IsPlaceBelow, begins, brief_to, has_gap_of, has_miss_of, named_at, with_gap, with_miss}
+use Rattle.run_story.specs.Named.{AreNamedBelow, IsLastPlaceBelow, IsNamedBelow, begins, brief_to, has_gap_of, has_miss_of, named_at, with_gap, with_miss}
+
+-- evidence that doesn't pass is not at that place
+fails-there : (test : Evidence → Bool) (list : List Evidence) (n : ℕ) (x : Evidence) → test x ≡ false → slice_get list n ≡ Some x
+    → (i : ℕ) (f : Evidence) → n ≡ i → slice_get list i ≡ Some f → test f ≡ false
+fails-there test list n x passes at i f same is =
+    let own : x ≡ f = same_Some x f (sym at ∙ subst (λ (k : ℕ). slice_get list k ≡ Some f) (sym same) is) in
+    subst (λ (y : Evidence). test y ≡ false) own passes
 
 -- one piece of evidence more
 place-next : (test : Evidence → Bool) (list : List Evidence) (n : ℕ) (x : Evidence) (b : Bool) (o : Option ℕ)
-    → test x ≡ b → slice_get list n ≡ Some x → IsPlaceBelow test list n o → IsPlaceBelow test list (n + 1) (cond b (Some n) o)
-place-next test list n x true o passes at known = (x, omega arith, at, passes)
+    → test x ≡ b → slice_get list n ≡ Some x → IsLastPlaceBelow test list n o
+    → IsLastPlaceBelow test list (n + 1) (cond b (Some n) o)
+place-next test list n x true o passes at known = ((x, omega arith, at, passes), λ i f later l is. absurd (omega arith))
 place-next test list n x false None passes at known = λ j e l is. elim (cases_lt j n) [
   | inl before ↦ known j e before is
-  | inr after ↦ (let same : n ≡ j = omega arith in
-      let own : x ≡ e = same_Some x e (sym at ∙ subst (λ (i : ℕ). slice_get list i ≡ Some e) (sym same) is) in
-      subst (λ (y : Evidence). test y ≡ false) own passes)
+  | inr after ↦ fails-there test list n x passes at j e (omega arith) is
 ]
-place-next test list n x false (Some j) passes at known = (known.0, (let before = known.1 in omega (arith, before)), known.2, known.3)
+place-next test list n x false (Some j) passes at known = (
+  (known.0.0, (let before = known.0.1 in omega (arith, before)), known.0.2, known.0.3),
+  λ i f later l is. elim (cases_lt i n) [
+    | inl before ↦ known.1 i f later before is
+    | inr after ↦ fails-there test list n x passes at i f (omega arith) is
+  ],
+)
 
 -- what is noted of it at one place
 noted : (list : List Evidence) (n k : ℕ) (x : Evidence) (m : Named) (g h : Bool) → has_gap_of k x ≡ g → has_miss_of k x ≡ h

@@ -19,15 +19,21 @@ has_gap_of k e = option_map_or (λ s. is_from_to s.first s.last k) e.stall false
 abbrev pub has_miss_of : ℕ → Evidence → Bool
 has_miss_of k e = option_map_or (λ d. is_from_to d.first d.last k) e.delay false
 
--- the place, before place n, of evidence that passes a test; none if there is none
+-- a place, before place n, of evidence that passes a test; none if there is none
 abbrev pub IsPlaceBelow : (Evidence → Bool) → List Evidence → ℕ → Option ℕ → Type 0
 IsPlaceBelow test list n None = (j : ℕ) (e : Evidence) → j < n → slice_get list j ≡ Some e → test e ≡ false
 IsPlaceBelow test list n (Some j) = (e : Evidence) × (j < n) × (slice_get list j ≡ Some e) × (test e ≡ true)
 
--- the places, before place n, of the evidence with the miss and with the gap of row k
+-- the last such place
+abbrev pub IsLastPlaceBelow : (Evidence → Bool) → List Evidence → ℕ → Option ℕ → Type 0
+IsLastPlaceBelow test list n None = IsPlaceBelow test list n None
+IsLastPlaceBelow test list n (Some j) = IsPlaceBelow test list n (Some j)
+    × ((i : ℕ) (e : Evidence) → j < i → i < n → slice_get list i ≡ Some e → test e ≡ false)
+
+-- the last places, before place n, of the evidence with the miss and with the gap of row k
 pub record IsNamedBelow (list : List Evidence) (n k : ℕ) (named : Named) : Type 0 where
-  pub miss : IsPlaceBelow (has_miss_of k) list n named.miss
-  pub gap : IsPlaceBelow (has_gap_of k) list n named.gap
+  pub miss : IsLastPlaceBelow (has_miss_of k) list n named.miss
+  pub gap : IsLastPlaceBelow (has_gap_of k) list n named.gap
 
 -- what is named at place k
 abbrev pub named_at : List Named → ℕ → Named

@@ -1,7 +1,7 @@
 //! Late messages as runs of rows that name their misses.
 
 ghost use Rattle.std.specs.Prelude.{◌≡◌, ◌+◌, ◌-◌, ◌<◌, ◌≤◌, ◌^◌, ◌&&◌, ◌==◌, ℕ};
-ghost use Rattle.std.specs.Prelude.{IfOk, IfSome, MatchOption, None, length};
+ghost use Rattle.std.specs.Prelude.{IfOk, IfSome, MatchOption, None};
 ghost use Rattle.step_trace.specs.PushRefusals.{is_taken};
 ghost use Rattle.run_story.specs.Messages.{flag_at, receiver_of, sender_of};
 ghost use Rattle.run_story.specs.Delays.{AreDelays, IsDelay, IsDelayUpTo, are_alike, goes_on, longer, miss_at};

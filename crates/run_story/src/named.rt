@@ -16,7 +16,7 @@ pub struct Named {
     pub gap: Option<usize>,
 }
 
-/// For each of so many rows the evidence that it names.
+/// For each of so many rows the evidence that it names: of several pieces with its miss, or with its gap, the last.
 ///
 /// Time grows with the rows if each is in one stall and in one delay at most. Fails only if out of memory.
 pub fn named_evidence(

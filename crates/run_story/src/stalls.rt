@@ -1,6 +1,6 @@
 //! Silences as runs of rows that name them.
 
-ghost use Rattle.std.specs.Prelude.{◌≡◌, ◌↔◌, ◌+◌, ◌<◌, ◌≤◌, ℕ, Contains, IfOk};
+ghost use Rattle.std.specs.Prelude.{◌≡◌, ◌↔◌, ◌+◌, ◌<◌, ℕ, Contains, IfOk};
 ghost use Rattle.std.specs.Prelude.{IsTrue, MatchOption, None, OnErr, length};
 ghost use Rattle.step_trace.specs.Fronts.{IsReport};
 ghost use Rattle.step_trace.specs.Ticks.{IsTimed};
