@@ -9,8 +9,6 @@ use Rattle.std.proofs.lemmas.List.{append-nil}
 use Rattle.std.proofs.lemmas.Nat.{div-add-mod', mod_below, mul-le}
 use Rattle.decision_claims.specs.declared.formulas.Part.{Part}
 use Rattle.decision_claims.specs.declared.formulas.Part.TheVariants.{Value, Plus, Times, Over, Open, Greatest, Comma, Close}
-use Rattle.decision_claims.specs.declared.lexemes.Lexeme.TheVariants as lexeme
-use Rattle.decision_claims.specs.declared.readings.BadFormula.TheVariants as bad
 use Rattle.decision_claims.specs.declared.readings.Need.{Need}
 use Rattle.decision_claims.specs.declared.readings.Need.TheVariants as need
 use Rattle.decision_claims.specs.declared.readings.State.{State}

@@ -1,6 +1,6 @@
 //! Decisions of processors.
 
-ghost use Rattle.std.specs.Prelude.{◌≡◌, ◌≢◌, ◌≤◌, ◌<◌, ◌↔◌, ℕ, List, IsTrue, IfSome, IfNone, MatchOption, min};
+ghost use Rattle.std.specs.Prelude.{◌≡◌, ◌<◌, ◌↔◌, IsTrue, IfSome, IfNone, MatchOption, min};
 ghost use Rattle.decision_claims.specs.Decisions.{HasDecidedBy, HaveDecidedBy, IsFrom};
 ghost use Rattle.decision_claims.specs.LateRows.{IsLeastUndecided};
 

@@ -1,13 +1,13 @@
 //! Rows of the front whose deadline wasn't kept.
 
-ghost use Rattle.std.specs.Prelude.{◌≡◌, ◌+◌, ◌*◌, ◌≤◌, ◌<◌, ◌↔◌, ℕ, length, max};
-ghost use Rattle.std.specs.Prelude.{min, IfSome, IfNone, IsNone, MatchOption};
+ghost use Rattle.std.specs.Prelude.{◌≡◌, ◌+◌, ◌≤◌, ◌<◌, ◌↔◌, length};
+ghost use Rattle.std.specs.Prelude.{IfSome, IfNone, IsNone, MatchOption};
 ghost use Rattle.std.specs.List.{count_by};
 ghost use Rattle.step_trace.specs.Fronts.{triple_of, IsReport};
 ghost use Rattle.step_trace.specs.Traces.{Recorded};
 ghost use Rattle.decision_claims.specs.Formulas.{deadline};
 ghost use Rattle.decision_claims.specs.Decisions.{HaveDecidedBy, IsFrom};
-ghost use Rattle.decision_claims.specs.Claims.{KeepsClaim, IsKept};
+ghost use Rattle.decision_claims.specs.Claims.{KeepsClaim};
 ghost use Rattle.decision_claims.specs.LateRows.{AllKept, AreAllLater, IsFirstLate, IsLeastDue};
 ghost use Rattle.decision_claims.specs.LateRows.{IsLeastUndecided, is_due};
 

@@ -1,6 +1,6 @@
 //! The words and signs of a formula's text.
 
-ghost use Rattle.std.specs.Prelude.{ℕ, ◌≡◌, ◌≤◌, ◌<◌, length, bytes_eq};
+ghost use Rattle.std.specs.Prelude.{◌≡◌, ◌≤◌, length, bytes_eq};
 ghost use Rattle.decision_claims.specs.FormulaTexts.{IsPieceEnd, is_sign, name_of, sign_lexeme, word_lexeme};
 
 use crate::formulas::Operand;

@@ -1,8 +1,9 @@
 //! What was tested of a claim that is kept.
 
-ghost use Rattle.std.specs.Prelude.{◌≡◌};
+ghost use Rattle.std.specs.Prelude.{◌≡◌, ◌+◌, length};
+ghost use Rattle.std.specs.List.{count_by};
 ghost use Rattle.decision_claims.specs.Formulas.{deadline};
-ghost use Rattle.decision_claims.specs.LateRows.{AllKept};
+ghost use Rattle.decision_claims.specs.LateRows.{AllKept, is_due};
 ghost use Rattle.decision_claims.specs.Margins.{IsMargin, IsTested};
 
 use crate::decisions::{Decision, latest_decision};
@@ -31,7 +32,10 @@ pub fn tested_by(
     start: u64,
     formula: &Formula,
 ) -> Tested
-    ensures { AllKept set trace.now rows.now decisions.now
+    ensures due { result.due ≡ count_by
+        (is_due trace.now (deadline trace.now.config start formula.now)) rows.now }
+    ensures later { result.due + result.later ≡ length rows.now }
+    ensures tested { AllKept set trace.now rows.now decisions.now
         (deadline trace.now.config start formula.now)
         → IsTested set trace.now rows.now decisions.now
         (deadline trace.now.config start formula.now) result }

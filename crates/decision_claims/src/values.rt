@@ -1,6 +1,6 @@
 //! The values of formulas, from left to right.
 
-ghost use Rattle.std.specs.Prelude.{ℕ, ◌≡◌, ◌+◌, ◌*◌, ◌-◌, ◌^◌, ◌≤◌, ◌<◌, ◌∷◌, [], List, length, min};
+ghost use Rattle.std.specs.Prelude.{ℕ, ◌≡◌, ◌*◌, ◌-◌, ◌^◌, ◌≤◌, ◌<◌, ◌∷◌, [], List, length, min};
 ghost use Rattle.decision_claims.specs.declared.formulas.Part.{Part as OnePart};
 ghost use Rattle.decision_claims.specs.Formulas.{Fits, divisors, nothing, quotient, times_value};
 ghost use Rattle.decision_claims.specs.Formulas.{value_from, whole, with_part};

@@ -19,7 +19,7 @@ use Rattle.decision_claims.specs.LateRows.{IsFirstLate}
 use Rattle.decision_claims.proofs.FrontClaims.{KeepsClaim-rows}
 use Rattle.decision_claims.proofs.PrefixClaims.{has_cut, IsCutAt-twice, IsFeasible-cut}
 use Rattle.judged_runs.specs.declared.prefixes.Ahead.{Ahead}
-use Rattle.judged_runs.specs.LateInTime.{AreNoEarlier, AreNoneDue, AreOldLater, IsAhead, IsGlance, IsLateInTime, IsNextLook, IsNextTick, KeepsBefore, begun_after}
+use Rattle.judged_runs.specs.LateInTime.{AreNoEarlier, AreNoneDue, AreOldLater, IsAhead, IsGlance, IsLateByReport, IsLateInTime, IsNextLook, IsNextTick, KeepsBefore, begun_after}
 use Rattle.judged_runs.specs.LaterRows.{AreRowsAfter}
 
 -- what is kept before a tick is kept before each earlier one
@@ -195,7 +195,8 @@ before_all set trace decisions due x decided before = record {
   ];
 }
 
--- a row that refutes the claim in a prefix is late in time, if each earlier deadline was kept
+-- A row that refutes the claim in a prefix is late in time, if each earlier deadline was kept. So its deadline is the
+-- tick in which the prefix ends.
 pub late_in_time : (set : ℕ) (trace cut : Recorded) (rows : List Row) (decisions : List Decision) (due : Triple → ℕ)
     (x : ℕ) (w : Late) → IsTrace cut → IsCutAt trace x cut → IsLater due → IsReport set cut rows
     → KeepsBefore set trace decisions due x → IsFirstLate set cut rows decisions due w
@@ -206,19 +207,28 @@ late_in_time set trace cut rows decisions due x w sound at later report before l
     let in_cut = late.due in
     let by = late.by in
     let low : w.deadline ≤ x = omega (arith, in_cut, last) in
+    let t = triple_of w.row in
+    let d = has_cut cut w.deadline sound in_cut in
+    let there = IsCutAt-twice trace cut x sound.time at w.deadline d.cut d.sound.time low d.at in
+    let of_report = report.sound w.row (Contains-slice_get rows late.place w.row late.row) in
+    let begun = later.each t in
+    let holds = IsFeasible-cut cut d.cut w.deadline d.sound.time d.at set t (omega (arith, begun, by)) of_report.front.feasible in
+    let here : x ≡ w.deadline = elim (cases_lt w.deadline x) [
+      | inr l ↦ omega (arith, l, low)
+      | inl l ↦ absurd (
+          let decided = before.each t d.cut (omega (arith, l, by)) d.sound (subst (λ y. IsCutAt trace y d.cut) by there) holds in
+          late.proc.undecided ((subst (HaveDecidedBy set decisions) (sym by) decided).each w.proc late.proc.member))
+    ] in
     record {
       by = late.by;
       due = omega (arith, in_cut, end);
       proc = late.proc;
-      feasible = λ other timed there.
-          let d = has_cut cut w.deadline sound in_cut in
-          let same = one_cut trace other d.cut w.deadline timed.time d.sound.time there
-          (IsCutAt-twice trace cut x sound.time at w.deadline d.cut d.sound.time low d.at) in
-          let row = report.sound w.row (Contains-slice_get rows late.place w.row late.row) in
-          let begun = later.each (triple_of w.row) in
-          subst (λ (c : Recorded). IsFeasible set c (triple_of w.row)) (sym same)
-          (IsFeasible-cut cut d.cut w.deadline d.sound.time d.at set (triple_of w.row) (omega (arith, begun, by)) row.front.feasible);
+      feasible = λ other timed cut_there. subst (λ (c : Recorded). IsFeasible set c t)
+          (one_cut trace d.cut other w.deadline d.sound.time timed.time there cut_there) holds;
       first = before_less set trace decisions due x w.deadline low before;
+      row = λ other timed cut_there. subst (λ (c : Recorded). IsLateByReport set c decisions due w)
+          (one_cut trace cut other w.deadline sound.time timed.time (subst (λ y. IsCutAt trace y cut) here at) cut_there)
+          (record { rows = rows; report = report; first = late });
     }
 
 -- what is late in time refutes the claim

@@ -1,5 +1,5 @@
 -- The rows of a trace's last levels.
-use Rattle.std.proofs.Common.{ℕ, ◌≡◌, ◌+◌, ◌-◌, ◌<◌, ◌≤◌, List, [], ◌∷◌, ◌++◌, map, length, get_or, take, take_all}
+use Rattle.std.proofs.Common.{ℕ, ◌≡◌, ◌+◌, ◌-◌, ◌≤◌, List, [], ◌∷◌, ◌++◌, map, length, get_or, take, take_all}
 use Rattle.std.proofs.Common.{Contains, Some, None, Bool, true, false, inl, inr, zero, suc, refl, sym, ap, subst, ◌∙◌}
 use Rattle.std.proofs.Common.{arith}
 use Rattle.std.specs.Prelude.{slice_get}
@@ -7,7 +7,6 @@ use Rattle.std.proofs.lemmas.Bool.{cases_lt}
 use Rattle.std.proofs.lemmas.Option.{none-some, same_Some, slice_get_within, slice_get-get_or}
 use Rattle.step_trace.specs.declared.rows.Row.{Row}
 use Rattle.step_trace.specs.Traces.{Recorded}
-use Rattle.step_trace.specs.Bounds.{DeltaHolds, PhiHolds}
 use Rattle.step_trace.proofs.BoundLaws.{DeltaHolds-later, PhiHolds-later}
 use Rattle.step_trace.proofs.ListMembers.{Contains-map, Contains-slice_get}
 use Rattle.suffix_staircase.specs.declared.levels.Level.{Level}

@@ -10,12 +10,12 @@ use Rattle.decision_claims.specs.declared.margins.Tested.{Tested}
 use Rattle.decision_claims.specs.Claims.{KeepsClaim, KeepsClaimInTime}
 use Rattle.decision_claims.specs.Decisions.{Agree, AreFirstToDiffer, AreInitial, IsFirstForeign}
 use Rattle.decision_claims.specs.Formulas.{Terms, deadline}
-use Rattle.decision_claims.specs.LateRows.{IsFirstLate, is_due}
+use Rattle.decision_claims.specs.LateRows.{is_due}
 use Rattle.decision_claims.specs.Margins.{IsTested}
 use Rattle.judged_runs.specs.declared.judgements.Demands.{Demands}
 use Rattle.judged_runs.specs.declared.judgements.Verdict.{Verdict}
 use Rattle.judged_runs.specs.declared.judgements.Verdict.TheVariants.{Yes, Differ, Foreign, LateBy, Untested}
-use Rattle.judged_runs.specs.LateInTime.{IsLateInTime}
+use Rattle.judged_runs.specs.LateInTime.{IsLateByReport, IsLateInTime}
 
 -- Nothing is wrong with agreement, and if it was asked with validity.
 pub record AreSound (set : ℕ) (init : List ℕ) (decisions : List Decision) (valid : Bool) : Type 0 where
@@ -27,16 +27,9 @@ abbrev pub Keeps : Bool → ℕ → Recorded → List Decision → (Triple → �
 Keeps true = KeepsClaim
 Keeps false = KeepsClaimInTime
 
--- the first row of the report that refutes the claim
-pub record IsLateInWhole (set : ℕ) (trace : Recorded) (decisions : List Decision) (deadline : Triple → ℕ)
-    (w : Late) : Type 0 where
-  pub rows : List Row
-  pub report : IsReport set trace rows
-  pub first : IsFirstLate set trace rows decisions deadline w
-
 -- the claim is refuted by this, in either meaning
 abbrev pub IsRefutedBy : Bool → ℕ → Recorded → List Decision → (Triple → ℕ) → Late → Type 0
-IsRefutedBy true = IsLateInWhole
+IsRefutedBy true = IsLateByReport
 IsRefutedBy false = IsLateInTime
 
 -- The claim is kept, and this was tested of it by the rows of the report: at least so many of them are due.

@@ -4,11 +4,11 @@ use Rattle.step_trace.specs.Traces.{Recorded}
 use Rattle.step_trace.specs.Ticks.{IsTrace}
 use Rattle.step_trace.specs.Cuts.{IsCutAt}
 use Rattle.step_trace.specs.declared.rows.Row.{Row}
-use Rattle.step_trace.specs.Fronts.{Triple, IsFeasible, triple_of}
+use Rattle.step_trace.specs.Fronts.{Triple, IsFeasible, IsReport, triple_of}
 use Rattle.decision_claims.specs.declared.decisions.Decision.{Decision}
 use Rattle.decision_claims.specs.declared.lateness.Late.{Late}
 use Rattle.decision_claims.specs.Decisions.{HaveDecidedBy}
-use Rattle.decision_claims.specs.LateRows.{IsLeastUndecided}
+use Rattle.decision_claims.specs.LateRows.{IsFirstLate, IsLeastUndecided}
 use Rattle.judged_runs.specs.declared.prefixes.Ahead.{Ahead}
 use Rattle.judged_runs.specs.declared.prefixes.Looked.{Looked}
 use Rattle.judged_runs.specs.declared.prefixes.Looked.TheVariants.{LateBy, GoOn}
@@ -19,8 +19,16 @@ pub record KeepsBefore (set : ℕ) (trace : Recorded) (decisions : List Decision
   pub each : (t : Triple) (cut : Recorded) → deadline t < x → IsTrace cut → IsCutAt trace (deadline t) cut
       → IsFeasible set cut t → HaveDecidedBy set decisions (deadline t)
 
+-- the first row of the report that refutes the claim
+pub record IsLateByReport (set : ℕ) (trace : Recorded) (decisions : List Decision) (deadline : Triple → ℕ)
+    (w : Late) : Type 0 where
+  pub rows : List Row
+  pub report : IsReport set trace rows
+  pub first : IsFirstLate set trace rows decisions deadline w
+
 -- The bounds of the row hold from its stabilization time up to the deadline, a tick of the trace. The processor is the
--- least member that had not decided by it. Each earlier deadline was kept.
+-- least member that had not decided by it. Each earlier deadline was kept. Of the report on the prefix that ends with
+-- the deadline, the row is the first one that refutes the claim.
 pub record IsLateInTime (set : ℕ) (trace : Recorded) (decisions : List Decision) (deadline : Triple → ℕ)
     (w : Late) : Type 0 where
   pub by : w.deadline ≡ deadline (triple_of w.row)
@@ -28,6 +36,7 @@ pub record IsLateInTime (set : ℕ) (trace : Recorded) (decisions : List Decisio
   pub proc : IsLeastUndecided set decisions w.deadline w.proc
   pub feasible : (cut : Recorded) → IsTrace cut → IsCutAt trace w.deadline cut → IsFeasible set cut (triple_of w.row)
   pub first : KeepsBefore set trace decisions deadline w.deadline
+  pub row : (cut : Recorded) → IsTrace cut → IsCutAt trace w.deadline cut → IsLateByReport set cut decisions deadline w
 
 -- No bounds that hold from tick `after` or an earlier one on, in a prefix that ends in tick x or later, have a deadline
 -- before tick y.

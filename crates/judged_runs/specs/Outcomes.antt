@@ -1,8 +1,6 @@
 -- What came of the runs of a list, and the summary of it (docs/FORMATS.md).
 use Rattle.std.specs.Prelude.{ℕ, ◌+◌, List, [], ◌∷◌, ◌++◌, length, Option, Some, None, Bool, true, false, is_some}
-use Rattle.std.specs.Prelude.{is_none, if◌then◌else◌, ◌==◌, nat_lt, count_by, drop, codes, decimal}
-use Rattle.decision_claims.specs.declared.margins.Tested.{Tested}
-use Rattle.judged_runs.specs.declared.judgements.Verdict.{Verdict}
+use Rattle.std.specs.Prelude.{is_none, if◌then◌else◌, ◌==◌, nat_lt, count_by, codes, decimal}
 use Rattle.judged_runs.specs.declared.judgements.Verdict.TheVariants as verdict
 use Rattle.judged_runs.specs.declared.outcomes.Outcome.{Outcome}
 use Rattle.judged_runs.specs.declared.outcomes.Outcome.TheVariants as outcome

@@ -1,6 +1,6 @@
 //! The rows of a report with their deadlines, as CSV.
 
-ghost use Rattle.std.specs.Prelude.{ℕ, ◌≡◌, IfOk, string_bytes};
+ghost use Rattle.std.specs.Prelude.{◌≡◌, IfOk, string_bytes};
 ghost use Rattle.decision_claims.specs.Formulas.{deadline};
 ghost use Rattle.judged_runs.specs.DeadlineRows.{due_entry, told_rows};
 

@@ -1,6 +1,6 @@
 //! What is printed of a judgement: the line of its verdict, and then the details that are asked for.
 
-ghost use Rattle.std.specs.Prelude.{◌≡◌, ◌⊎◌, IfOk, IsTrue, OnErr, string_bytes};
+ghost use Rattle.std.specs.Prelude.{◌⊎◌, IfOk, IsTrue, OnErr, string_bytes};
 ghost use Rattle.step_trace.specs.Processors.{IsWithin};
 ghost use Rattle.decision_claims.specs.Formulas.{deadline};
 ghost use Rattle.judged_runs.specs.DeadlineRows.{IsRowsText};

@@ -1,6 +1,6 @@
 //! The least factor with which a claim would be kept: a constant that a run measures.
 
-ghost use Rattle.std.specs.Prelude.{ℕ, ◌≡◌, ◌+◌, ◌≤◌, ◌<◌, IfOk, OnErr, Some, max};
+ghost use Rattle.std.specs.Prelude.{ℕ, ◌≡◌, ◌+◌, ◌≤◌, ◌<◌, ◌⊎◌, IfOk, IsTrue, OnErr, Some, max};
 ghost use Rattle.step_trace.specs.Processors.{IsWithin};
 ghost use Rattle.decision_claims.specs.Claims.{KeepsClaim, KeepsClaimInTime, deadline_times};
 ghost use Rattle.decision_claims.specs.Decisions.{HaveDecidedBy, IsFrom};
@@ -29,7 +29,8 @@ struct Measured {
 }
 
 /// The least factor c such that each member decides within c times a formula, in an instance of agreement that started
-/// in this tick: by the bounds of the whole run, or in time. None if no factor is enough.
+/// in this tick: by the bounds of the whole run, or in time. None if no factor is enough. In time, Memory may come only
+/// if not all members had decided at once.
 pub fn factor_for(
     alloc: Global,
     trace: &Trace,
@@ -40,9 +41,10 @@ pub fn factor_for(
     whole: bool,
 ) -> Result<Option<u64>, AllocError>
     requires { IsWithin set trace.now.config.n }
-    ensures { IfOk result
+    ensures factor { IfOk result
         (IsFrom (λ c. Keeps whole set trace.now decisions.now
         (deadline_times trace.now.config start formula.now c))) }
+    ensures more { OnErr result (IsTrue whole ⊎ ¬ HaveDecidedBy set decisions.now 0) }
 {
     if whole {
         least_factor_in_whole(alloc, trace, set, decisions, start, formula)

@@ -1,6 +1,6 @@
 //! The verdict on the decisions of a run.
 
-ghost use Rattle.std.specs.Prelude.{◌≡◌, IfOk, IfSome, IsNone, OnErr};
+ghost use Rattle.std.specs.Prelude.{IfOk, IfSome, IsNone, OnErr};
 ghost use Rattle.step_trace.specs.Fronts.{IsReport};
 ghost use Rattle.step_trace.specs.Processors.{IsWithin};
 ghost use Rattle.decision_claims.specs.Formulas.{deadline};

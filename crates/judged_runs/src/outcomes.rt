@@ -1,8 +1,8 @@
 //! What came of the runs of a list, and the summary of it.
 
-ghost use Rattle.std.specs.Prelude.{◌≡◌, ◌≤◌, ℕ, IfOk, count_by, length, string_bytes, slice_index};
+ghost use Rattle.std.specs.Prelude.{◌≡◌, IfOk, count_by, string_bytes};
 ghost use Rattle.judged_runs.specs.Outcomes.{is_kept, is_no, is_unjudged, is_untested, least_margin, margin_of};
-ghost use Rattle.judged_runs.specs.Outcomes.{margins_after, nearer, status_of_outcomes, told_summary};
+ghost use Rattle.judged_runs.specs.Outcomes.{nearer, status_of_outcomes, told_summary};
 
 use crate::judgements::Verdict;
 use std::alloc::{AllocError, Global};

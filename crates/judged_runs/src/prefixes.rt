@@ -1,7 +1,7 @@
 //! The search for a deadline that wasn't kept in time, by the prefixes of a run.
 
 ghost use Rattle.std.specs.Prelude.{ℕ, List, ◌≡◌, ◌≤◌, ◌<◌, ◌+◌, ◌↔◌, IfOk, IfSome};
-ghost use Rattle.std.specs.Prelude.{IsNone, MatchOption, OnErr, OnOk, max, min};
+ghost use Rattle.std.specs.Prelude.{IsNone, MatchOption, OnErr, max, min};
 ghost use Rattle.step_trace.specs.Fronts.{Triple, triple_of};
 ghost use Rattle.step_trace.specs.Traces.{Recorded};
 ghost use Rattle.step_trace.specs.declared.traces.TheConstants.{MAX_TICKS};

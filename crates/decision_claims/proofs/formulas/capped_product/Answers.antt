@@ -1,6 +1,5 @@
-use Rattle.std.proofs.Common.{◌^◌, ◌-◌, ◌∙◌, drop, get_or, ◌+◌, arith, sym, ap}
+use Rattle.std.proofs.Common.{◌^◌, ◌-◌, ◌∙◌, drop, get_or, ◌+◌, arith}
 use Rattle.std.proofs.lemmas.List.{drop_more}
-use Rattle.decision_claims.specs.Formulas.{times_all}
 use Rattle.decision_claims.proofs.FormulaTimes.{product_next}
 use Rattle.decision_claims.proofs.formulas.capped_product.Goals as goal
 

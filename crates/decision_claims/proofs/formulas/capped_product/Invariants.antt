@@ -1,4 +1,4 @@
-use Rattle.std.proofs.Common.{◌≡◌, ◌≤◌, min, drop, take, length}
+use Rattle.std.proofs.Common.{◌≡◌, ◌≤◌, min, drop, length}
 use Rattle.decision_claims.specs.Formulas.{times_all}
 use Rattle.decision_claims.proofs.formulas.capped_product.Given as goal
 

@@ -10,4 +10,4 @@ returns c =
     subst (λ (rows : List Row). IsReport c.args.set c.args.trace.now rows) (sym c.rows.ensures)
     (c.in_ok-report.ensures.report c.args.set c.args.trace.now c.in_ok-stairs.ensures) in
     factor_from c.args.set c.args.trace.now c.args.decisions.now c.args.start c.args.formula.now c.least_factor.result
-    (c.least_factor.ensures c.args.trace.now refl (sym c.last_tick-end.ensures.value) report)
+    (c.least_factor.ensures.run c.args.trace.now refl (sym c.last_tick-end.ensures.value) report)

@@ -30,7 +30,7 @@ returns-in-Some-clause-measured c =
     let look = rw (c.trace-trace.ensures, c.in_ok-report.ensures.same) at c.next_look-ahead.ensures.next in
     let own = subst (λ (s : Setup). IsFrom (λ k. KeepsClaim set prefix.cut c.args.decisions.now
     (deadline_times s c.args.start c.args.formula.now k)) (Some c.in-Some.own)) (sym prefix.at.extends.config)
-    ((rw (c.set.ensures, c.trace-trace.ensures, c.in_ok-report.ensures.same) at c.in-Some.ensures) prefix.cut
+    ((rw (c.set.ensures, c.trace-trace.ensures, c.in_ok-report.ensures.same) at c.in-Some.ensures.run) prefix.cut
     (sym prefix.at.extends.config) prefix.at.last prefix.report) in
     let low = prefix_needs set trace prefix.cut c.args.decisions.now c.args.start x c.args.formula.now
     (Some c.in-Some.own) prefix.sound prefix.at own in
@@ -55,6 +55,6 @@ returns-clause-measured c =
     c.in_ok-report.ensures.sound c.requires.inside c.in_ok-report.ensures.report c.rows-rows.ensures in
     let none = subst (λ (s : Setup). (k : ℕ) → ¬ KeepsClaim set prefix.cut c.args.decisions.now
     (deadline_times s c.args.start c.args.formula.now k)) (sym prefix.at.extends.config)
-    ((rw (c.set.ensures, c.trace-trace.ensures, c.in_ok-report.ensures.same) at c.in-None.ensures) prefix.cut
+    ((rw (c.set.ensures, c.trace-trace.ensures, c.in_ok-report.ensures.same) at c.in-None.ensures.run) prefix.cut
     (sym prefix.at.extends.config) prefix.at.last prefix.report) in
     prefix_needs set trace prefix.cut c.args.decisions.now c.args.start x c.args.formula.now None prefix.sound prefix.at none

@@ -21,7 +21,7 @@ returns-clause-needed c =
     let own = subst (λ (s : Setup). IsFrom (λ k. KeepsClaim set prefix.cut c.args.decisions.now
     (deadline_times s c.args.start c.args.formula.now k)) c.least_factor.result) (sym prefix.at.extends.config)
     (factor_from set prefix.cut c.args.decisions.now c.args.start c.args.formula.now c.least_factor.result
-    ((rw (c.set-set.ensures, c.trace-trace.ensures, c.in_ok-report.ensures.same) at c.least_factor.ensures) prefix.cut
+    ((rw (c.set-set.ensures, c.trace-trace.ensures, c.in_ok-report.ensures.same) at c.least_factor.ensures.run) prefix.cut
     (sym prefix.at.extends.config) prefix.at.last prefix.report)) in
     prefix_needs set trace prefix.cut c.args.decisions.now
     c.args.start c.args.x c.args.formula.now c.least_factor.result prefix.sound prefix.at own

@@ -15,9 +15,9 @@ returns-then-tested-demands c =
     let report : IsReport c.args.set c.args.trace.now c.rows-rows.result.now =
     subst (λ (rows : List Row). IsReport c.args.set c.args.trace.now rows) (sym c.rows-rows.ensures)
     (c.in_ok-report.ensures.report c.args.set c.args.trace.now c.in_ok-stairs.ensures) in
-    let tested = c.tested_by-tested.ensures (c.in_ok-late.ensures.rows none) in (
+    let due = c.tested_by-tested.ensures.due in (
       (c.requires.sound, c.in_ok-late.ensures.kept none),
-      record { rows = c.rows-rows.result.now; report = report; count_is = tested.due; few = c.if-tested-demands.true },
+      record { rows = c.rows-rows.result.now; report = report; count_is = due; few = c.if-tested-demands.true },
     )
 
 -- nothing is wrong
@@ -32,7 +32,7 @@ returns c =
       record {
         rows = c.rows-rows.result.now;
         report = report;
-        tested_is = c.tested_by-tested.ensures (c.in_ok-late.ensures.rows none);
+        tested_is = c.tested_by-tested.ensures.tested (c.in_ok-late.ensures.rows none);
         enough = omega (arith, enough);
       },
     )

@@ -1,5 +1,4 @@
-use Rattle.std.proofs.Common.{ap, refl}
-use Rattle.decision_claims.specs.FormulaTexts.{read_on}
+use Rattle.std.proofs.Common.{refl}
 use Rattle.decision_claims.proofs.FormulaWords.{no_word, word_there}
 use Rattle.decision_claims.proofs.formula_texts.Reading.take_word.Goals as goal
 
