@@ -1,7 +1,7 @@
 //! Until when each processor may step.
 
-ghost use Rattle.std.specs.Prelude.{ℕ, ◌≡◌, ◌+◌, ◌-◌, ◌<◌, ◌≤◌, ◌^◌, All, IfOk, IfSome};
-ghost use Rattle.std.specs.Prelude.{IfNone, length, map, slice_index, filter};
+ghost use Rattle.std.specs.Prelude.{ℕ, ◌≡◌, ◌+◌, ◌-◌, ◌<◌, ◌≤◌, IfOk, IfSome};
+ghost use Rattle.std.specs.Prelude.{IfNone, length};
 ghost use Rattle.command_options.specs.Simulations.{live};
 ghost use Rattle.simulated_runs.specs.Crashes.{IsSomeUp, IsUpIn, last_tick, lasts_of};
 

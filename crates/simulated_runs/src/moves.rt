@@ -1,10 +1,9 @@
 //! One step of a simulated run: a Send, or a Receive of what is due.
 
-ghost use Rattle.std.specs.Prelude.{◌≡◌, ◌+◌, ◌≤◌, ◌++◌, ◌∷◌, [], All, Contains, Some, None, IfOk, OnOk, length};
+ghost use Rattle.std.specs.Prelude.{◌≡◌, ◌+◌, ◌≤◌, ◌++◌, ◌∷◌, [], Some, None, OnOk, length};
 ghost use Rattle.step_trace.specs.Configurations.{IsProc};
 ghost use Rattle.step_trace.specs.Traces.{IsWellFormed};
 ghost use Rattle.step_trace.specs.declared.traces.TheConstants.{MAX_STEPS};
-ghost use Rattle.step_buffers.specs.Buffers.{buffer};
 ghost use Rattle.step_buffers.specs.Moves.{next_send};
 ghost use Rattle.step_buffers.specs.NextSteps.{receiving, sending};
 ghost use Rattle.simulated_runs.specs.KeptBounds.{DeltaGoesOn};

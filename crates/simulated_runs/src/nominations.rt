@@ -1,6 +1,6 @@
 //! Who is named for the next step, by a schedule.
 
-ghost use Rattle.std.specs.Prelude.{◌≡◌, ◌<◌, ◌≤◌, length};
+ghost use Rattle.std.specs.Prelude.{◌≤◌, length};
 ghost use Rattle.step_trace.specs.declared.configurations.TheConstants.{MAX_PROCESSORS};
 ghost use Rattle.simulated_runs.specs.Crashes.{IsSomeUp, IsUpIn};
 ghost use Rattle.simulated_runs.specs.Nominations.{IsNominating};

@@ -1,6 +1,6 @@
 //! The messages of a simulated run: when they are due, and which are lost.
 
-ghost use Rattle.std.specs.Prelude.{◌≡◌, ◌+◌, ◌-◌, ◌*◌, ◌<◌, ◌≤◌, ◌^◌, ◌++◌, ◌∷◌};
+ghost use Rattle.std.specs.Prelude.{◌≡◌, ◌+◌, ◌-◌, ◌*◌, ◌<◌, ◌≤◌, ◌++◌, ◌∷◌};
 ghost use Rattle.std.specs.Prelude.{[], true, IfOk, OnOk, length, replicate};
 ghost use Rattle.step_trace.specs.declared.configurations.TheConstants.{MAX_PROCESSORS};
 ghost use Rattle.step_trace.specs.declared.traces.TheConstants.{MAX_STEPS};

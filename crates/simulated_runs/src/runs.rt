@@ -1,13 +1,11 @@
 //! Simulated runs, from what is asked for to the run.
 
-ghost use Rattle.std.specs.Prelude.{ℕ, ◌≡◌, ◌+◌, ◌≤◌, [], IfOk, IfSome, Some, length, replicate};
+ghost use Rattle.std.specs.Prelude.{ℕ, ◌≡◌, ◌+◌, [], IfOk, IfSome, Some, length, replicate};
 ghost use Rattle.step_trace.specs.Bounds.{DeltaHolds, PhiHolds};
-ghost use Rattle.step_trace.specs.Configurations.{IsProc};
 ghost use Rattle.step_buffers.specs.Runs.{IsRun};
 ghost use Rattle.step_trace.specs.Ticks.{IsOnePerTick};
 ghost use Rattle.deciding_runs.specs.Paces.{opening_pace};
 ghost use Rattle.command_options.specs.Simulations.{live};
-ghost use Rattle.command_options.specs.declared.simulations.TheConstants.{MAX_BOUND};
 ghost use Rattle.simulated_runs.specs.Crashes.{StepBeforeCrashes};
 ghost use Rattle.simulated_runs.specs.KeptBounds.{AreLive};
 ghost use Rattle.simulated_runs.specs.Simulations.{AreOpeningTurns, HasRun};
@@ -32,6 +30,7 @@ use step_trace::Config;
 pub fn simulate(alloc: Global, options: SimulationOptions) -> Result<World, StepError>
     ensures config { IfOk result (λ world. world.trace.config ≡ options.config) }
     ensures steps { IfOk result (λ world. length world.trace.steps ≡ options.steps) }
+    ensures limit { IfOk result (λ world. world.limit ≡ options.steps) }
     ensures run { IfOk result (λ world. IsRun world.trace.config world.trace.steps) }
     ensures crashed { IfOk result
         (λ world. StepBeforeCrashes options.crashes.items world.trace.steps) }
@@ -66,7 +65,9 @@ fn ended(simulation: Simulation) -> World
 
 /// Before the first step.
 fn opening(alloc: Global, options: SimulationOptions) -> Result<Simulation, AllocError>
-    ensures { IfOk result (λ s. HasRun options.config options.crashes.items options.bounds s 0) }
+    ensures run { IfOk result
+        (λ s. HasRun options.config options.crashes.items options.bounds s 0) }
+    ensures limit { IfOk result (λ s. s.world.limit ≡ options.steps) }
 {
     let SimulationOptions {
         config,

@@ -1,7 +1,6 @@
 //! Simulated runs: one step in each tick.
 
-ghost use Rattle.std.specs.Prelude.{ℕ, ◌≡◌, ◌+◌, ◌<◌, ◌≤◌, All, IfOk, IfSome, OnOk, length};
-ghost use Rattle.step_trace.specs.Configurations.{IsProc};
+ghost use Rattle.std.specs.Prelude.{◌≡◌, ◌+◌, ◌<◌, ◌≤◌, OnOk, length};
 ghost use Rattle.step_trace.specs.declared.traces.TheConstants.{MAX_STEPS};
 ghost use Rattle.step_trace.specs.declared.configurations.TheConstants.{MAX_PROCESSORS};
 ghost use Rattle.command_options.specs.declared.simulations.TheConstants.{MAX_BOUND};

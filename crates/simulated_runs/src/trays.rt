@@ -1,7 +1,7 @@
 //! The messages that are under way to a processor.
 
-ghost use Rattle.std.specs.Prelude.{◌≡◌, ◌<◌, ◌≤◌, ◌++◌, ◌∷◌, [], All, IfOk, OnOk, filter, not};
-ghost use Rattle.simulated_runs.specs.Trays.{due_ids, is_due, not_due};
+ghost use Rattle.std.specs.Prelude.{◌≡◌, ◌<◌, ◌≤◌, ◌++◌, ◌∷◌, [], All, IfOk, OnOk};
+ghost use Rattle.simulated_runs.specs.Trays.{due_ids, not_due};
 
 use std::alloc::{AllocError, Global};
 use std::marker::Model;

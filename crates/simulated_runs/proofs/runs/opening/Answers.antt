@@ -3,8 +3,8 @@ use Rattle.command_options.specs.Simulations.{live}
 use Rattle.simulated_runs.proofs.Openings.{HasRun-opening, for-stated, small-bounds}
 use Rattle.simulated_runs.proofs.runs.opening.Goals as goal
 
-pub returns : goal.returns
-returns c =
+pub returns-clause-run : goal.returns-clause-run
+returns-clause-run c =
     let o = c.args.options in
     HasRun-opening o.config o.crashes.items o.bounds _ o.patience c.n-n.ensures.sound c.in_ok-new.ensures.config c.in_ok-new.ensures.steps
     c.in_ok-paces.ensures
