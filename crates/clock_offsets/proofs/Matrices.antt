@@ -1,10 +1,10 @@
 -- Needs of 64 clocks in a list.
 use Rattle.std.proofs.Common.{ℕ, zero, suc, ◌≡◌, ◌+◌, ◌*◌, ◌/◌, ◌%◌, ◌<◌, ◌≤◌, ◌⊎◌, inl, inr, List, [], ◌∷◌, ◌++◌}
-use Rattle.std.proofs.Common.{length, Option, Some, None, refl, sym, ap, ◌∙◌, subst, arith, ℤ, pos, ◌+ℤ◌, ◌≤ℤ◌, ◌<ℤ◌}
+use Rattle.std.proofs.Common.{length, Option, Some, None, refl, sym, ap, ◌∙◌, subst, arith, ℤ, pos, ◌+ℤ◌, ◌≤ℤ◌}
 use Rattle.std.specs.Prelude.{slice_index_or}
 use Rattle.std.proofs.lemmas.Bool.{cases_lt}
 use Rattle.std.proofs.lemmas.List.{length_push}
-use Rattle.clock_offsets.specs.ClockOffsets.{Needs, AreLeastOffsets, IsCycleAt, through, greater, plus, best_of, best_with, offset_of}
+use Rattle.clock_offsets.specs.ClockOffsets.{Needs, AreLeastOffsets, through, greater, plus, best_of, best_with, offset_of}
 use Rattle.clock_offsets.specs.declared.refusals.OffsetError.{OffsetError}
 use Rattle.clock_offsets.specs.declared.refusals.OffsetError.TheVariants.{Cycle, TooFar, Memory}
 use Rattle.clock_offsets.specs.Matrices.{needs_at, next_at, AreNext, AreGreatest, AreOffsetsOf, IsWant, IsOffsetRefusal}

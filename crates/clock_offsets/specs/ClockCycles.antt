@@ -1,5 +1,5 @@
 -- Messages that go round a cycle of clocks in less time than any clocks allow (own).
-use Rattle.std.specs.Prelude.{ℕ, ◌≡◌, List, [], ◌∷◌, length, fold, pos}
+use Rattle.std.specs.Prelude.{ℕ, ◌≡◌, ◌≤◌, All, List, [], ◌∷◌, length, fold, pos}
 use Rattle.std.proofs.Common.{ℤ, ◌+ℤ◌, ◌-ℤ◌, ◌<ℤ◌}
 use Rattle.timed_events.specs.declared.events.Event.{Event}
 use Rattle.timed_events.specs.Causes.{IsSentTo}
@@ -23,10 +23,17 @@ LeadFrom events from (hop ∷ hops) to = IsClockHop events from hop × LeadFrom 
 abbrev pub took_together : List ClockHop → ℤ
 took_together hops = fold (λ total hop. total +ℤ hop.took) (pos 0) hops
 
--- The messages lead from a clock back to it, and took together less than one unit each. So no
--- offsets of clocks bring them into order: what one clock gains another loses.
+-- of the events that received messages the first is the one at the least place
+abbrev pub BeginAtFirst : List ClockHop → Type 0
+BeginAtFirst [] = Unit {0}
+BeginAtFirst (first ∷ hops) = All (λ hop. first.event ≤ hop.event) hops
+
+-- The messages lead from a clock back to it, begun at the first of their events, and took together
+-- less than one unit each. So no offsets of clocks bring them into order: what one clock gains
+-- another loses.
 pub record IsClockCycle (events : List Event) (cycle : ClockCycle) : Type 0 where
   pub clock : ℕ
   pub round : LeadFrom events clock cycle.hops.items clock
+  pub first : BeginAtFirst cycle.hops.items
   pub total : cycle.total ≡ took_together cycle.hops.items
   pub short : cycle.total <ℤ pos (length cycle.hops.items)

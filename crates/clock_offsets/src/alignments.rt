@@ -80,6 +80,7 @@ pub fn moved_events(
 ) -> Result<Vec<Event>, TooLate>
     requires forward { (j : ℕ) → pos 0 ≤ℤ offset_in offsets.now j }
     ensures moved { IfOk result (λ v. v.items ≡ map (moved_event offsets.now) events.items) }
+    ensures within { OnOk result (¬ IsTooLate events.items offsets.now latest) }
     ensures refused { IfErr result (λ why. IsTooLate events.items offsets.now latest) }
 {
     let mut moved = events;
@@ -93,6 +94,8 @@ pub fn moved_events(
 fn move_event(event: &mut Event, offsets: &Offsets, latest: i128) -> Result<(), TooLate>
     requires forward { (j : ℕ) → pos 0 ≤ℤ offset_in offsets.now j }
     ensures moved { OnOk result (event.new ≡ moved_event offsets.now event.old) }
+    ensures within { OnOk result
+        ((event.old.time +ℤ offset_in offsets.now (event.old.processor - 1)) ≤ℤ latest) }
     ensures refused { IfErr result
         (λ why. latest <ℤ (event.old.time +ℤ offset_in offsets.now (event.old.processor - 1))) }
 {
@@ -105,6 +108,7 @@ fn move_event(event: &mut Event, offsets: &Offsets, latest: i128) -> Result<(), 
 fn moved_time(time: i128, offset: i128, latest: i128) -> Result<i128, TooLate>
     requires forward { pos 0 ≤ℤ offset }
     ensures moved { IfOk result (λ moved. moved ≡ time +ℤ offset) }
+    ensures within { OnOk result ((time +ℤ offset) ≤ℤ latest) }
     ensures refused { IfErr result (λ why. latest <ℤ (time +ℤ offset)) }
 {
     let Some(moved) = time.checked_add(offset) else {

@@ -1,10 +1,10 @@
 //! A cycle of clocks whose messages no offsets bring into order.
 
-ghost use Rattle.std.specs.Prelude.{◌≡◌, ◌≤◌, ◌-ℤ◌, ◌+ℤ◌, IfOk, IfSome, IsTrue, OnOk, length};
+ghost use Rattle.std.specs.Prelude.{◌≡◌, ◌≤◌, ◌-ℤ◌, IfOk, IfSome, IsTrue, length, nat_le};
 ghost use Rattle.timed_events.specs.Causes.{IsSentTo};
-ghost use Rattle.std.specs.List.{list_any};
+ghost use Rattle.std.specs.List.{list_all, list_any};
 ghost use Rattle.timed_events.specs.Checks.{is_message, time_at};
-ghost use Rattle.clock_offsets.specs.ClockCycles.{IsClockCycle, IsClockHop};
+ghost use Rattle.clock_offsets.specs.ClockCycles.{BeginAtFirst, IsClockCycle, IsClockHop};
 
 use crate::needs::{clock_at, needs_among};
 use crate::offsets::{CLOCKS, by_way_of, is_ahead};
@@ -181,10 +181,27 @@ fn tested_cycle(
         total = sum;
         at = clock_at(events, hop.event as usize);
     }
-    if at != clock || total >= hops.len() as i128 {
+    if at != clock || total >= hops.len() as i128 || !begin_at_first(&hops) {
         return Ok(None);
     }
     Ok(Some(ClockCycle { hops, total }))
+}
+
+/// Whether the first of these events is the one at the least place.
+fn begin_at_first(hops: &[ClockHop]) -> bool
+    ensures { IsTrue result → BeginAtFirst hops.now }
+{
+    match hops.first() {
+        Some(first) => are_from(hops, first.event),
+        None => true,
+    }
+}
+
+/// Whether none of these events is at a lesser place.
+fn are_from(hops: &[ClockHop], place: u32) -> bool
+    ensures { result ≡ list_all (λ hop. nat_le place hop.event) hops.now }
+{
+    hops.iter().all(|hop| place <= hop.event)
 }
 
 /// A message that was sent from a clock, with how long it took; nothing if it wasn't.

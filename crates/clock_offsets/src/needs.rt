@@ -1,6 +1,6 @@
 //! What the messages of events need of the clocks of their processors.
 
-ghost use Rattle.std.specs.Prelude.{◌≡◌, ◌<◌, ◌≤◌, ◌-◌, ℕ, IfErr, IfOk, OnOk, Some, length};
+ghost use Rattle.std.specs.Prelude.{◌≡◌, ◌<◌, ◌-◌, ℕ, IfErr, IfOk, OnOk, Some, length};
 ghost use Rattle.clock_offsets.specs.ClockOffsets.{greater};
 ghost use Rattle.clock_offsets.specs.EventNeeds.{clock_at, need_of, with_need, AreNeedsAmong};
 ghost use Rattle.clock_offsets.specs.Matrices.{needs_at, IsWant};

@@ -1,10 +1,10 @@
 //! The least offsets of clocks, from what messages need of them.
 
-ghost use Rattle.std.specs.Prelude.{ℕ, ◌≡◌, ◌<◌, ◌≤◌, None, Some, IsTrue, length, pos, IfErr, IfOk, slice_index_or};
+ghost use Rattle.std.specs.Prelude.{◌≡◌, ◌<◌, ◌≤◌, None, Some, IsTrue, length, pos, IfErr, IfOk};
 ghost use Rattle.std.proofs.Common.{ℤ, ◌≤ℤ◌, ◌<ℤ◌};
 ghost use Rattle.clock_offsets.specs.declared.refusals.OffsetError.TheVariants as refused;
 ghost use Rattle.clock_offsets.specs.ClockOffsets.{best_of, best_with, greater, plus};
-ghost use Rattle.clock_offsets.specs.Matrices.{needs_at, next_at, AreGreatest, AreNext};
+ghost use Rattle.clock_offsets.specs.Matrices.{needs_at, AreGreatest, AreNext};
 ghost use Rattle.clock_offsets.specs.Matrices.{AreOffsetsOf, IsOffsetRefusal, IsWant};
 
 use crate::refusals::OffsetError;

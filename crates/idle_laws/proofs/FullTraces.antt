@@ -88,7 +88,7 @@ module _ (nothing : EventAct) (is : IsOfNothing nothing) where
 
   receives : (polls : List IdleTick) → AreReceives polls (map receive_in polls)
   receives [] = tt
-  receives (x ∷ polls) = (record { own = refl; act = is }, receives polls)
+  receives (x ∷ polls) = (record { time = refl; own = refl; act = is }, receives polls)
 
   pub full : (log : Log) (limit : ℕ) (sparse : Recorded)
       → log.n ≤ MAX_PROCESSORS → AreMeant log.events log.n → IsSparse log limit sparse → (full : Recorded) × IsFull log limit full

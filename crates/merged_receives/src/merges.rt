@@ -1,6 +1,7 @@
 //! The events of which each is made if receives are merged.
 
-ghost use Rattle.std.specs.Prelude.{◌≡◌, ◌<◌, ◌≤◌, ◌+◌, ◌==◌, ℕ, IfErr, IfOk, if◌then◌else◌, length, slice_index};
+ghost use Rattle.std.specs.Prelude.{◌≡◌, ◌<◌, ◌≤◌, ◌+◌, ◌==◌, ℕ, Err, IfErr, IfOk, None, if◌then◌else◌, length};
+ghost use Rattle.std.specs.Prelude.{slice_index};
 ghost use Rattle.timed_events.specs.Causes.{IsTimeOrder};
 ghost use Rattle.timed_events.specs.Checks.{AreOfProcessors, IsEventRefusal};
 ghost use Rattle.timed_events.specs.Times.{times_refusal};
@@ -42,6 +43,7 @@ pub fn merged_parts(
     ensures some { IfOk result (λ m. 0 < length m.parts) }
     ensures refused { IfErr result
         (λ why. IsEventRefusal why (times_refusal events.now clock.now)) }
+    ensures more { result ≡ Err EventError.Memory → times_refusal events.now clock.now ≡ None }
 {
     let span = span_of(events, clock)?;
     let order = time_order_of(alloc, events)?;

@@ -70,7 +70,8 @@ message-passes events ticks r i k s f n l = go (is_for events s (processor_at ev
       go true p false q false t = absurd (cc)
       go true p false q true t = refl
 
-any-same : (p q : ℕ → Bool) (n : ℕ) → ((j : ℕ) → j < n → p j ≡ q j) → any_below p n ≡ any_below q n
+-- tests that say the same below a number find the same there
+pub any-same : (p q : ℕ → Bool) (n : ℕ) → ((j : ℕ) → j < n → p j ≡ q j) → any_below p n ≡ any_below q n
 any-same p q zero h = refl
 any-same p q (suc n) h = ap₂ (λ a b. a || b) (any-same p q n (λ j l. h j (omega arith))) (h n (omega arith))
 

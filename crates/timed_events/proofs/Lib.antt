@@ -40,3 +40,4 @@ pub mod IdleEnds
 pub mod TickedEvents
 pub mod IdleEvents
 pub mod OneIdle
+pub mod SomeHops

@@ -1,5 +1,5 @@
 -- The ticks in which short silences of processors end, and events with a receive of nothing in each (own).
-use Rattle.std.specs.Prelude.{ℕ, ◌≡◌, ◌+◌, ◌<◌, ◌≤◌, ◌⊎◌, List, [], length, map, slice_index}
+use Rattle.std.specs.Prelude.{ℕ, ◌≡◌, ◌+◌, ◌<◌, ◌≤◌, ◌⊎◌, List, [], length, map, pos, slice_index}
 use Rattle.std.specs.List.{All, AllZip, Contains}
 use Rattle.timed_events.specs.declared.events.Event.{Event}
 use Rattle.timed_events.specs.declared.events.EventAct.{EventAct}
@@ -64,8 +64,9 @@ abbrev pub IsOfNothing : EventAct → Type 0
 IsOfNothing (Send to) = ⊥
 IsOfNothing (Receive messages) = messages ≡ []
 
--- the event is a receive of nothing by the processor of this tick
+-- the event is a receive of nothing by the processor of this tick, at the time 0 whatever the tick
 pub record IsIdleReceive (x : IdleTick) (event : Event) : Type 0 where
+  pub time : event.time ≡ pos 0
   pub own : event.processor ≡ x.processor
   pub act : IsOfNothing event.act
 

@@ -1,8 +1,7 @@
 //! What makes events a trace, tested event by event.
 
 ghost use Rattle.std.specs.Prelude.{◌≡◌, ◌<◌, ◌+◌, ◌||◌, ◌↔◌, ℕ, None, Some, false, length, map, IfOk, OnOk};
-ghost use Rattle.std.specs.Prelude.{OnErr, MatchResult, IsTrue, IsSome, is_some, nat_eq, slice_get, slice_index_or};
-ghost use Rattle.std.specs.Prelude.{All};
+ghost use Rattle.std.specs.Prelude.{MatchResult, IsTrue, IsSome, is_some, nat_eq, slice_index_or};
 ghost use Rattle.std.specs.HashSet.{contains};
 ghost use Rattle.timed_events.specs.Briefs.{brief_of};
 ghost use Rattle.timed_events.specs.Checks.{received_before, messages_at, message_refusal, messages_refusal};

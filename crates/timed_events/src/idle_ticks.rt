@@ -1,6 +1,6 @@
 //! The ticks in which short silences of processors end.
 
-ghost use Rattle.std.specs.Prelude.{◌≡◌, ◌<◌, ◌≤◌, ◌+◌, ◌-◌, ◌++◌, ◌∷◌, ℕ, [], if◌then◌else◌};
+ghost use Rattle.std.specs.Prelude.{◌≡◌, ◌<◌, ◌≤◌, ◌+◌, ◌-◌, ◌∷◌, ℕ, []};
 ghost use Rattle.std.specs.Prelude.{length, IfOk, OnOk, slice_index};
 ghost use Rattle.timed_events.specs.Checks.{AreMeant, AreOfProcessors};
 ghost use Rattle.timed_events.specs.IdleTicks.{AreIdle};

@@ -117,8 +117,8 @@ pub fn filling_of(
 }
 
 /// The trace of events in their ticks as `placed_trace` makes it, with receives of nothing in the idle ticks. The
-/// receives are then behind the events in the list: a place from the number of events on is that of a receive that was
-/// added.
+/// receives are then behind the events in the list, with the time 0: a place from the number of events on is that of a
+/// receive that was added.
 ///
 /// Asks for 2 to 64 processors, and for events with what `filling_of` gives for them; `spread`, `clock` and `limit` are
 /// read by the clauses alone. Fails only if out of memory: then the list of events is unchanged.
@@ -226,7 +226,7 @@ fn add_receives(idles: &[IdleTick], events: &mut Vec<Event>) -> Result<(), Alloc
     Ok(())
 }
 
-/// A receive of nothing by the processor of an idle tick.
+/// A receive of nothing by the processor of an idle tick, at the time 0.
 fn receive_of_nothing(idle: IdleTick) -> Event
     ensures { IsIdleReceive idle result }
 {

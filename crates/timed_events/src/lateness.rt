@@ -1,7 +1,8 @@
 //! Messages that are received no later than they are sent, by the times of the events.
 
-ghost use Rattle.std.specs.Prelude.{◌≡◌, ◌≤◌, IfOk, length};
+ghost use Rattle.std.specs.Prelude.{◌≡◌, ◌<◌, ◌≤◌, IfOk, OnErr, length};
 ghost use Rattle.timed_events.specs.Checks.{time_at};
+ghost use Rattle.timed_events.specs.Received.{hops_of};
 ghost use Rattle.timed_events.specs.Lateness.{is_late, late_message, lateness_among, lateness_of, worse};
 
 use crate::cause_cycles::Hop;
@@ -30,10 +31,12 @@ pub struct Lateness {
     pub worst: Option<LateMessage>,
 }
 
-/// How many messages the events received no later than they were sent, by the times of the events.
+/// How many messages the events received no later than they were sent, by the times of the events. Fails only if out of
+/// memory, and never if they received no message that an event sent.
 pub fn lateness_of(alloc: Global, events: &[Event]) -> Result<Lateness, AllocError>
     requires few { length events.now ≤ MAX_STEPS }
     ensures lateness { IfOk result (λ l. l ≡ lateness_of events.now) }
+    ensures more { OnErr result (0 < length (hops_of events.now)) }
 {
     let hops = hops_of(alloc, events)?;
     Ok(lateness_among(events, &hops))

@@ -1,6 +1,6 @@
 //! The messages that events received.
 
-ghost use Rattle.std.specs.Prelude.{◌≡◌, ◌≤◌, ◌<◌, ◌++◌, IfOk, OnOk, length};
+ghost use Rattle.std.specs.Prelude.{◌≡◌, ◌≤◌, ◌<◌, ◌++◌, IfOk, OnErr, OnOk, length};
 ghost use Rattle.timed_events.specs.Received.{hop_in, hops_at, hops_of};
 
 use crate::cause_cycles::Hop;
@@ -8,10 +8,12 @@ use crate::events::Event;
 use std::alloc::{AllocError, Global};
 use step_trace::MAX_STEPS;
 
-/// The messages that the events received and that an event sent, in the order of the events that received them.
+/// The messages that the events received and that an event sent, in the order of the events that received them. Fails
+/// only if out of memory, and never if there is none.
 pub fn hops_of(alloc: Global, events: &[Event]) -> Result<Vec<Hop>, AllocError>
     requires few { length events.now ≤ MAX_STEPS }
     ensures hops { IfOk result (λ v. v.items ≡ hops_of events.now) }
+    ensures more { OnErr result (0 < length (hops_of events.now)) }
 {
     let mut hops = Vec::new(alloc);
     for place in 0..events.len() {
@@ -25,6 +27,7 @@ fn push_hops(events: &[Event], place: usize, hops: &mut Vec<Hop>) -> Result<(), 
     requires few { length events.now ≤ MAX_STEPS }
     requires inside { place < length events.now }
     ensures more { OnOk result (hops.new.items ≡ hops.old.items ++ hops_at events.now place) }
+    ensures some { OnErr result (0 < length (hops_at events.now place)) }
 {
     let messages = events[place].act.messages();
     for message in messages {
@@ -42,6 +45,7 @@ fn push_hop(
 ) -> Result<(), AllocError>
     requires place { place < MAX_STEPS }
     ensures more { OnOk result (hops.new.items ≡ hops.old.items ++ hop_in count place message) }
+    ensures some { OnErr result (0 < length (hop_in count place message)) }
 {
     let Some(sent) = message else {
         return Ok(());
