@@ -9,8 +9,8 @@ use Rattle.std.proofs.lemmas.List.Elements.{All-nil, All-push, All-tail, All-hea
 use Rattle.std.proofs.lemmas.Map.Keys.{IsDistinct-push}
 use Rattle.std.proofs.lemmas.Bool.{and_parts, not-true, or_from}
 use borrow.Author.Tests.{ltb-true, lt-ltb}
-use Rattle.trace_text.specs.Names.{has_name}
-use Rattle.event_log.specs.Names.{is_node_name, with_name}
+use Rattle.trace_text.specs.Names.{has_name, is_node_name}
+use Rattle.event_log.specs.Names.{with_name}
 use Rattle.event_log.specs.Options.{AreNodes, IsNodeFault, is_next_node}
 use Rattle.event_log.specs.declared.options.OptionError.{OptionError}
 use Rattle.event_log.specs.declared.options.OptionError.TheVariants as option

@@ -13,6 +13,7 @@ use Rattle.timed_events.specs.Causes.{IsTimeOrder}
 use Rattle.timed_events.specs.Checks.{messages_at, sends_at}
 use Rattle.timed_events.specs.Firsts.{any_below}
 use Rattle.timed_events.specs.Times.{time_ticks}
+use Rattle.timed_events.proofs.IdleEvents.{any-same}
 use Rattle.event_log.specs.Events.{Seen, SeenAct, Sends, Receives, seen, seen_act}
 use Rattle.event_log.specs.LostSends.{left_message}
 use Rattle.merged_receives.specs.Merges.{is_joined, is_merged, is_part, is_receive, is_send_between, parts_of, receives_at, staying_before, staying_places}
@@ -38,10 +39,6 @@ receives-seen : (events : List Event) (s : ℕ) → receives_at events s
 receives-seen [] s = refl
 receives-seen (e ∷ es) zero = receive-seen e.act
 receives-seen (e ∷ es) (suc s) = receives-seen es s
-
-any-same : (p q : ℕ → Bool) → ((i : ℕ) → p i ≡ q i) → (n : ℕ) → any_below p n ≡ any_below q n
-any-same p q h zero = refl
-any-same p q h (suc n) = ap₂ (λ (a b : Bool). a || b) (any-same p q h n) (h n)
 
 flat-same : (f g : ℕ → List (Option ℕ)) → ((i : ℕ) → f i ≡ g i) → (xs : List ℕ) → flat_map f xs ≡ flat_map g xs
 flat-same f g h [] = refl
@@ -79,12 +76,12 @@ module _ (xs ys : List Event) (same : map seen xs ≡ map seen ys) where
   joined-same ticks j i = ap₂ (λ (a b : Bool). a && b) (receives-same j) (ap₂ (λ (a b : Bool). a && b) (receives-same i)
       (ap₂ (λ (a b : Bool). a && b) (ap₂ (λ p q. p == q) (processors xs ys same j) (processors xs ys same i))
       (ap (λ (b : Bool). (slice_index ticks j == slice_index ticks i) && b) (ap₂ (λ (a b : Bool). a && not b) (earlier xs ys same j i)
-      (any-same (is_send_between xs j i) (is_send_between ys j i) (between-same j i) (length xs)
+      (any-same (is_send_between xs j i) (is_send_between ys j i) (length xs) (λ k l. between-same j i k)
       ∙ ap (any_below (is_send_between ys j i)) (lengths xs ys same))))))
 
   merged-same : (ticks : List ℕ) (i : ℕ) → is_merged xs ticks i ≡ is_merged ys ticks i
   unfolding is_merged
-  merged-same ticks i = any-same (λ j. is_joined xs ticks j i) (λ j. is_joined ys ticks j i) (λ j. joined-same ticks j i) (length xs)
+  merged-same ticks i = any-same (λ j. is_joined xs ticks j i) (λ j. is_joined ys ticks j i) (length xs) (λ j l. joined-same ticks j i)
       ∙ ap (any_below (λ j. is_joined ys ticks j i)) (lengths xs ys same)
 
   part-same : (ticks : List ℕ) (h i : ℕ) → is_part xs ticks h i ≡ is_part ys ticks h i

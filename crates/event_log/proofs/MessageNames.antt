@@ -1,7 +1,7 @@
 -- The names of messages in a field.
 use Rattle.std.proofs.Common.{◌≡◌, ℕ, ◌<◌, ◌==◌, arith, List, [], ◌∷◌, length, true, refl}
 use Rattle.std.specs.List.{list_all, slice_split}
-use Rattle.trace_text.specs.Names.{is_message_name, words_of}
+use Rattle.trace_text.specs.Names.{is_message_name}
 use Rattle.event_log.specs.Names.{are_message_names}
 
 -- an empty field has none

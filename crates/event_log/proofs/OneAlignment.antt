@@ -9,6 +9,7 @@ use Rattle.timed_events.specs.Received.{hops_of}
 use Rattle.clock_offsets.specs.EventNeeds.{AreClockOffsets, AreInOrder, IsInOrder, clock_at, offset_in}
 use Rattle.clock_offsets.specs.MovedClocks.{moved_event}
 use Rattle.clock_offsets.proofs.ClockOffsets.{same-both}
+use Rattle.event_log.specs.declared.times.TimeKind.{TimeKind}
 use Rattle.event_log.specs.Alignments.{AreAligned}
 use Rattle.event_log.specs.Events.{Seen, seen}
 use Rattle.event_log.proofs.SeenEvents.{hops-same, processors-same, times-same}
@@ -52,13 +53,13 @@ unfolding moved_seen
 moved-seen offsets [] = refl
 moved-seen offsets (x ∷ xs) = ap (λ (ss : List Seen). moved_seen offsets (seen x) ∷ ss) (moved-seen offsets xs)
 
-pub aligned-once : (align : Bool) (n : ℕ) (xs ys : List Event) (a b : Option (List ℤ)) (ms ns : List Event)
-    → map seen xs ≡ map seen ys → AreAligned align n xs a ms → AreAligned align n ys b ns
+pub aligned-once : (align : Bool) (kind : TimeKind) (n : ℕ) (xs ys : List Event) (a b : Option (List ℤ)) (ms ns : List Event)
+    → map seen xs ≡ map seen ys → AreAligned align kind n xs a ms → AreAligned align kind n ys b ns
     → (a ≡ b) × (map seen ns ≡ map seen ms)
-aligned-once false n xs ys a b ms ns e s t = (s.0 ∙ sym t.0, ap (map seen) t.1 ∙ sym e ∙ sym (ap (map seen) s.1))
-aligned-once true n xs ys None b ms ns e s t = absurd s
-aligned-once true n xs ys (Some a) None ms ns e s t = absurd t
-aligned-once true n xs ys (Some a) (Some b) ms ns e s t = (ap (λ (o : List ℤ). Some o) same, moved) where
+aligned-once false kind n xs ys a b ms ns e s t = (s.0 ∙ sym t.0, ap (map seen) t.1 ∙ sym e ∙ sym (ap (map seen) s.1))
+aligned-once true kind n xs ys None b ms ns e s t = absurd s
+aligned-once true kind n xs ys (Some a) None ms ns e s t = absurd t
+aligned-once true kind n xs ys (Some a) (Some b) ms ns e s t = (ap (λ (o : List ℤ). Some o) same, moved) where
   same : a ≡ b
   same = offsets-same n xs ys e a b s.least t.least
 

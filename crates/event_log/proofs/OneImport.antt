@@ -40,6 +40,7 @@ use Rattle.event_log.proofs.LeftEvents.{places-same}
 use Rattle.event_log.proofs.MergedOnce.{taken-once}
 use Rattle.event_log.proofs.SeenEvents.{lateness-same, lengths}
 use Rattle.event_log.proofs.SeenSilences.{made-as-seen, made-once}
+use Rattle.event_log.proofs.SoundLogs.{same-ok}
 
 -- steps that go on in the same way
 then-same : {A B : Type 0} (r : Result A LogError) (f g : A → Result B LogError) → ((x : A) → f x ≡ g x) → r >>= f ≡ r >>= g
@@ -102,9 +103,6 @@ module _ (unit : Option TimeUnit) (a b : Option (Bor (List (List ℕ))))
 pub IsRead-unique : (o : Options) (text : List ℕ) (a b : Result SeenLog LogError) → IsRead o text a → IsRead o text b → a ≡ b
 IsRead-unique o text a b s t = sym s.staged
     ∙ staged-same o.unit s.listed t.listed (s.same ∙ sym t.same) (unwrap_or o.nodes []) text ∙ t.staged
-
-same-Ok : {A : Type 0} {x y : A} → ◌≡◌ {A = Result A LogError} (Ok x) (Ok y) → x ≡ y
-same-Ok e = cc e
 
 same-import : (a b : Import) → a.trace ≡ b.trace → a.nodes ≡ b.nodes → a.moved ≡ b.moved → a.lateness ≡ b.lateness
     → a.offsets ≡ b.offsets → a.idle ≡ b.idle → a.lost ≡ b.lost → a.merged ≡ b.merged → a ≡ b
@@ -182,24 +180,24 @@ pub IsImportOf-unique : (o : Options) (text : List ℕ) (a b : Import) → IsImp
 IsImportOf-unique o text a b s t = same-import a b made.0
     (s.nodes ∙ ap (λ l. l.nodes) log ∙ sym t.nodes) made.1 late one.0 made.2 made.3 made.4 where
       log : s.log ≡ t.log
-      log = same-Ok (IsRead-unique o text (Ok s.log) (Ok t.log) s.told.read t.told.read)
+      log = same-ok (IsRead-unique o text (Ok s.log) (Ok t.log) s.told.read t.told.read)
 
       clock : s.clock ≡ t.clock
-      clock = same-Ok (sym s.told.fits ∙ ap (λ l. clock_in o l.kind) log ∙ t.told.fits)
+      clock = same-ok (sym s.told.fits ∙ ap (λ l. clock_in o l.kind) log ∙ t.told.fits)
 
       events : map seen t.events ≡ map seen s.events
       events = t.told.same ∙ sym (ap (λ l. l.events) log) ∙ sym s.told.same
 
       -- the offsets are one, and the aligned events are seen as the same
       one : (a.offsets ≡ b.offsets) × (map seen t.aligned ≡ map seen s.aligned)
-      one = aligned-once o.align (length s.log.nodes) s.events t.events a.offsets b.offsets s.aligned t.aligned (sym events)
-          s.clocks (subst (λ l. AreAligned o.align (length l.nodes) t.events b.offsets t.aligned) (sym log) t.clocks)
+      one = aligned-once o.align s.log.kind (length s.log.nodes) s.events t.events a.offsets b.offsets s.aligned t.aligned (sym events)
+          s.clocks (subst (λ l. AreAligned o.align l.kind (length l.nodes) t.events b.offsets t.aligned) (sym log) t.clocks)
 
       late : a.lateness ≡ b.lateness
       late = s.lateness ∙ sym (lateness-same t.aligned s.aligned one.1) ∙ sym t.lateness
 
       limit : s.limit ≡ t.limit
-      limit = same-Ok (sym s.fits_idle ∙ ap₂ (λ (l : SeenLog) (c : Clock). limit_in o l.kind c) log clock ∙ t.fits_idle)
+      limit = same-ok (sym s.fits_idle ∙ ap₂ (λ (l : SeenLog) (c : Clock). limit_in o l.kind c) log clock ∙ t.fits_idle)
 
       other : IsMadeOfLog o.drop_lost o.merge s.limit o.spread (length s.log.nodes) t.aligned s.clock b
       other = subst (λ (l : SeenLog). IsMadeOfLog o.drop_lost o.merge s.limit o.spread (length l.nodes) t.aligned s.clock b) (sym log)

@@ -50,5 +50,5 @@ aligned-log-once o text ns ms xs ys s t =
       events = s.same ∙ ap (λ (l : SeenLog). l.events) log ∙ sym t.same
 
       one : (s.offsets ≡ t.offsets) × (map seen ys ≡ map seen xs)
-      one = aligned-once o.align (length s.log.nodes) s.events t.events s.offsets t.offsets xs ys events s.clocks
-          (subst (λ (l : SeenLog). AreAligned o.align (length l.nodes) t.events t.offsets ys) (sym log) t.clocks)
+      one = aligned-once o.align s.log.kind (length s.log.nodes) s.events t.events s.offsets t.offsets xs ys events s.clocks
+          (subst (λ (l : SeenLog). AreAligned o.align l.kind (length l.nodes) t.events t.offsets ys) (sym log) t.clocks)

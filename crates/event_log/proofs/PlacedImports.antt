@@ -71,7 +71,7 @@ untaken-unmade drop merge limit spread text nodes events clock why =
 
 module _ (o : Options) (text : List ℕ) (log : SeenLog) (events : List Event) (clock : Clock)
     (told : AreEventsOf o text log events clock) (aligned : AlignedLog)
-    (clocks : AreAligned o.align (length log.nodes) events aligned.offsets aligned.log.events.items)
+    (clocks : AreAligned o.align log.kind (length log.nodes) events aligned.offsets aligned.log.events.items)
     (nodes : aligned.log.nodes ≡ log.nodes) (limit : Option ℕ) (fits : limit_in o log.kind clock ≡ Ok limit)
     (drop merge : Bool) (asked : o.drop_lost ≡ drop) (joined : o.merge ≡ merge) where
   pub placed-import : (table : Bool) (lateness : Lateness) → lateness ≡ lateness_of aligned.log.events.items
@@ -95,7 +95,8 @@ module _ (o : Options) (text : List ℕ) (log : SeenLog) (events : List Event) (
           clock = clock;
           told = told;
           aligned = aligned.log.events.items;
-          clocks = subst (λ (offsets : Option (List ℤ)). AreAligned o.align (length log.nodes) events offsets aligned.log.events.items)
+          clocks = subst
+              (λ (offsets : Option (List ℤ)). AreAligned o.align log.kind (length log.nodes) events offsets aligned.log.events.items)
               (sym offsets_are) clocks;
           limit = limit;
           fits_idle = fits;

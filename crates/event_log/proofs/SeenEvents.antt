@@ -26,7 +26,7 @@ use Rattle.timed_events.specs.declared.events.Clock.{Clock}
 use Rattle.timed_events.specs.declared.lateness.LateMessage.{LateMessage}
 use Rattle.timed_events.specs.declared.lateness.Lateness.{Lateness}
 use Rattle.timed_events.specs.declared.spread_traces.TimedTrace.{TimedTrace}
-use Rattle.timed_events.specs.Firsts.{first_of, any_below}
+use Rattle.timed_events.specs.Firsts.{first_of}
 use Rattle.timed_events.specs.Checks.{processor_at, messages_at, time_at, is_for, sends_to, received_in, is_message}
 use Rattle.timed_events.specs.Checks.{received_before, was_received, late_hint, message_fault, message_faults}
 use Rattle.timed_events.specs.Checks.{first_fault, message_refusal, messages_refusal, moment_of, moment_at, earlier_at}
@@ -38,6 +38,7 @@ use Rattle.timed_events.specs.Causes.{is_earlier, IsOwnBefore, IsSentTo, IsCause
 use Rattle.timed_events.specs.Lateness.{is_late, late_message, lateness_among, lateness_of, worse}
 use Rattle.timed_events.specs.Received.{hop_in, hops_at, hops_of}
 use Rattle.timed_events.specs.Spreads.{IsSpreadAt, AreLeast, AreTicks, last_of, moved_of, IsAfterTimes, HavePassed, IsTimed}
+use Rattle.timed_events.proofs.IdleEvents.{any-same}
 use Rattle.event_log.specs.Events.{Seen, SeenAct, Sends, Receives, seen, seen_act}
 
 -- what is asked of an event, asked of what is seen of it
@@ -87,10 +88,6 @@ map-seen f (x ∷ xs) = ap (λ ns. f x.time ∷ ns) (map-seen f xs)
 first-same : {X : Type 0} (f g : ℕ → Option X) → ((i : ℕ) → f i ≡ g i) → (n : ℕ) → first_of f n ≡ first_of g n
 first-same f g h zero = refl
 first-same f g h (suc n) = ap₂ (λ a b. option_or a b) (first-same f g h n) (h n)
-
-any-same : (p q : ℕ → Bool) → ((i : ℕ) → p i ≡ q i) → (n : ℕ) → any_below p n ≡ any_below q n
-any-same p q h zero = refl
-any-same p q h (suc n) = ap₂ (λ a b. a || b) (any-same p q h n) (h n)
 
 each-hops : (f g : ℕ → List Hop) → ((i : ℕ) → f i ≡ g i) → (xs : List ℕ) → flat_map f xs ≡ flat_map g xs
 each-hops f g h [] = refl
@@ -162,7 +159,7 @@ module _ (xs ys : List Event) (same : map seen xs ≡ map seen ys) where
   received-same : (i s : ℕ) → received_before xs i s ≡ received_before ys i s
   unfolding received_before
   received-same i s = any-same (λ j. list_any (is_message s) (messages_at xs j))
-      (λ j. list_any (is_message s) (messages_at ys j)) (λ j. ap (list_any (is_message s)) (messages j)) i
+      (λ j. list_any (is_message s) (messages_at ys j)) i (λ j l. ap (list_any (is_message s)) (messages j))
 
   was-same : (i k s : ℕ) → was_received xs i k s ≡ was_received ys i k s
   was-same i k s = ap₂ (λ (a : Bool) (ms : List (Option ℕ)). a || list_any (is_message s) (take k ms)) (received-same i s) (messages i)

@@ -162,7 +162,7 @@ told place (Ok n) s h = go (after_said place n s) (λ m e. one-more place n m s 
   go (Ok m) f = f m refl
   go (Err e) f = tt
 
-same-ok : {A : Type 0} {x y : A} → ◌≡◌ {A = Result A LogError} (Ok x) (Ok y) → x ≡ y
+pub same-ok : {A : Type 0} {x y : A} → ◌≡◌ {A = Result A LogError} (Ok x) (Ok y) → x ≡ y
 same-ok e = cc e
 
 -- one record more

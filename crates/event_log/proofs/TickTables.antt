@@ -120,7 +120,7 @@ numbers-in events clock trace moved places p at h = record {
 
 module _ (o : Options) (text : List ℕ) (log : SeenLog) (events : List Event) (read : IsRead o text (Ok log))
     (same : map seen events ≡ log.events) (aligned : AlignedLog)
-    (clocks : AreAligned o.align (length log.nodes) events aligned.offsets aligned.log.events.items)
+    (clocks : AreAligned o.align log.kind (length log.nodes) events aligned.offsets aligned.log.events.items)
     (nodes : aligned.log.nodes ≡ log.nodes) (until : Option ℤ) (ends : until_in log.kind o.until ≡ Ok until) where
   told-with : (width : ℕ) → 0 < width → AreEventsOf (with_width o width) text log events (clock_of log.kind until width)
   told-with width some =

@@ -4,7 +4,7 @@ use Rattle.std.specs.Prelude.{MatchBool, ⊤}
 use Rattle.timed_events.specs.declared.events.Event.{Event}
 use Rattle.timed_events.specs.Checks.{first_fault}
 use Rattle.clock_offsets.specs.EventNeeds.{AreClockOffsets, AreInOrder}
-use Rattle.clock_offsets.specs.MovedClocks.{moved_event}
+use Rattle.clock_offsets.specs.MovedClocks.{IsTooLate, moved_event}
 use Rattle.event_log.specs.declared.times.TimeKind.{TimeKind}
 use Rattle.event_log.specs.declared.times.TimeKind.TheVariants as kind
 use Rattle.event_log.specs.Times.{nanoseconds_in}
@@ -27,17 +27,19 @@ latest_in kind.Stamp = pos 253402207200999999999
 latest_in kind.Local = pos 253402207200999999999
 
 -- Nothing is against the messages of the events. The offsets are the least that bring them into order, and each event
--- is moved by that of its node's clock.
-pub record IsAligned (n : ℕ) (events : List Event) (offsets : List ℤ) (moved : List Event) : Type 0 where
+-- is moved by that of its node's clock, by which none comes later than the latest time of its kind.
+pub record IsAligned (kind : TimeKind) (n : ℕ) (events : List Event) (offsets : List ℤ)
+    (moved : List Event) : Type 0 where
   pub passed : first_fault events ≡ None
   pub least : AreClockOffsets n events offsets
+  pub in_time : ¬ IsTooLate events offsets (latest_in kind)
   pub moved_are : moved ≡ map (moved_event offsets) events
 
 -- the events with their clocks aligned, if that is asked for
-abbrev pub AreAligned : Bool → ℕ → List Event → Option (List ℤ) → List Event → Type 0
-AreAligned false n events offsets moved = (offsets ≡ None) × (moved ≡ events)
-AreAligned true n events None moved = ⊥
-AreAligned true n events (Some offsets) moved = IsAligned n events offsets moved
+abbrev pub AreAligned : Bool → TimeKind → ℕ → List Event → Option (List ℤ) → List Event → Type 0
+AreAligned false kind n events offsets moved = (offsets ≡ None) × (moved ≡ events)
+AreAligned true kind n events None moved = ⊥
+AreAligned true kind n events (Some offsets) moved = IsAligned kind n events offsets moved
 
 -- no offsets bring the messages into order, which a cycle of clocks shows, if one is reported
 pub record HaveNoOffsets (text : List ℕ) (nodes : List (List ℕ)) (events : List Event) (why : LogError) : Type 0 where

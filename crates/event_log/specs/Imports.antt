@@ -36,7 +36,7 @@ pub record IsAlignedLogOf (o : Options) (text : List ℕ) (nodes : List (List �
   pub read : IsRead o text (Ok log)
   pub same : map seen events ≡ log.events
   pub offsets : Option (List ℤ)
-  pub clocks : AreAligned o.align (length log.nodes) events offsets aligned
+  pub clocks : AreAligned o.align log.kind (length log.nodes) events offsets aligned
   pub nodes_are : nodes ≡ log.nodes
 
 -- The trace is that of the events of a log, without lost sends if these are left out, and with
@@ -62,7 +62,7 @@ pub record IsImportOf (o : Options) (text : List ℕ) (import : Import) : Type 0
   pub clock : Clock
   pub told : AreEventsOf o text log events clock
   pub aligned : List Event
-  pub clocks : AreAligned o.align (length log.nodes) events import.offsets aligned
+  pub clocks : AreAligned o.align log.kind (length log.nodes) events import.offsets aligned
   pub limit : Option ℕ
   pub fits_idle : limit_in o log.kind clock ≡ Ok limit
   pub made : IsMadeOfLog o.drop_lost o.merge limit o.spread (length log.nodes) aligned clock import
@@ -135,17 +135,19 @@ pub record IsUntimed (o : Options) (text : List ℕ) (why : LogError) : Type 0 w
   pub told : AreEventsOf o text log events clock
   pub offsets : Option (List ℤ)
   pub aligned : List Event
-  pub clocks : AreAligned o.align (length log.nodes) events offsets aligned
+  pub clocks : AreAligned o.align log.kind (length log.nodes) events offsets aligned
   pub limit : Option ℕ
   pub fits_idle : limit_in o log.kind clock ≡ Ok limit
   pub unmade : IsUnmadeOfLog o.drop_lost o.merge limit o.spread text log.nodes aligned clock why
 
--- the events are read, and their clocks aren't aligned, though that is asked for
+-- the events are read, all options fit their times, and their clocks aren't aligned, though that is asked for
 pub record IsUnaligned (o : Options) (text : List ℕ) (why : LogError) : Type 0 where
   pub log : SeenLog
   pub events : List Event
   pub clock : Clock
   pub told : AreEventsOf o text log events clock
+  pub limit : Option ℕ
+  pub fits_idle : limit_in o log.kind clock ≡ Ok limit
   pub asked : o.align ≡ true
   pub unaligned : IsUnalignedFor text log.nodes events why
 

@@ -15,7 +15,8 @@ use Rattle.event_log.specs.declared.refusals.LogError.TheVariants.{BadFields, Ba
 use Rattle.event_log.specs.declared.times.Moment.{Moment}
 use Rattle.event_log.specs.declared.times.TimeKind.{TimeKind}
 use Rattle.trace_text.specs.Names.{has_name, is_message_name}
-use Rattle.event_log.specs.Names.{are_message_names, is_node_name}
+use Rattle.trace_text.specs.Names.{is_node_name}
+use Rattle.event_log.specs.Names.{are_message_names}
 use Rattle.event_log.specs.Times.{moment_in, moment_of}
 
 -- what a record says about an event

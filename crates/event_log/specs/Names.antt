@@ -1,15 +1,11 @@
 -- The names of nodes and messages.
-use Rattle.std.specs.Prelude.{ℕ, Bool, not, ◌&&◌, ◌==◌, List, [], ◌∷◌, ◌++◌}
+use Rattle.std.specs.Prelude.{ℕ, Bool, List, [], ◌∷◌, ◌++◌}
 use Rattle.std.specs.Prelude.{map, if◌then◌else◌}
-use Rattle.std.specs.List.{list_all, list_any}
+use Rattle.std.specs.List.{list_all}
 use Rattle.indexmap.specs.IndexSet.{IndexSet}
 use Rattle.event_log.specs.declared.name_keys.NameKey.{NameKey}
 use Rattle.event_log.specs.NameKeys.{name_of}
-use Rattle.trace_text.specs.Names.{has_name, is_message_name, is_name, words_of}
-
--- the name of a node, which has no semicolon: a send to several nodes lists them with one between them
-unfoldable pub is_node_name : List ℕ → Bool
-is_node_name name = is_name name && not (list_any (λ byte. byte == 59) name)
+use Rattle.trace_text.specs.Names.{has_name, is_message_name, words_of}
 
 -- names of messages with one space between them, possibly none
 unfoldable pub are_message_names : List ℕ → Bool

@@ -11,8 +11,7 @@ use Rattle.event_log.specs.declared.times.LogEnd.{LogEnd}
 use Rattle.event_log.specs.declared.times.TimeUnit.{TimeUnit}
 use Rattle.event_log.specs.declared.times.Width.{Width}
 use Rattle.event_log.specs.declared.times.Width.TheVariants.{Units}
-use Rattle.trace_text.specs.Names.{has_name}
-use Rattle.event_log.specs.Names.{is_node_name}
+use Rattle.trace_text.specs.Names.{has_name, is_node_name}
 use Rattle.event_log.specs.Times.{IsEnd, IsWidth, unit_of}
 
 -- the parts of a text between its commas

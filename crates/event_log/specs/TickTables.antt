@@ -74,7 +74,7 @@ pub record IsTickTable (o : Options) (text : List ℕ) (kind : TimeKind) (rows :
   pub same : map seen events ≡ log.events
   pub offsets : Option (List ℤ)
   pub aligned : List Event
-  pub clocks : AreAligned o.align (length log.nodes) events offsets aligned
+  pub clocks : AreAligned o.align log.kind (length log.nodes) events offsets aligned
   pub until : Option ℤ
   pub ends : until_in log.kind o.until ≡ Ok until
   pub left : List Event

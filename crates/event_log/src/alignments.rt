@@ -40,7 +40,8 @@ pub(crate) fn aligned_log(
 ) -> Result<AlignedLog, LogError>
     requires sound { IsSound (seen_log log) }
     ensures aligned { IfOk result
-        (λ a. AreAligned align (length log.nodes) log.events.items a.offsets a.log.events.items) }
+        (λ a. AreAligned align log.kind (length log.nodes) log.events.items
+        a.offsets a.log.events.items) }
     ensures kind { IfOk result (λ a. a.log.kind ≡ log.kind) }
     ensures nodes { IfOk result (λ a. a.log.nodes ≡ log.nodes) }
     ensures sound { IfOk result (λ a. IsSound (seen_log a.log)) }
@@ -127,7 +128,8 @@ fn moved_log(log: NamedEvents, offsets: Offsets) -> Result<AlignedLog, LogError>
     requires passed { first_fault log.events.items ≡ None }
     requires least { AreClockOffsets (length log.nodes) log.events.items offsets }
     ensures aligned { IfOk result
-        (λ a. AreAligned true (length log.nodes) log.events.items a.offsets a.log.events.items) }
+        (λ a. AreAligned true log.kind (length log.nodes) log.events.items
+        a.offsets a.log.events.items) }
     ensures kind { IfOk result (λ a. a.log.kind ≡ log.kind) }
     ensures nodes { IfOk result (λ a. a.log.nodes ≡ log.nodes) }
     ensures sound { IfOk result (λ a. IsSound (seen_log a.log)) }

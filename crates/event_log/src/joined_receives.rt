@@ -4,7 +4,7 @@ ghost use Rattle.std.specs.Prelude.{◌≡◌, ◌<◌, ◌≤◌, ◌++◌, ℕ
 ghost use Rattle.std.specs.List.Sorted.{IsStrictlyIncreasing};
 ghost use Rattle.timed_events.specs.Checks.{AreOfProcessors, IsEventRefusal, messages_at};
 ghost use Rattle.timed_events.specs.Times.{times_refusal};
-ghost use Rattle.merged_receives.specs.MergeWalks.{ArePart, AreParts};
+ghost use Rattle.merged_receives.specs.MergeWalks.{AreParts};
 ghost use Rattle.event_log.specs.Events.{seen};
 ghost use Rattle.event_log.specs.LostSends.{left_message};
 ghost use Rattle.event_log.specs.Merges.{AreJoined, joined_at, joined_from, joined_messages, joined_receive};

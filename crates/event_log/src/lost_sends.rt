@@ -1,7 +1,7 @@
 //! The events of a log but the sends of messages that no record receives.
 
 ghost use Rattle.std.specs.Prelude.{◌≡◌, ◌==◌, ◌||◌, ◌∷◌, ◌++◌, [], ◌<◌, ◌≤◌, if◌then◌else◌, ℕ, IfOk};
-ghost use Rattle.std.specs.Prelude.{OnOk, Some, false, length, map, slice_index, slice_index_or};
+ghost use Rattle.std.specs.Prelude.{OnOk, false, length, map, slice_index, slice_index_or};
 ghost use Rattle.std.specs.List.{list_any};
 ghost use Rattle.event_log.specs.Events.{seen};
 ghost use Rattle.event_log.specs.LostSends.{AreLeft, is_lost, is_received, left_event};

@@ -27,7 +27,7 @@ pub(crate) fn message_name(
 {
     let column = message_place(alloc, text)?;
     let record = record_at(alloc, text, event + 1)?;
-    part_of(alloc, field(&record, column), k)
+    word_of(alloc, field(&record, column), k)
 }
 
 /// The place of the column of messages, or 0 if there is none.
@@ -65,15 +65,15 @@ fn record_at(alloc: Global, text: &[u8], place: usize) -> Result<ByteRecord, All
     }
 }
 
-/// The part at place `k` of a field whose parts have one space between them, or nothing.
-fn part_of(alloc: Global, field: &[u8], k: usize) -> Result<Name, AllocError>
+/// The word at place `k` of a field whose words have one space between them, or nothing.
+fn word_of(alloc: Global, field: &[u8], k: usize) -> Result<Name, AllocError>
     ensures { IfOk result (λ name. name ≡ slice_index_or (words_of field.now) k []) }
 {
     if field.len() == 0 {
         return Name::new(alloc, &[]);
     }
     match field.split(|byte| *byte == b' ').nth(k) {
-        Some(part) => Name::new(alloc, part),
+        Some(word) => Name::new(alloc, word),
         None => Name::new(alloc, &[]),
     }
 }

@@ -5,16 +5,15 @@ ghost use Rattle.std.specs.Prelude.{◌==◌, Some, true, false};
 ghost use Rattle.std.specs.Prelude.{length, not, option_map, position, slice_get};
 ghost use Rattle.std.specs.List.{position_or_len};
 ghost use Rattle.std.specs.Str.{bytes_eq};
-ghost use Rattle.event_log.specs.NameKeys.{name_of};
 ghost use Rattle.trace_text.specs.Names.{has_name};
-ghost use Rattle.event_log.specs.Names.{are_message_names};
-ghost use Rattle.event_log.specs.Names.{is_node_name, names_in, with_name};
+ghost use Rattle.event_log.specs.NameKeys.{name_of};
+ghost use Rattle.event_log.specs.Names.{are_message_names, names_in, with_name};
 
 use crate::name_keys::{NameKey, are_same};
 use indexmap::IndexSet;
 use std::alloc::{AllocError, Global};
 use std::marker::Model;
-use trace_text::names::{is_message_name, is_name, is_plain};
+use trace_text::names::is_message_name;
 
 /// The greatest number of nodes.
 pub(crate) const MAX_NODES: usize = 64;
@@ -46,20 +45,6 @@ impl Name {
     {
         self.bytes.as_slice()
     }
-}
-
-/// Whether these bytes are the name of a node: one without a semicolon.
-#[tactic(auto, unfolding(crate::specs::Names::is_node_name))]
-pub(crate) fn is_node_name(name: &[u8]) -> bool
-    ensures { result ≡ is_node_name name.now }
-{
-    if is_plain(name, b';') {
-        return true;
-    }
-    if !is_name(name) {
-        return false;
-    }
-    !name.contains(&b';')
 }
 
 /// Whether these bytes are names of messages with one space between them, possibly none.
@@ -143,13 +128,14 @@ impl NameSet {
         Ok(NameSet { names })
     }
 
-    /// Puts a name last, unless it is there.
+    /// Puts a name last, unless it is there. Fails only if out of memory, and never for a name that is there.
     pub fn add(&mut self, alloc: Global, name: &[u8]) -> Result<AddedName, AllocError>
         ensures names { OnOk result (self.new ≡ with_name self.old name.now) }
         ensures place { IfOk result (λ a. a.place ≡ position_or_len (bytes_eq name.now) self.old) }
         ensures added { IfOk result (λ a. a.is_new ≡ not (has_name self.old name.now)) }
         ensures within { IfOk result (λ a. a.place < length self.new) }
         ensures kept { OnErr result (self.new ≡ self.old) }
+        ensures more { OnErr result (has_name self.old name.now ≡ false) }
     {
         if let Some(place) = self.place_of(name) {
             return Ok(AddedName {
@@ -172,6 +158,7 @@ impl NameSet {
         ensures added { IfOk result (λ a. a.is_new ≡ not (has_name self.old name.now)) }
         ensures within { IfOk result (λ a. a.place < length self.new) }
         ensures kept { OnErr result (self.new ≡ self.old) }
+        ensures more { OnErr result (has_name self.old name.now ≡ false) }
     {
         if self.is_at(guess, name) {
             return Ok(AddedName {

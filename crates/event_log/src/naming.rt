@@ -1,6 +1,6 @@
 //! The nodes and the messages of a log, numbered as its events name them.
 
-ghost use Rattle.std.specs.Prelude.{◌≡◌, ◌+◌, ℕ, true, IfOk, OnOk, length, map, not};
+ghost use Rattle.std.specs.Prelude.{◌≡◌, ◌+◌, true, IfOk, OnOk, length, map, not};
 ghost use Rattle.trace_text.specs.Records.{GivesUnless, ReachesUnless};
 ghost use Rattle.event_log.specs.Naming.{IsUnless, Named, act_after, after_said, begun, is_memory, is_send_to};
 ghost use Rattle.event_log.specs.Naming.{nodes_after, number_of, number_to, sends_to, sent_after, was_sent};

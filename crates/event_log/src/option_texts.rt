@@ -7,11 +7,12 @@ ghost use Rattle.event_log.specs.Options.{HasBadUntil, IsIdleIn, IsNodeFault, Is
 ghost use Rattle.event_log.specs.Options.{IsUntilIn, IsWidthIn, is_next_node, parts_between_commas, told_options};
 ghost use Rattle.event_log.specs.Times.{nanoseconds_of};
 
-use crate::names::{AddedName, MAX_NODES, NameSet, is_node_name};
+use crate::names::{AddedName, MAX_NODES, NameSet};
 use crate::options::{OptionError, Options};
 use crate::results::both;
 use crate::times::{LogEnd, TimeUnit, Width, read_end, read_unit, read_width};
 use std::alloc::Global;
+use trace_text::names::is_node_name;
 
 /// How a log is read: texts that are still to be read themselves, and flags.
 #[derive(Clone, Copy)]

@@ -1,6 +1,6 @@
 //! The lines at the front of a log that need no reader of csv's, taken in by one thread or by two.
 
-ghost use Rattle.std.specs.Prelude.{◌≡◌, ◌≤◌, length, map};
+ghost use Rattle.std.specs.Prelude.{◌≤◌, length, map};
 ghost use Rattle.trace_text.specs.Records.{GivesUnless};
 ghost use Rattle.event_log.specs.LogRecords.{said};
 ghost use Rattle.event_log.specs.Naming.{is_memory};

@@ -2,17 +2,17 @@
 
 ghost use Rattle.std.specs.Prelude.{◌≡◌, Ok, Err, IfOk, MatchBool, MatchResult, ⊤};
 ghost use Rattle.event_log.specs.LogRecords.{are_messages, are_nodes, bad_node, is_node, moment_as};
-ghost use Rattle.event_log.specs.LogRecords.{name_in, said, said_by, said_of, verb_of};
+ghost use Rattle.event_log.specs.LogRecords.{name_in, said, said_of, verb_of};
 ghost use Rattle.event_log.specs.Naming.{IsUnless, is_memory};
 
 use crate::columns::Columns;
 use crate::fields::Fields;
 use crate::name_keys::are_same;
-use crate::names::{Name, NameSet, are_message_names, is_node_name};
+use crate::names::{Name, NameSet, are_message_names};
 use crate::refusals::LogError;
 use crate::times::{Moment, TimeKind, moment_in, read_moment};
 use std::alloc::{AllocError, Global};
-use trace_text::names::is_message_name;
+use trace_text::names::{is_message_name, is_node_name};
 
 /// What happened, as the column `event` says it.
 #[derive(Clone, Copy)]

@@ -8,9 +8,9 @@ use thiserror::Error;
 use timed_events::Hint;
 
 /// Why a log is refused, in the order in which the stages and their reasons are tested. If clocks are to be aligned,
-/// the reasons against messages whatever their times, then NoOffsets and TooLate, come before those that the end of the
-/// log gives. So does NoEvents, after these, if lost sends are left out. A record's number is its place among all
-/// records, from 1; the header is record 1.
+/// the reasons against messages whatever their times, then NoOffsets and TooLate, come right after IdleUnfit. So does
+/// NoEvents, after these, if lost sends are left out. A record's number is its place among all records, from 1; the
+/// header is record 1.
 #[derive(Debug, Drop, Error)]
 pub enum LogError {
     /// The text has more than 67,108,864 bytes.
@@ -44,7 +44,8 @@ pub enum LogError {
     TooFewNodes,
     /// The length of a tick is a duration, and the times are numbers; or it is 0.
     TickUnfit,
-    /// The end of the log isn't of the kind of the times, or is before some event.
+    /// The end of the log isn't of the kind of the times; or, which is tested after IdleUnfit and what comes right
+    /// after it, it is before some event.
     UntilUnfit,
     /// The longest time without an event that is filled is a duration, and the times are numbers.
     IdleUnfit,

@@ -1,8 +1,7 @@
 //! The table of the steps of a log's trace: a record for each step, with the record of the log that it is.
 
-ghost use Rattle.std.specs.Prelude.{◌≡◌, ◌+◌, ◌-◌, ◌*◌, ◌^◌, ◌<◌, ◌≤◌, ◌++◌, ◌∷◌, [], pos, Err, IfErr, IfOk};
+ghost use Rattle.std.specs.Prelude.{◌≡◌, ◌+◌, ◌-◌, ◌*◌, ◌^◌, ◌<◌, ◌≤◌, ◌++◌, ◌∷◌, [], Err, IfErr, IfOk};
 ghost use Rattle.std.specs.Prelude.{OnOk, decimal, length, slice_index, slice_index_or, string_bytes};
-ghost use Rattle.std.proofs.Common.{◌+ℤ◌};
 ghost use Rattle.std.specs.Fmt.{signed_decimal};
 ghost use Rattle.csv.specs.Records.{fields_of, partial_of};
 ghost use Rattle.csv.specs.Writing.{row_text};
@@ -11,7 +10,7 @@ ghost use Rattle.trace_text.specs.RecordWriting.{IsReady, our_writer, written};
 ghost use Rattle.event_log.specs.Imports.{IsLogRefusal};
 ghost use Rattle.event_log.specs.LogPlaces.{log_place};
 ghost use Rattle.event_log.specs.StepTables.{IsTableOf, begin_of, field_at, if_logged, joined_fields, message_fields};
-ghost use Rattle.event_log.specs.StepTables.{receiver_name_at, record_of_step, step_record, table_header, table_text};
+ghost use Rattle.event_log.specs.StepTables.{receiver_name_at, record_of_step, table_header, table_text};
 ghost use Rattle.event_log.specs.StepTables.{with_field, word_at};
 ghost use Rattle.event_log.specs.ToldNames.{node_name};
 

@@ -1,8 +1,8 @@
 //! The events of a log of which its trace is made, if lost sends are left out or receives are merged.
 
 ghost use Rattle.std.specs.Prelude.{◌≡◌, ◌<◌, ◌≤◌, ◌⊎◌, ℕ, [], Err, IfErr, IfOk, MatchBool, None};
-ghost use Rattle.std.specs.Prelude.{Some, ⊤, false, length, map, option_map, slice_index, true};
-ghost use Rattle.timed_events.specs.Checks.{AreOfProcessors, IsEventRefusal};
+ghost use Rattle.std.specs.Prelude.{Some, ⊤, false, length, map, slice_index, true};
+ghost use Rattle.timed_events.specs.Checks.{AreOfProcessors};
 ghost use Rattle.timed_events.specs.Times.{times_refusal};
 ghost use Rattle.event_log.specs.LogPlaces.{log_place};
 ghost use Rattle.event_log.specs.TakenEvents.{AreTaken, IsEmptied, IsTimesError, IsUnmergedOf, kept_count};

@@ -2,7 +2,6 @@
 
 ghost use Rattle.std.specs.Prelude.{◌≡◌, ◌≤◌, IfSome, length};
 ghost use Rattle.event_log.specs.ToldLines.{AreTold, IsToldBy};
-ghost use Rattle.trace_text.specs.Records.{field_of};
 
 use crate::plain_lines::PlainLine;
 use crate::records::{Rules, Told, told_of};

@@ -4,7 +4,6 @@ ghost use Rattle.std.specs.Prelude.{◌≡◌, IfErr, IfOk, IfSome, OnOk};
 ghost use Rattle.std.specs.Io.KnownBytes.{IsAtEnd};
 ghost use Rattle.trace_text.specs.Faults.{inner_of, faults_of};
 ghost use Rattle.log_windows.specs.Devices.{faults_after_rows};
-ghost use Rattle.log_windows.specs.Windows.{nothing_read};
 ghost use Rattle.log_windows.specs.LogWindows.{IsKeptOf, IsUnkept, IsWindowOf, IsWindowRefusal};
 
 use crate::devices::{WindowError, take_rows_from};

@@ -1,11 +1,9 @@
 //! Which records of a log are in a window, and what is kept of them.
 
-ghost use Rattle.std.specs.Prelude.{◌≡◌, ◌++◌, ◌+◌, IfOk, IfErr, OnOk};
+ghost use Rattle.std.specs.Prelude.{◌≡◌, ◌+◌, IfOk, IfErr, OnOk};
 ghost use Rattle.csv.specs.Records.{fields_of};
-ghost use Rattle.csv.specs.Writing.{row_text};
 ghost use Rattle.event_log.specs.Naming.{is_memory};
 ghost use Rattle.trace_text.specs.Records.{ReachesUnless};
-ghost use Rattle.trace_text.specs.RecordWriting.{our_writer};
 ghost use Rattle.log_windows.specs.KeptRows.{begun, key_of, keys_after, needs_point, next_part, pointed};
 ghost use Rattle.log_windows.specs.KeptRows.{rows_after, with_event, with_header, with_row};
 ghost use Rattle.log_windows.specs.Windows.{event_after, header_after, nothing_read};

@@ -56,6 +56,8 @@ returns-in_err-aligned-clause-refused g c =
         same = refl;
         fits = sym c.in_ok-clock.ensures.clock;
       };
+      limit = c.in_ok-limit.limit;
+      fits_idle = sym c.in_ok-limit.ensures;
       asked = c.in_err-aligned.ensures.refused.0;
       unaligned = same;
     }))

@@ -1,4 +1,4 @@
-use Rattle.std.proofs.Common.{inl, refl, sym, subst, length, arith}
+use Rattle.std.proofs.Common.{inl, None, refl, sym, subst, length, arith}
 use Rattle.std.proofs.lemmas.Result.{err_from_is_err_and}
 use Rattle.std.proofs.lemmas.List.Elements.{All-weaker}
 use Rattle.event_log.specs.declared.times.TimeKind.{TimeKind}
@@ -59,6 +59,8 @@ returns-in_err-aligned-clause-refused c =
               same = refl;
               fits = fits-with o log.kind until 1 (omega arith) (sym c.in_ok-until.ensures);
             };
+            limit = None;
+            fits_idle = refl;
             asked = c.in_err-aligned.ensures.refused.0;
             unaligned = same;
           }),

@@ -16,7 +16,7 @@ returns c =
     let two : 2 ≤ length (map (λ field. field.now) kept) =
     (let l = length-map kept (λ field. field.now) in omega (arith, l, c.len.ensures.value, c.if-len-lt2.false)) in
     let begin : strip_bom (drop c.args.at text) ≡ drop c.args.at text =
-    rw (tail-whole text c.args.at) at c.may_be_marked.ensures c.if-may_be_marked.false in
+    rw (tail-whole text c.args.at) at c.may_be_marked.ensures.unmarked c.if-may_be_marked.false in
     let behind : strip_bom (drop end text) ≡ drop end text =
-    rw (tail-whole text end) at c.may_be_marked-else-may_be_marked.ensures c.if-may_be_marked-2.false in
+    rw (tail-whole text end) at c.may_be_marked-else-may_be_marked.ensures.unmarked c.if-may_be_marked-2.false in
     line-is_read text c.args.at (map (λ field. field.now) kept) end c.in_ok-end.ensures two begin behind
