@@ -48,8 +48,7 @@ ended_run end.Decided c n t seats run order agree made = record {
 }
 
 -- such a run that wasn't written whole
-pub unwritten_run : (e : RunEnd) (c : Setup) (n : ℕ) (t shown : Recorded) (before after : Option (List ℕ)) (why : WriteError) → IsEndedRun
-    e c n t → shown ≡ t → WroteBefore why (trace_text shown) before after → IsUnwrittenRun e c n before after (fault_of_write why)
-unwritten_run e c n t shown before after (unwritten.Write k) over same part =
-    (shown, subst (IsEndedRun e c n) (sym same) over, part.0, part.1)
-unwritten_run e c n t shown before after unwritten.Memory over same part = tt
+pub unwritten_run : (Run : Recorded → Type 0) (t shown : Recorded) (before after : Option (List ℕ)) (why : WriteError)
+    → Run t → shown ≡ t → WroteBefore why (trace_text shown) before after → IsUnwrittenRun Run before after (fault_of_write why)
+unwritten_run Run t shown before after (unwritten.Write k) over same part = (shown, subst Run (sym same) over, part.0, part.1)
+unwritten_run Run t shown before after unwritten.Memory over same part = tt

@@ -1,12 +1,14 @@
 -- What a follower of a run prints.
 use Rattle.std.specs.Prelude.{ℕ, ◌≡◌, ◌⊎◌, ◌*◌, ◌-◌, ◌<◌, ◌≤◌, List, [], ◌∷◌, ◌++◌}
-use Rattle.std.specs.Prelude.{length, Option, Some, None, flat_map, take, ⊤}
+use Rattle.std.specs.Prelude.{length, Option, Some, None, flat_map, take, false, ⊤}
 use Rattle.std.specs.Io.KnownBytes.{Appends}
 use Rattle.step_trace.specs.Configurations.{Setup}
 use Rattle.step_trace.specs.declared.correct_sets.Correct.{Correct}
 use Rattle.step_trace.specs.CorrectSets.{named}
 use Rattle.step_trace.specs.Processors.{IsWithin}
 use Rattle.step_trace.specs.Traces.{Recorded}
+use Rattle.chunk_join.specs.Analysts.{opening}
+use Rattle.trace_text.specs.declared.counting.Counting.{Counting}
 use Rattle.deciding_runs.specs.declared.decisions.Decision.{Decision}
 use Rattle.deciding_runs.specs.Decisions.{decisions}
 use Rattle.locked_recorder.specs.Prefixes.{IsRunOf}
@@ -93,6 +95,16 @@ pub record HasTold (Line : ℕ → ℕ → List ℕ → Type 0) (since until : �
   pub parts : List (List ℕ)
   pub each : AreParts Line since until parts
   pub out : Appends before after (flat_map (λ part. part) parts)
+
+-- A follower of a run of the configuration, in which so many steps are to be made: it has seen none of them, and its
+-- writer is the one that was lent.
+pub record IsFreshFollower {T : Type 0} (c : Setup) (all : ℕ) (writer : Counting T) (f : Follower T) : Type 0 where
+  pub analyst : f.analyst ≡ opening c f.analyst.set
+  pub all_is : f.all ≡ all
+  pub told : f.told ≡ 0
+  pub fed : f.fed ≡ 0
+  pub goes_on : f.is_over ≡ false
+  pub writer_is : f.writer ≡ writer
 
 -- A line is due as before, and a follower that was over stays over.
 pub record GoesOnAlike {T : Type 0} (old new : Follower T) : Type 0 where

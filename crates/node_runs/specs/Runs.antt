@@ -96,8 +96,7 @@ IsFaultOfNodes (fault.Write n) = ⊤
 IsFaultOfNodes why = IsFaultOfThreads why
 
 -- if the output failed, there is such a run, of whose text that many first bytes went out; nothing is noted
-abbrev pub IsUnwrittenRun : RunEnd → Setup → ℕ → Option (List ℕ) → Option (List ℕ) → Fault → Type 0
-IsUnwrittenRun end c n before after (fault.Write k) =
-    (trace : Recorded) × IsEndedRun end c n trace × (k ≤ length (trace_text trace))
-    × Appends before after (take k (trace_text trace))
-IsUnwrittenRun end c n before after _ = ⊤
+abbrev pub IsUnwrittenRun : (Recorded → Type 0) → Option (List ℕ) → Option (List ℕ) → Fault → Type 0
+IsUnwrittenRun Run before after (fault.Write k) =
+    (trace : Recorded) × Run trace × (k ≤ length (trace_text trace)) × Appends before after (take k (trace_text trace))
+IsUnwrittenRun Run before after _ = ⊤

@@ -1,6 +1,6 @@
 -- Simulated runs: what is printed of one.
 use Rattle.std.specs.Prelude.{ℕ, ◌≡◌, ◌+◌, List, [], ◌∷◌, ◌++◌, IfSome, length, codes, decimal, nat_lt}
-use Rattle.std.specs.Prelude.{Option, Some, None, if◌then◌else◌}
+use Rattle.std.specs.Prelude.{Option, Some, None, if◌then◌else◌, ⊤}
 use Rattle.step_trace.specs.Bounds.{DeltaHolds, PhiHolds}
 use Rattle.step_trace.specs.Traces.{Recorded}
 use Rattle.trace_text.specs.TraceTexts.{trace_text}
@@ -9,6 +9,8 @@ use Rattle.command_options.specs.declared.simulations.SimulationOptions.{Simulat
 use Rattle.command_options.specs.declared.simulations.StatedBounds.{StatedBounds}
 use Rattle.simulated_runs.specs.Crashes.{StepBeforeCrashes}
 use Rattle.simulated_runs.specs.KeptBounds.{AreLive}
+use Rattle.command_faults.specs.declared.faults.Fault.{Fault}
+use Rattle.command_faults.specs.declared.faults.Fault.TheVariants as fault
 use Rattle.node_runs.specs.DecisionLines.{told_decisions}
 
 -- A run of the configuration with so many steps, in which no processor steps after it crashed. If bounds are stated,
@@ -42,3 +44,14 @@ pub record IsSimulationText (o : SimulationOptions) (Noted : List ℕ → Type 0
   pub simulated : IsSimulated o trace
   pub written : text ≡ trace_text trace
   pub noted : Noted (told_decisions trace.config trace.steps ++ early_note o)
+
+-- the faults without a run: out of memory, and a step that is refused, which isn't named
+abbrev pub IsFaultOfSimulating : Fault → Type 0
+IsFaultOfSimulating fault.Memory = ⊤
+IsFaultOfSimulating (fault.NotARun number due) = (number ≡ 0) × (due ≡ None)
+IsFaultOfSimulating _ = ⊥
+
+-- these, or a run that isn't written whole
+abbrev pub IsFaultOfSimulation : Fault → Type 0
+IsFaultOfSimulation (fault.Write n) = ⊤
+IsFaultOfSimulation why = IsFaultOfSimulating why

@@ -1,6 +1,6 @@
 //! The lines that report who decided in a run: all of them at its end, and meanwhile those that aren't reported yet.
 
-ghost use Rattle.std.specs.Prelude.{◌≡◌, IfOk, filter, length, string_bytes};
+ghost use Rattle.std.specs.Prelude.{◌≡◌, IfOk, filter, string_bytes};
 ghost use Rattle.node_runs.specs.DecisionLines.{all_decided, count_words, decided_line, decision_words};
 ghost use Rattle.node_runs.specs.DecisionLines.{is_later, line_of_any, told_decisions, told_later};
 

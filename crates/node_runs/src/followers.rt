@@ -2,17 +2,15 @@
 
 ghost use Rattle.std.specs.Prelude.{◌≡◌, ◌⊎◌, ◌↔◌, ◌-◌, ◌*◌, ◌<◌, length, IfOk, IfErr, IfSome};
 ghost use Rattle.std.specs.Prelude.{OnOk, IsTrue, Some, None, true, false, option_map};
-ghost use Rattle.std.specs.Io.KnownBytes.{Appends};
 ghost use Rattle.step_trace.specs.CorrectSets.{named};
 ghost use Rattle.suffix_staircase.specs.Analysis.{AreLevels};
 ghost use Rattle.trace_text.specs.ByteLoops.{WasFaultless};
 ghost use Rattle.trace_text.specs.Faults.{inner_of};
 ghost use Rattle.command_faults.specs.Printing.{IsWriteFault};
 ghost use Rattle.node_runs.specs.DecisionLines.{told_later};
-ghost use Rattle.node_runs.specs.Standings.{IsStanding};
 ghost use Rattle.node_runs.specs.StandingLines.{told_stop};
 ghost use Rattle.node_runs.specs.Followers.{AreAmong, GoesOnAlike, HasBegun, HasTold, HasToldOne, IsDue};
-ghost use Rattle.node_runs.specs.Followers.{IsLine, IsLineOf, IsNextLineOf, IsSetRefusal, TellsOf};
+ghost use Rattle.node_runs.specs.Followers.{IsFreshFollower, IsLine, IsLineOf, IsNextLineOf, IsSetRefusal, TellsOf};
 
 use crate::decision_lines::later_text;
 use crate::standing_lines::{tell_standing, tell_stop};
@@ -68,6 +66,8 @@ pub fn follower_for<W: Write + Drop>(
     ensures set { IfOk result
         (λ made. IfSome made (λ follower. option_map (λ correct. named correct config.now.n) follow
         ≡ Some follower.analyst.set)) }
+    ensures fresh { IfOk result
+        (λ made. IfSome made (IsFreshFollower config.now all writer)) }
     ensures refused { IfErr result (IsSetRefusal follow config.now.n) }
 {
     let Some(correct) = follow else {
@@ -85,7 +85,8 @@ fn started<W: Write + Drop>(
     all: u64,
     mut writer: Counting<W>,
 ) -> Option<Follower<W>>
-    ensures { IfSome result (λ follower. follower.analyst.set ≡ set) }
+    ensures set { IfSome result (λ follower. follower.analyst.set ≡ set) }
+    ensures fresh { IfSome result (IsFreshFollower config.now all writer) }
 {
     let Ok(config) = config.copy(alloc) else {
         // If that fails too, there is nowhere left to report it.

@@ -87,8 +87,8 @@ pub fn run_nodes<R: Threads + Wait + Clock + Sync, W: Write, G: Gate, E: Write +
     ensures faultless { OnOk result (WasFaultless writer.old writer.new) }
     ensures own { IfErr result IsFaultOfNodes }
     ensures part { IfErr result
-        (IsUnwrittenRun limits.end config.now limits.steps (W.contents (inner_of writer.old))
-        (W.contents (inner_of writer.new))) }
+        (IsUnwrittenRun (IsEndedRun limits.end config.now limits.steps)
+        (W.contents (inner_of writer.old)) (W.contents (inner_of writer.new))) }
     ensures unwritten { IfErr result (IsWriteFault writer.old writer.new) }
     ensures quiet { OnErr result (notes.new ≡ notes.old) }
     ensures followed { HasFollowed E.contents config.now follower.old follower.new }

@@ -1,11 +1,13 @@
 //! Simulated runs: the trace that is printed, and the lines of who decided, and of a run that is too short.
 
-ghost use Rattle.std.specs.Prelude.{ℕ, List, IfOk, OnOk, OnErr, ◌≡◌, ◌++◌, IsTrue, string_bytes};
+ghost use Rattle.std.specs.Prelude.{ℕ, List, IfOk, IfErr, OnOk, OnErr, ◌≡◌, ◌++◌, IsTrue, string_bytes};
 ghost use Rattle.std.specs.Io.KnownBytes.{Appends};
 ghost use Rattle.trace_text.specs.ByteLoops.{WasFaultless};
 ghost use Rattle.trace_text.specs.Faults.{inner_of, is_flushed};
-ghost use Rattle.command_faults.specs.Printing.{WentOut};
+ghost use Rattle.command_faults.specs.Printing.{IsWriteFault, WentOut};
 ghost use Rattle.node_runs.specs.DecisionLines.{told_decisions};
+ghost use Rattle.node_runs.specs.Runs.{IsUnwrittenRun};
+ghost use Rattle.node_runs.specs.Simulations.{IsFaultOfSimulating, IsFaultOfSimulation};
 ghost use Rattle.node_runs.specs.Simulations.{IsSimulated, IsSimulationText, early_note};
 
 use crate::decision_lines::decisions_text;
@@ -34,6 +36,11 @@ pub fn run_simulation<W: Write, N: Write>(
         × Appends (W.contents (inner_of writer.old)) (W.contents (inner_of writer.new)) text) }
     ensures flushed { OnOk result (IsTrue (is_flushed writer.new)) }
     ensures faultless { OnOk result (WasFaultless writer.old writer.new) }
+    ensures own { IfErr result IsFaultOfSimulation }
+    ensures part { IfErr result
+        (IsUnwrittenRun (IsSimulated options) (W.contents (inner_of writer.old))
+        (W.contents (inner_of writer.new))) }
+    ensures unwritten { IfErr result (IsWriteFault writer.old writer.new) }
     ensures quiet { OnErr result (notes.new ≡ notes.old) }
 {
     let early = early_text(alloc, &options)?;
@@ -95,7 +102,8 @@ impl fmt::Display for EarlyLine {
 
 /// The World that made the run that is asked for.
 fn simulated(alloc: Global, options: SimulationOptions) -> Result<World, Fault>
-    ensures { IfOk result (λ world. IsSimulated options world.trace) }
+    ensures run { IfOk result (λ world. IsSimulated options world.trace) }
+    ensures own { IfErr result IsFaultOfSimulating }
 {
     match simulate(alloc, options) {
         Ok(world) => Ok(world),

@@ -1,8 +1,7 @@
 //! The bounds of a trace at its last tick: the least ones from its first tick on, and from a recent one on.
 
-ghost use Rattle.std.specs.Prelude.{◌≡◌, ◌≤◌, ℕ, length};
+ghost use Rattle.std.specs.Prelude.{◌≡◌, ◌≤◌, ◌↔◌, IsNone, ℕ, length};
 ghost use Rattle.step_trace.specs.Traces.{Recorded};
-ghost use Rattle.step_trace.specs.declared.traces.TheConstants.{MAX_TICKS};
 ghost use Rattle.suffix_staircase.specs.Analysis.{AreLevels};
 ghost use Rattle.node_runs.specs.Standings.{AreLeastBounds, IsStanding, NamesSilent, recent_tick};
 
@@ -36,8 +35,9 @@ pub struct Standing {
 
 /// The bounds of the trace that has these levels; none if it has no tick.
 pub fn standing_of(stairs: &Stairs) -> Option<Standing>
-    ensures { (set : ℕ) (trace : Recorded) → AreLevels set trace stairs.now
+    ensures standing { (set : ℕ) (trace : Recorded) → AreLevels set trace stairs.now
         → IsStanding set trace result }
+    ensures none { IsNone result ↔ (length stairs.now ≡ 0) }
 {
     let last = stairs.len() as u64;
     if last == 0 {

@@ -4,6 +4,7 @@ use Rattle.trace_text.specs.Faults.{inner_of}
 use Rattle.trace_text.specs.TraceTexts.{trace_text}
 use Rattle.command_faults.specs.Printing.{WentOut}
 use Rattle.node_runs.specs.DecisionLines.{told_decisions}
+use Rattle.node_runs.specs.Runs.{IsEndedRun}
 use Rattle.std.proofs.lemmas.Result.{err_from_is_err_and}
 use Rattle.node_runs.proofs.EndedRuns.{unwritten_run}
 use Rattle.node_runs.proofs.ToldLines.{followed_end}
@@ -12,9 +13,8 @@ use Rattle.node_runs.proofs.runs.run_nodes.Goals as goal
 pub returns-in_err-write_trace-clause-part : goal.returns-in_err-write_trace-clause-part
 returns-in_err-write_trace-clause-part g c =
     let p = err_from_is_err_and c.from_residual-in_err-write_trace.result c.from_residual-in_err-write_trace.ensures.1 in
-    rw (p.1, p.2) (unwritten_run c.args.limits.end
-    c.args.config.now c.args.limits.steps c.in_ok-world.world.trace _ _ _ _ c.in_ok-world.ensures.run c.trace.ensures.value
-    c.in_err-write_trace.ensures.part)
+    rw (p.1, p.2) (unwritten_run (IsEndedRun c.args.limits.end c.args.config.now c.args.limits.steps)
+    c.in_ok-world.world.trace _ _ _ _ c.in_ok-world.ensures.run c.trace.ensures.value c.in_err-write_trace.ensures.part)
 
 pub returns-in_err-write_trace-clause-followed : goal.returns-in_err-write_trace-clause-followed
 returns-in_err-write_trace-clause-followed g c =

@@ -3,8 +3,8 @@ use Rattle.node_runs.specs.Standings.{NamesSilent, recent_tick}
 use Rattle.node_runs.proofs.standings.standing_of.Goals as goal
 
 -- there are as many levels as ticks
-pub returns : goal.returns
-returns c = λ set trace levels.
+pub returns-clause-standing : goal.returns-clause-standing
+returns-clause-standing c = λ set trace levels.
     let last = c.len-last.ensures.value ∙ levels.count in
     let since = c.recent_tick-since.ensures.value ∙ ap recent_tick last in
     record {

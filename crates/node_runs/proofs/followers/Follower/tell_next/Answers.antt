@@ -8,7 +8,7 @@ returns-in_err-stairs-clause-told g c = rw c.stairs.ensures.writer (begun_nothin
 
 pub returns-clause-told : goal.returns-clause-told
 returns-clause-told g c =
-    let stands = c.standing_of.ensures c.args.self.now.analyst.set c.args.trace.now c.in_ok-stairs.ensures.stairs in
+    let stands = c.standing_of.ensures.standing c.args.self.now.analyst.set c.args.trace.now c.in_ok-stairs.ensures.stairs in
     rw (← c.stairs.ensures.writer) (begun _ (told_standing c.standing_of.result ++ c.args.news.now)
     g.W.Write.contents c.stairs.new.self.writer c.tell_standing.new.writer c.tell_standing.result
     (inl (record { standing = c.standing_of.result; stands = stands; told = refl }))
@@ -16,7 +16,7 @@ returns-clause-told g c =
 
 pub returns-clause-whole : goal.returns-clause-whole
 returns-clause-whole g c =
-    let stands = c.standing_of.ensures c.args.self.now.analyst.set c.args.trace.now c.in_ok-stairs.ensures.stairs in
+    let stands = c.standing_of.ensures.standing c.args.self.now.analyst.set c.args.trace.now c.in_ok-stairs.ensures.stairs in
     rw (← c.stairs.ensures.writer)
     (told_whole c.args.self.now.analyst.set c.args.trace.now c.standing_of.result c.args.news.now g.W.Write.contents
     c.stairs.new.self.writer c.tell_standing.new.writer c.tell_standing.result
