@@ -1,6 +1,6 @@
 //! What is printed for the job of a command line, of the texts that a caller lends.
 
-ghost use Rattle.std.specs.Prelude.{◌≡◌, ◌≢◌, ◌<◌, IfOk, IfErr, OnOk, option_map, codes, string_bytes};
+ghost use Rattle.std.specs.Prelude.{◌≡◌, ◌≢◌, ◌<◌, IfOk, IfErr, OnOk, option_map, string_bytes};
 ghost use Rattle.c_report.specs.Commands.{IsImportFor, IsJudgementPrinted, IsLineOf, IsPrintedFor, IsPrintedOf, IsSaid};
 ghost use Rattle.c_report.specs.Commands.{IsTextOfLog, IsUnimportedFor, IsUnprintedFor, IsUnprintedOf, lent};
 ghost use Rattle.c_report.specs.Commands.{other_file_words, run_words, runs_words, second_if, simulation_words};

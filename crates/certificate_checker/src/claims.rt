@@ -1,6 +1,6 @@
 //! The rows of a certificate as they are claimed one by one: kept while they are in order.
 
-ghost use Rattle.std.specs.Prelude.{◌≡◌, ◌≤◌, ◌+◌, ◌^◌, ◌<◌, ◌⊎◌, [], true, ℕ, List, IfOk, OnErr, length};
+ghost use Rattle.std.specs.Prelude.{◌≡◌, ◌≤◌, ◌+◌, ◌^◌, ◌<◌, ◌⊎◌, [], true, List, IfOk, OnErr, length};
 ghost use Rattle.step_trace.specs.declared.rows.Row.{Row};
 ghost use Rattle.step_trace.specs.Processors.{IsWithin};
 ghost use Rattle.certificate_checker.specs.declared.claims.ClaimedRows.TheVariants.{InOrder};

@@ -1,6 +1,6 @@
 //! The first tick by which every member of a set has taken a step since each tick, by the silences of the members.
 
-ghost use Rattle.std.specs.Prelude.{◌≡◌, ◌+◌, ◌^◌, ◌≤◌, length, IfOk};
+ghost use Rattle.std.specs.Prelude.{◌+◌, ◌^◌, ◌≤◌, length, IfOk};
 ghost use Rattle.step_trace.specs.Processors.{IsWithin};
 ghost use Rattle.certificate_checker.specs.Silences.{AreSilences};
 ghost use Rattle.certificate_checker.specs.Closings.{AreClosings, IsCarried};

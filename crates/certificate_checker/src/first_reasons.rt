@@ -1,6 +1,6 @@
 //! The first reason against rows, by the parts of the list of reasons.
 
-ghost use Rattle.std.specs.Prelude.{◌≡◌, ◌≤◌, ℕ, length};
+ghost use Rattle.std.specs.Prelude.{◌≡◌, ℕ, length};
 ghost use Rattle.step_trace.specs.Traces.{Recorded};
 ghost use Rattle.step_trace.specs.Processors.{IsWithin};
 ghost use Rattle.certificate_checker.specs.Searches.{IsFirstReason, AreInOrder};

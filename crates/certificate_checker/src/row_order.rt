@@ -1,7 +1,6 @@
 //! Reasons that rows give by themselves. Rows count from 1.
 
 ghost use Rattle.std.specs.Prelude.{◌≡◌, ◌<◌, ◌≤◌, ◌⊎◌};
-ghost use Rattle.step_trace.specs.ReportRows.{row_at};
 ghost use Rattle.certificate_checker.specs.Verdicts.{HasRow, HasTwoRows};
 ghost use Rattle.certificate_checker.specs.Searches.{IsFirst};
 

@@ -1,10 +1,9 @@
 -- The rounds of all processors, as they are counted while the steps of a run are scanned.
 use Rattle.std.proofs.Common.{ℕ, zero, suc, ◌≡◌, ◌+◌, ◌-◌, ◌≤◌, List, take, Some, Bool, true, false, ◌==◌, ◌&&◌, refl, ap, subst, sym, ◌∙◌, arith}
 use Rattle.std.specs.Prelude.{slice_index_or, slice_set}
-use Rattle.std.proofs.lemmas.Bool.{eqb-true, eqb-false}
+use Rattle.std.proofs.lemmas.Bool.{and_right, eqb-true, eqb-false}
 use Rattle.std.proofs.lemmas.Option.{none-some}
-use Rattle.std.proofs.lemmas.List.{length-set, length-replicate, get_or-set_same, get_or-set_other, get_or-replicate}
-use Rattle.std.proofs.Math.ListN.{replicate}
+use Rattle.std.proofs.lemmas.List.{length-set, get_or-set_same, get_or-set_other}
 use Rattle.deciding_runs.proofs.Common.{Step, Setup, IsProc, step_at, act_ends, passed, before, round_at, passed-before, passed-stays, AreRounds}
 use Rattle.deciding_runs.proofs.EndedRounds.{take-one_more, passed-one_more}
 
@@ -38,16 +37,12 @@ round_at-passed steps k x h ends =
     let within : passed (before steps (k + 1)) x.proc ≤ passed steps x.proc = passed-before steps x.proc (k + 1) in
     omega (arith, round_at-ended steps k x h ends)
 
-and-none : (a : Bool) → (a && false) ≡ false
-and-none true = refl
-and-none false = refl
-
 -- a step that ends no round
 pub AreRounds-stays : (c : Setup) (steps : List Step) (k : ℕ) (x : Step) (rounds : List ℕ) → step_at steps k ≡ Some x
     → act_ends x.act ≡ false → AreRounds c steps k rounds → AreRounds c steps (k + 1) rounds
 AreRounds-stays c steps k x rounds h none are = record {
   count = are.count;
-  each = λ p is. are.each p is ∙ sym (round_at-stays steps k x p h (ap (λ b. x.proc == p && b) none ∙ and-none (x.proc == p)));
+  each = λ p is. are.each p is ∙ sym (round_at-stays steps k x p h (ap (λ b. x.proc == p && b) none ∙ and_right (x.proc == p) false refl));
 }
 
 -- a step that ends one

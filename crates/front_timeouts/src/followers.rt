@@ -1,8 +1,8 @@
 //! Which followers a leader has.
 
-ghost use Rattle.std.specs.Prelude.{◌≡◌, ◌↔◌, ◌⊎◌, ◌+◌, ◌≤◌, ℕ, length, Some, IfOk, IfSome, IsTrue};
+ghost use Rattle.std.specs.Prelude.{◌≡◌, ◌↔◌, ◌+◌, ◌≤◌, ℕ, length, Some, IfOk, IfSome};
 ghost use Rattle.step_trace.specs.declared.processors.TheConstants.{MAX_MEMBER};
-ghost use Rattle.step_trace.specs.Processors.{has_proc, IsWithin};
+ghost use Rattle.step_trace.specs.Processors.{IsWithin};
 ghost use Rattle.timeouts.specs.Hearing.{IsFrom};
 ghost use Rattle.front_timeouts.specs.Followers.{AreReceivers, IsPair, IsProcessor, members_to};
 

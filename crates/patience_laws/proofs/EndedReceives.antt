@@ -3,7 +3,7 @@ use Rattle.std.proofs.Common.{ℕ, zero, suc, ◌≡◌, ◌+◌, ◌-◌, ◌<�
 use Rattle.std.proofs.Common.{true, false, ◌||◌, not, cond, get_or, refl, sym, ap, subst, ◌∙◌, arith, ◌⊎◌, ◌==◌}
 use Rattle.std.specs.Prelude.{Contains, count_by, nat_le}
 use Rattle.std.specs.List.{range_with_len}
-use Rattle.std.proofs.lemmas.Bool.{eqb-true, leb-true, ltb-true, and_parts, true≢false, and_left, lt-ltb, le-leb}
+use Rattle.std.proofs.lemmas.Bool.{eqb-true, leb-true, ltb-true, and_parts, true≢false, and_left, or_right, lt-ltb, le-leb}
 use Rattle.std.proofs.lemmas.Option.{same_Some}
 use Rattle.std.proofs.lemmas.List.Folds.{list_any_at, Any-from_list_any}
 use Rattle.std.proofs.lemmas.List.{get_or_default}
@@ -102,17 +102,13 @@ or-three true y z h = inl refl
 or-three false true z h = inr (inl refl)
 or-three false false z h = inr (inr h)
 
-or-last : (a : Bool) → (a || true) ≡ true
-or-last true = refl
-or-last false = refl
-
 or-second : (a c : Bool) → (a || true || c) ≡ true
 or-second true c = refl
 or-second false c = refl
 
 or-third : (a b : Bool) → (a || b || true) ≡ true
 or-third true b = refl
-or-third false b = or-last b
+or-third false b = or_right b true refl
 
 or-first : (b c : Bool) → (true || b || c) ≡ true
 or-first b c = refl
@@ -339,7 +335,7 @@ module _ (c : Setup) (patience : ℕ) (steps : List Step) (p : ℕ) (w : IsWellF
           go true true e f = rw (e, member-known q is f e) refl
           go true false e f =
               let s = known-suspected q is none (others q is f e) in
-              rw (e, s, or-last (is_heard_of (rounds_after steps p k + 1) (peer_of known.peers q))) refl
+              rw (e, s, or_right (is_heard_of (rounds_after steps p k + 1) (peer_of known.peers q)) true refl) refl
 
       nobody : awaited_count c here (rounds_after steps p k + 1) p known.peers ≡ 0
       nobody = count_by-none (is_awaited c here (rounds_after steps p k + 1) p known.peers) (processors c) (λ q d. done q (in-range q d))

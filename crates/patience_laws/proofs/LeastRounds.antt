@@ -1,7 +1,7 @@
 -- By which tick the least round of the members is over.
 use Rattle.std.proofs.Common.{ℕ, suc, ◌≡◌, ◌+◌, ◌-◌, ◌*◌, ◌<◌, ◌≤◌, inl, inr, List, length, Option, Some, None, is_some}
-use Rattle.std.proofs.Common.{Bool, true, false, ◌==◌, ◌&&◌, ◌||◌, not, refl, sym, ap, subst, ◌∙◌, arith, eq-eqb}
-use Rattle.std.proofs.lemmas.Bool.{true≢false, eqb-true, and_parts}
+use Rattle.std.proofs.Common.{true, false, ◌==◌, ◌||◌, not, refl, sym, ap, subst, ◌∙◌, arith, eq-eqb}
+use Rattle.std.proofs.lemmas.Bool.{true≢false, eqb-true, and_parts, and_right}
 use Rattle.patience_laws.proofs.Common.{Receive, Step, Setup, IsProc, has_proc, Recorded, Body, with_proper, State}
 use Rattle.patience_laws.proofs.Common.{part_of, owner, phase_of, Part, Listing, Locking, Acknowledging, part_at}
 use Rattle.patience_laws.proofs.Common.{locking-keeps, part_at-listing, part_at-locking, part_at-acknowledging}
@@ -39,20 +39,16 @@ pub proposal-kept : (c : Setup) (steps : List Step) (p round : ℕ)
 proposal-kept c steps p round low part = ap (λ (s : State). s.proposal) (node-next c steps p round low) ∙ (locking-keeps c (node_in c
     steps p round) p round (messages_heard c (heard_table steps) (state_after c (heard_table steps) (round - 1)) p round) part).proposal
 
-and-none : (b : Bool) → (b && false) ≡ false
-and-none true = refl
-and-none false = refl
-
 -- which part the next round is
 pub part-next : (round part : ℕ) → 1 ≤ round → part < 4 → part_of round ≡ part → part_of (round + 1) ≡ part + 1
 part-next round part low few e = omega arith
 
 -- nobody is heard by an owner without a proposal, in the locking and the acknowledging round
 deaf-locking : (q o : ℕ) (s : State) → s.proposal ≡ None → may_hear_in Locking s o o q ≡ false
-deaf-locking q o s none = rw (eq-eqb o o refl, none) (and-none (q == o))
+deaf-locking q o s none = rw (eq-eqb o o refl, none) (and_right (q == o) false refl)
 
 deaf-acknowledging : (p q o : ℕ) (s : State) → s.proposal ≡ None → may_hear_in Acknowledging s o p q ≡ false
-deaf-acknowledging p q o s none = rw none (and-none (p == o))
+deaf-acknowledging p q o s none = rw none (and_right (p == o) false refl)
 
 module _ (patience set : ℕ) (trace : Recorded) (g d f : ℕ) (keeps : KeepsBounds patience set trace g d f) (round x : ℕ)
     (touch : AreInTouch patience set trace g round x) (there : AreInRoundFrom set trace round x) (low : 1 ≤ round) where

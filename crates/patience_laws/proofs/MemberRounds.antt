@@ -1,5 +1,5 @@
 -- Members are processors, and who ends a later round ends it later.
-use Rattle.std.proofs.Common.{ℕ, suc, ◌≡◌, ◌+◌, ◌≤◌, inl, inr, true, arith}
+use Rattle.std.proofs.Common.{ℕ, suc, ◌≡◌, ◌≤◌, inl, inr, true, arith}
 use Rattle.std.proofs.lemmas.Bool.{cases_lt}
 use Rattle.patience_laws.proofs.Common.{Receive, Setup, IsProc, IsWithin, has_proc, Recorded, tick_of, IsTimed}
 use Rattle.patience_laws.proofs.Common.{ticks_rise, member-positive}

@@ -1,9 +1,8 @@
 -- Silences and misses by the clock: each takes one time, and so the clock shows less than half of it or doesn't.
-use Rattle.std.proofs.Common.{ℕ, ◌≡◌, ◌+◌, ◌-◌, ◌<◌, ◌↔◌, ◌∙◌, Bool, true, false, IsTrue, List, Option, Some, None, refl, sym, subst, arith}
+use Rattle.std.proofs.Common.{ℕ, ◌≡◌, ◌+◌, ◌-◌, ◌↔◌, ◌∙◌, Bool, true, false, IsTrue, List, Option, Some, None, refl, sym, subst}
 use Rattle.std.specs.Prelude.{MatchOption}
 use Rattle.std.proofs.lemmas.Option.{none-some, same_Some}
 use Rattle.step_trace.specs.Traces.{Recorded}
-use Rattle.step_trace.specs.Ticks.{IsTimed}
 use Rattle.step_tables.specs.Told.{Said}
 use Rattle.run_story.specs.declared.stalls.Stall.{Stall}
 use Rattle.run_page.specs.Spreads.{Lasts, passed}

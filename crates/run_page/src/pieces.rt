@@ -1,6 +1,6 @@
 //! The pieces of a phrase, and how each of them is written.
 
-ghost use Rattle.std.specs.Prelude.{◌≡◌, ◌≤◌, ◌<◌, ◌++◌, OnOk, codes, map, length, decimal};
+ghost use Rattle.std.specs.Prelude.{◌≡◌, ◌<◌, ◌++◌, OnOk, codes, map};
 ghost use Rattle.run_page.specs.Pieces.{aside_text, begins_text, both_aside_text, bound_text, from_tick_text};
 ghost use Rattle.run_page.specs.Pieces.{in_tick_text, known_text, made_text, many_text, percent_text, piece_text};
 ghost use Rattle.run_page.specs.Pieces.{pieces_text, place_text, short_ticks_text, step_at_text, stepped_text};

@@ -1,6 +1,6 @@
 //! How marks name steps, messages and bounds, with their times.
 
-ghost use Rattle.std.specs.Prelude.{◌≡◌, ◌++◌, OnOk, length};
+ghost use Rattle.std.specs.Prelude.{◌≡◌, ◌++◌, OnOk};
 ghost use Rattle.run_picture.specs.MarkWords.{bound_text, ids_text, kind_text, made_text, more_text};
 ghost use Rattle.run_picture.specs.MarkWords.{named_text, step_at_text, time_text, timed_text};
 

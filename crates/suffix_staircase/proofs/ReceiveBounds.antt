@@ -1,7 +1,7 @@
 -- The numbers in a step, and those noted of Receives, are within the lists of notes.
 use Rattle.std.proofs.Common.{ℕ, ◌≡◌, ◌<◌, ◌≤◌, inl, inr, List, length, get_or, Some, IsTrue, arith}
 use Rattle.std.proofs.lemmas.Bool.{cases_lt}
-use Rattle.suffix_staircase.proofs.Common.{Send, Receive, Step, Setup, has_proc, Recorded, step_at, IsSentTo, IsWellFormed, step_at_within, Receives, KnowsReceives}
+use Rattle.suffix_staircase.proofs.Common.{Send, Step, Setup, has_proc, Recorded, step_at, IsSentTo, IsWellFormed, step_at_within, Receives, KnowsReceives}
 
 -- a destination is a processor
 pub dest_bound : (c : Setup) (steps : List Step) (x a b : ℕ)

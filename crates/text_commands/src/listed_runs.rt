@@ -1,14 +1,12 @@
 //! The runs of a list: how each of them is judged, and the line that is printed for it.
 
 ghost use Rattle.std.specs.Prelude.{◌≡◌, ◌≢◌, ◌++◌, ◌∷◌, [], IfErr, IfOk, IfNone, IfSome};
-ghost use Rattle.std.specs.Prelude.{OnOk, option_map, codes, decimal, string_bytes};
+ghost use Rattle.std.specs.Prelude.{OnOk, string_bytes};
 ghost use Rattle.std.specs.Str.{IsUtf8};
-ghost use Rattle.command_faults.specs.FaultLines.{fault_line};
 ghost use Rattle.text_commands.specs.ListedRuns.{AreListed, IsListedCorrect, IsListedFault, IsListedJudging};
 ghost use Rattle.text_commands.specs.ListedRuns.{IsNoCorrect, IsNoPath, IsUnlisted, one_line, start_of, told_run};
 ghost use Rattle.text_commands.specs.ListedRuns.{unjudged_words};
 ghost use Rattle.text_commands.specs.Serving.{IsAtEnd, IsReadFault, faults_of, inner_of};
-ghost use Rattle.text_commands.specs.Texts.{IsUnreadWhole};
 
 use crate::texts::read_whole;
 use command_faults::{Fault, ListedField, fault_text};

@@ -1,6 +1,6 @@
 //! The report of a trace text, from a reader to a writer, by several workers.
 
-ghost use Rattle.std.specs.Prelude.{◌≡◌, ◌≢◌, ◌≤◌, OnOk, IfOk, IfErr};
+ghost use Rattle.std.specs.Prelude.{◌≢◌, ◌≤◌, OnOk, IfOk, IfErr};
 ghost use Rattle.step_trace.specs.CorrectSets.{named};
 ghost use Rattle.step_trace.specs.Fronts.{IsReport};
 ghost use Rattle.step_trace.specs.Processors.{IsWithin};

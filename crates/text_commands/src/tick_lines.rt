@@ -1,7 +1,6 @@
 //! The table of the lengths of a tick for a log, as text, and the note on it.
 
 ghost use Rattle.std.specs.Prelude.{◌≡◌, IfOk, string_bytes};
-ghost use Rattle.std.specs.Option.{option_map_or};
 ghost use Rattle.text_commands.specs.TickLines.{is_near, later_near, length_words, near_line, nearest, row_length};
 ghost use Rattle.text_commands.specs.TickLines.{row_text, tick_notes, ticks_text};
 
