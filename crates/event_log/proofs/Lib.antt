@@ -29,6 +29,7 @@ pub mod LeftEvents
 pub mod JoinedEvents
 pub mod MergedOnce
 pub mod OneLog
+pub mod OtherRefusals
 pub mod Outcomes
 pub mod TakenEvents
 pub mod PlacedImports

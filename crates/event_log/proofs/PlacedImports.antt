@@ -1,5 +1,5 @@
 -- The import of a text from that of its events, and why there is none.
-use Rattle.std.proofs.Common.{ℕ, ◌≡◌, ◌∙◌, ℤ, Bool, false, List, length, Option, Some, None, Ok, ◌⊎◌, inl, inr, refl, sym, subst}
+use Rattle.std.proofs.Common.{ℕ, ◌≡◌, ◌∙◌, ◌<◌, ℤ, Bool, false, List, length, Option, Some, None, Ok, ◌⊎◌, inl, inr, refl, sym, subst}
 use Rattle.std.specs.Prelude.{MatchBool, ⊤}
 use Rattle.trace_text.proofs.TakenRecords.{unless}
 use Rattle.timed_events.specs.declared.events.Event.{Event}
@@ -25,15 +25,15 @@ use Rattle.event_log.proofs.TakenEvents.{whole-taken}
 
 -- a reason against all events of a log
 pub whole-unmade : (limit : Option ℕ) (spread : Bool) (text : List ℕ) (nodes : List (List ℕ)) (events : List Event)
-    (clock : Clock) (reason : IdleError) (why : LogError) → IsUnmadeFor limit spread (length nodes) events clock reason
-    → IsIdleErrorUnlessMemory text nodes events reason why
+    (clock : Clock) (reason : IdleError) (why : LogError) → 0 < length events
+    → IsUnmadeFor limit spread (length nodes) events clock reason → IsIdleErrorUnlessMemory text nodes events reason why
     → IsUnmadeUnlessMemory false false limit spread text nodes events clock why
-whole-unmade limit spread text nodes events clock reason why untimed =
+whole-unmade limit spread text nodes events clock reason why some untimed =
     unless (is_memory why) _ (IsUnmadeOfLog false false limit spread text nodes events clock why) (λ is. inr (inr (record {
       left = events;
       left_at = None;
       parts = None;
-      are_left = whole-taken events clock;
+      are_left = whole-taken events clock some;
       reason = reason;
       untimed = untimed;
       is = is;

@@ -36,11 +36,12 @@ use Rattle.event_log.proofs.MeantEvents.{are-meant, within-at}
 use Rattle.event_log.proofs.UnmadeLogs.{few-events}
 
 -- all events, if nothing is asked for
-pub whole-taken : (events : List Event) (clock : Clock) → AreTaken false false events clock events None None
-whole-taken events clock = record {
+pub whole-taken : (events : List Event) (clock : Clock) → 0 < length events → AreTaken false false events clock events None None
+whole-taken events clock some = record {
   kept = events;
   kept_at = None;
   are_kept = (refl, refl);
+  some = some;
   own_parts = None;
   are_merged = (refl, refl);
   parts_are = refl;
@@ -49,11 +50,12 @@ whole-taken events clock = record {
 
 -- those that are left, if only lost sends are left out
 pub left-taken : (events left : List Event) (places : List ℕ) (clock : Clock)
-    → AreLeft events left places → AreTaken true false events clock left (Some places) None
-left-taken events left places clock are = record {
+    → AreLeft events left places → 0 < length places → AreTaken true false events clock left (Some places) None
+left-taken events left places clock are some = record {
   kept = left;
   kept_at = Some places;
   are_kept = are;
+  some = subst (λ n. 0 < n) (sym (left-long events left places are)) some;
   own_parts = None;
   are_merged = (refl, refl);
   parts_are = refl;
@@ -62,12 +64,13 @@ left-taken events left places clock are = record {
 
 -- and those with merged receives
 pub merged-taken : (drop : Bool) (events kept merged : List Event) (clock : Clock) (kept_at : Option (List ℕ))
-    (places : List ℕ) (parts : Option (List (List ℕ))) → AreLeftBy drop events kept kept_at
+    (places : List ℕ) (parts : Option (List (List ℕ))) → AreLeftBy drop events kept kept_at → 0 < length kept
     → AreMergedIn kept clock kept_at merged places parts → AreTaken drop true events clock merged (Some places) parts
-merged-taken drop events kept merged clock kept_at places parts are m = record {
+merged-taken drop events kept merged clock kept_at places parts are some m = record {
   kept = kept;
   kept_at = kept_at;
   are_kept = are;
+  some = some;
   own_parts = Some m.own;
   are_merged = m.are;
   parts_are = m.parts_are;
@@ -284,16 +287,17 @@ none-taken merge events clock why = unless (is_memory why) _
     (IsEmptied true events why ⊎ IsUnmergedOf true merge events clock why) (λ none. inl (refl, none.0, none.1))
 
 pub times-refused : (drop : Bool) (events kept : List Event) (clock : Clock) (kept_at : Option (List ℕ))
-    → AreLeftBy drop events kept kept_at → (why : LogError)
+    → AreLeftBy drop events kept kept_at → 0 < length kept → (why : LogError)
     → MatchBool (is_memory why) ⊤ ((reason : EventError) × (times_refusal kept clock ≡ Some reason)
     × IsTimesError reason why) → MatchBool (is_memory why) ⊤ (IsEmptied drop events why
     ⊎ IsUnmergedOf drop true events clock why)
-times-refused drop events kept clock kept_at are why =
+times-refused drop events kept clock kept_at are some why =
     unless (is_memory why) _ (IsEmptied drop events why ⊎ IsUnmergedOf drop true events clock why) (λ h. inr (record {
       asked = refl;
       kept = kept;
       kept_at = kept_at;
       are_kept = are;
+      some = some;
       reason = h.0;
       refused = h.1;
       is = h.2;

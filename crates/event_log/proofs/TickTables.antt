@@ -1,5 +1,5 @@
 -- What an import with ticks of a length says, by the row of the length.
-use Rattle.std.proofs.Common.{ℕ, ◌≡◌, ◌∙◌, ◌<◌, ℤ, Bool, true, false, List, length, Option, Some, None, Result, Ok, Err, inr, refl, sym, ap, subst, arith}
+use Rattle.std.proofs.Common.{ℕ, ◌≡◌, ◌≢◌, ◌∙◌, ◌<◌, ℤ, Bool, true, false, List, length, Option, Some, None, Result, Ok, Err, inr, refl, sym, ap, subst, arith}
 use Rattle.std.specs.Prelude.{MatchBool, ⊤, map, nat_lt}
 use Rattle.std.specs.List.{All}
 use Rattle.std.proofs.lemmas.Bool.Decides.{nat_tests}
@@ -62,11 +62,12 @@ unfit-with o kind width why some ends = rw (above kind width some, ends) refl
 
 -- the events are taken the same, since none are merged
 pub kept-taken : (drop : Bool) (events left : List Event) (clock : Clock) (left_at : Option (List ℕ))
-    → AreLeftBy drop events left left_at → AreTaken drop false events clock left left_at None
-kept-taken drop events left clock left_at are = record {
+    → AreLeftBy drop events left left_at → 0 < length left → AreTaken drop false events clock left left_at None
+kept-taken drop events left clock left_at are some = record {
   kept = left;
   kept_at = left_at;
   are_kept = are;
+  some = some;
   own_parts = None;
   are_merged = (refl, refl);
   parts_are = refl;
@@ -86,6 +87,7 @@ taken-by events left places parts clock other t = record {
   kept = t.kept;
   kept_at = t.kept_at;
   are_kept = t.are_kept;
+  some = t.some;
   own_parts = t.own_parts;
   are_merged = t.are_merged;
   parts_are = t.parts_are;
@@ -133,17 +135,18 @@ module _ (o : Options) (text : List ℕ) (log : SeenLog) (events : List Event) (
       (clock_of log.kind until width) (told-with width some) aligned clocks nodes None refl o.drop_lost false refl refl why
 
   pub rows-refused : (why : LogError) → IsLogRowRefusal o.drop_lost text aligned.log.nodes aligned.log.events.items log.kind until why
-      → IsTickRefusal o text why
-  rows-refused why h = (h.0, h.1, unmade-with h.0 h.1 why h.2)
+      → why ≢ TooManyTicks → IsTickRefusal o text why
+  rows-refused why h other = (h.0, h.1, unmade-with h.0 h.1 why h.2, other)
 
-  module _ (left : List Event) (left_at : Option (List ℕ)) (are : AreLeftBy o.drop_lost aligned.log.events.items left left_at) where
+  module _ (left : List Event) (left_at : Option (List ℕ)) (are : AreLeftBy o.drop_lost aligned.log.events.items left left_at)
+      (there : 0 < length left) where
     too-far : (width : ℕ) → 0 < width → IsPlacedBy (length aligned.log.nodes) left (clock_of log.kind until width) None
         → IsLogRefusal (with_width o width) text TooManyTicks
     too-far width some h = unmade-with width some TooManyTicks (inr (inr (record {
       left = left;
       left_at = left_at;
       parts = None;
-      are_left = kept-taken o.drop_lost aligned.log.events.items left (clock_of log.kind until width) left_at are;
+      are_left = kept-taken o.drop_lost aligned.log.events.items left (clock_of log.kind until width) left_at are there;
       reason = filled.Events refused.TooManyTicks;
       untimed = h;
       is = too-many text aligned.log.nodes aligned.log.events.items left left_at;
@@ -180,7 +183,7 @@ module _ (o : Options) (text : List ℕ) (log : SeenLog) (events : List Event) (
               left = left;
               left_at = left_at;
               parts = None;
-              are_left = kept-taken o.drop_lost aligned.log.events.items left clock left_at are;
+              are_left = kept-taken o.drop_lost aligned.log.events.items left clock left_at are there;
               moved = h.moved;
               made = (h.timed, refl);
               moved_is = refl;
@@ -206,13 +209,14 @@ module _ (o : Options) (text : List ℕ) (log : SeenLog) (events : List Event) (
 
 -- the rows of the events of a log, by the same events and the same number of nodes
 pub log-rows : (drop : Bool) (kind : TimeKind) (n m : ℕ) (events left xs : List Event) (left_at : Option (List ℕ))
-    (until : Option ℤ) (rows : List TickRow) → m ≡ n → xs ≡ left → AreLeftBy drop events left left_at
+    (until : Option ℤ) (rows : List TickRow) → m ≡ n → xs ≡ left → AreLeftBy drop events left left_at → 0 < length left
     → map (λ row. row.width) rows ≡ told_widths kind (log_length xs until) → All (IsRowOf m xs kind until) rows
     → AreLogRows drop kind n events until rows
-log-rows drop kind n m events left xs left_at until rows number same are widths each = record {
+log-rows drop kind n m events left xs left_at until rows number same are some widths each = record {
   left = left;
   left_at = left_at;
   are_left = are;
+  some = some;
   widths = widths ∙ ap (λ (es : List Event). told_widths kind (log_length es until)) same;
   each = subst (λ k. All (IsRowOf k left kind until) rows) number
       (subst (λ (es : List Event). All (IsRowOf m es kind until) rows) same each);
@@ -220,14 +224,14 @@ log-rows drop kind n m events left xs left_at until rows number same are widths 
 
 -- a reason against all events of a log
 pub whole-refused : (text : List ℕ) (nodes : List (List ℕ)) (events xs : List Event) (kind : TimeKind)
-    (until : Option ℤ) (why : EventError) (error : LogError) → xs ≡ events → IsRowRefusal xs kind until why
-    → IsIdleErrorUnlessMemory text nodes events (filled.Events why) error
+    (until : Option ℤ) (why : EventError) (error : LogError) → 0 < length events → xs ≡ events
+    → IsRowRefusal xs kind until why → IsIdleErrorUnlessMemory text nodes events (filled.Events why) error
     → IsLogRowRefusal false text nodes events kind until error
-whole-refused text nodes events xs kind until why error same h is = (
+whole-refused text nodes events xs kind until why error some same h is = (
   h.0,
   h.1,
-  whole-unmade None true text nodes events (clock_of kind
-      until h.0) (filled.Events why) error (subst (λ (es : List Event). IsTimedRefusal true es (clock_of kind until h.0) why) same h.2) is,
+  whole-unmade None true text nodes events (clock_of kind until h.0) (filled.Events why) error some
+      (subst (λ (es : List Event). IsTimedRefusal true es (clock_of kind until h.0) why) same h.2) is,
 )
 
 -- a reason against those that are left

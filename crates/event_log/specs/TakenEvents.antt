@@ -1,5 +1,5 @@
 -- The events of a log of which its trace is made.
-use Rattle.std.specs.Prelude.{ℕ, ◌≡◌, ◌-◌, Bool, false, List, [], map, length, Option, Some, None, option_map}
+use Rattle.std.specs.Prelude.{ℕ, ◌≡◌, ◌<◌, ◌-◌, Bool, false, List, [], map, length, Option, Some, None, option_map}
 use Rattle.std.specs.Prelude.{if◌then◌else◌, slice_index, true}
 use Rattle.timed_events.specs.declared.events.Event.{Event}
 use Rattle.timed_events.specs.declared.events.EventError.{EventError}
@@ -35,13 +35,14 @@ first_places places None = places
 first_places places (Some parts) = Some (map (λ part. slice_index part 0) parts)
 
 -- `left` are the events of a log of which its trace is made: without lost sends if these are left
--- out, then with merged receives if that is asked for. They are at the places `left_at` of the log,
--- the first if they are made of several, whose places are `parts`.
+-- out, after which there are some, then with merged receives if that is asked for. They are at the
+-- places `left_at` of the log, the first if they are made of several, whose places are `parts`.
 pub record AreTaken (drop merge : Bool) (events : List Event) (clock : Clock) (left : List Event)
     (left_at : Option (List ℕ)) (parts : Option (List (List ℕ))) : Type 0 where
   pub kept : List Event
   pub kept_at : Option (List ℕ)
   pub are_kept : AreLeftBy drop events kept kept_at
+  pub some : 0 < length kept
   pub own_parts : Option (List (List ℕ))
   pub are_merged : AreMergedBy merge kept clock left own_parts
   pub parts_are : parts ≡ log_parts kept_at own_parts
@@ -65,12 +66,13 @@ IsTimesError refused.UntilTooEarly error = error ≡ UntilUnfit
 IsTimesError refused.TooManyTicks error = error ≡ TooManyTicks
 IsTimesError why error = ⊥
 
--- receives are to be merged, and there is a reason against the times of the events that are left
+-- receives are to be merged, and there is a reason against the times of the events that are left; some are
 pub record IsUnmergedOf (drop merge : Bool) (events : List Event) (clock : Clock) (why : LogError) : Type 0 where
   pub asked : merge ≡ true
   pub kept : List Event
   pub kept_at : Option (List ℕ)
   pub are_kept : AreLeftBy drop events kept kept_at
+  pub some : 0 < length kept
   pub reason : EventError
   pub refused : times_refusal kept clock ≡ Some reason
   pub is : IsTimesError reason why

@@ -1,5 +1,5 @@
 -- The table of the lengths of a tick for a log: what an import says with each.
-use Rattle.std.specs.Prelude.{ℕ, ◌≡◌, ◌<◌, ℤ, Bool, true, false, List, length, map, Option, Some, None, Ok}
+use Rattle.std.specs.Prelude.{ℕ, ◌≡◌, ◌≢◌, ◌<◌, ℤ, Bool, true, false, List, length, map, Option, Some, None, Ok}
 use Rattle.std.specs.List.{All}
 use Rattle.std.proofs.Common.{lit<}
 use Rattle.timed_events.specs.declared.events.Event.{Event}
@@ -49,12 +49,13 @@ abbrev pub IsToldBy : Options → List ℕ → Option Placing → Type 0
 IsToldBy o text None = IsLogRefusal o text TooManyTicks
 IsToldBy o text (Some p) = IsImportPlacing o text p
 
--- the rows of the events of a log, without lost sends if these are left out
+-- the rows of the events of a log, without lost sends if these are left out; there are some events
 pub record AreLogRows (drop : Bool) (kind : TimeKind) (n : ℕ) (events : List Event) (until : Option ℤ)
     (rows : List TickRow) : Type 0 where
   pub left : List Event
   pub left_at : Option (List ℕ)
   pub are_left : AreLeftBy drop events left left_at
+  pub some : 0 < length left
   pub widths : map (λ row. row.width) rows ≡ told_widths kind (log_length left until)
   pub each : All (IsRowOf n left kind until) rows
 
@@ -80,9 +81,11 @@ pub record IsTickTable (o : Options) (text : List ℕ) (kind : TimeKind) (rows :
   pub left : List Event
   pub left_at : Option (List ℕ)
   pub are_left : AreLeftBy o.drop_lost aligned left left_at
+  pub some : 0 < length left
   pub widths : map (λ row. row.width) rows ≡ told_widths kind (log_length left until)
   pub each : All (λ row. IsToldBy (with_width o row.width) text row.placing) rows
 
--- the refusal of an import with ticks of some length
+-- the refusal of an import with ticks of some length, but for too many ticks
 abbrev pub IsTickRefusal : Options → List ℕ → LogError → Type 0
-IsTickRefusal o text why = (width : ℕ) × (0 < width) × IsLogRefusal (with_width o width) text why
+IsTickRefusal o text why =
+    (width : ℕ) × (0 < width) × IsLogRefusal (with_width o width) text why × (why ≢ TooManyTicks)

@@ -1,6 +1,6 @@
 //! How many ticks the trace of events has, and how far they move, by the length of a tick.
 
-ghost use Rattle.std.specs.Prelude.{◌≡◌, ◌<◌, ◌≤◌, IfErr, IfOk, None, length, map, slice_index_or, true};
+ghost use Rattle.std.specs.Prelude.{◌≡◌, ◌≢◌, ◌<◌, ◌≤◌, IfErr, IfOk, None, length, map, slice_index_or, true};
 ghost use Rattle.std.specs.List.{All};
 ghost use Rattle.timed_events.specs.Checks.{AreMeant};
 ghost use Rattle.timed_events.specs.Spreads.{IsTimedRefusal};
@@ -78,6 +78,7 @@ pub(crate) fn tick_rows(
         (log_length events.now until)) }
     ensures each { IfOk result (λ rows. All (IsRowOf n events.now kind until) rows.items) }
     ensures refused { IfErr result (IsRowRefusal events.now kind until) }
+    ensures other { IfErr result (λ why. why ≢ EventError.TooManyTicks) }
 {
     let log = log_length(events, until);
     let mut rows = Vec::new(alloc);
@@ -158,6 +159,7 @@ fn tick_row(
     ensures width { IfOk result (λ row. row.width ≡ width) }
     ensures row { IfOk result (IsRowOf n events.now kind until) }
     ensures refused { IfErr result (IsTimedRefusal true events.now (clock_of kind until width)) }
+    ensures other { IfErr result (λ why. why ≢ EventError.TooManyTicks) }
 {
     let clock = clock_of(kind, until, width);
     let placing = placing_by(alloc, n, events, &clock)?;
@@ -191,6 +193,7 @@ fn placing_by(
     requires width { 0 < clock.now.width }
     ensures placing { IfOk result (IsPlacedBy n events.now clock.now) }
     ensures refused { IfErr result (IsTimedRefusal true events.now clock.now) }
+    ensures other { IfErr result (λ why. why ≢ EventError.TooManyTicks) }
 {
     let ticked = match event_ticks(alloc, n, events, clock, true) {
         Ok(ticked) => ticked,

@@ -1,6 +1,6 @@
 //! The table of the lengths of a tick for a log: what an import says with each.
 
-ghost use Rattle.std.specs.Prelude.{◌≡◌, ◌≤◌, Err, IfErr, IfOk, false, length, true};
+ghost use Rattle.std.specs.Prelude.{◌≡◌, ◌≢◌, ◌≤◌, Err, IfErr, IfOk, false, length, true};
 ghost use Rattle.event_log.specs.Imports.{IsAlignedLogOf};
 ghost use Rattle.event_log.specs.Logs.{seen_log};
 ghost use Rattle.event_log.specs.SoundLogs.{IsSound};
@@ -68,6 +68,7 @@ fn log_rows(
         (length log.nodes) log.events.items until rows.items) }
     ensures refused { IfErr result (IsLogRowRefusal options.now.drop_lost text.now
         log.nodes log.events.items log.kind until) }
+    ensures other { IfErr result (λ why. why ≢ LogError.TooManyTicks) }
 {
     if options.drop_lost {
         return left_rows(alloc, text, options, log, until);
@@ -87,6 +88,7 @@ fn whole_rows(
         (length log.now.nodes) log.now.events.items until rows.items) }
     ensures refused { IfErr result
         (IsLogRowRefusal false text.now log.now.nodes log.now.events.items log.now.kind until) }
+    ensures other { IfErr result (λ why. why ≢ LogError.TooManyTicks) }
 {
     let n = log.nodes.len() as u64;
     match tick_rows(alloc, n, log.events.as_slice(), log.kind, until) {
@@ -109,6 +111,7 @@ fn left_rows(
         (length log.nodes) log.events.items until rows.items) }
     ensures refused { IfErr result
         (IsLogRowRefusal true text.now log.nodes log.events.items log.kind until) }
+    ensures other { IfErr result (λ why. why ≢ LogError.TooManyTicks) }
 {
     let kind = log.kind;
     let clock = clock_of(kind, until, 1);

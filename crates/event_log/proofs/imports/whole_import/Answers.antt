@@ -30,7 +30,7 @@ returns-clause-made g c =
         left = log.events.items;
         left_at = None;
         parts = None;
-        are_left = whole-taken log.events.items clock;
+        are_left = whole-taken log.events.items clock (some-events log c.requires.sound);
         moved = made.moved;
         made = subst (λ n. IsMadeBy limit spread n log.events.items clock made.trace made.moved made.idle)
             c.len-n.ensures c.in_ok-made.ensures.trace;

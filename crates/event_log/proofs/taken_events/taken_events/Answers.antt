@@ -19,7 +19,7 @@ returns-then-not-drop-clause-taken c =
     let are : AreLeftBy false events slice at = (refl, c.all.ensures) in
     let taken : IfOk r (λ t. AreTaken false true events c.args.clock.now t.events.items (Some t.places.items) t.parts) =
     ok-both r _ _ _ (λ t m n. merged-taken false events slice t.events.items c.args.clock.now at t.places.items
-    t.parts are m) c.merged_in-then-not-drop.ensures.merged c.merged_in-then-not-drop.ensures.merged in
+    t.parts are (some-events log c.requires.sound) m) c.merged_in-then-not-drop.ensures.merged c.merged_in-then-not-drop.ensures.merged in
     subst (λ (d : Bool). IfOk r (λ t. AreTaken d c.args.merge events c.args.clock.now t.events.items (Some t.places.items) t.parts))
     (sym c.if-not-drop.true)
     (subst (λ (j : Bool). IfOk r (λ t. AreTaken false j events c.args.clock.now t.events.items (Some t.places.items) t.parts))
@@ -83,7 +83,8 @@ returns-then-not-drop-clause-refused c =
     let are : AreLeftBy false events slice at = (refl, c.all.ensures) in
     let refused : IfErr r
     (λ why. MatchBool (is_memory why) ⊤ (IsEmptied false events why ⊎ IsUnmergedOf false true events c.args.clock.now why)) =
-    err-weaker r _ _ (times-refused false events slice c.args.clock.now at are) c.merged_in-then-not-drop.ensures.refused in
+    err-weaker r _ _ (times-refused false events slice c.args.clock.now at are (some-events log c.requires.sound))
+    c.merged_in-then-not-drop.ensures.refused in
     subst (λ (d : Bool). IfErr r (λ why. MatchBool
     (is_memory why) ⊤ (IsEmptied d events why ⊎ IsUnmergedOf d c.args.merge events c.args.clock.now why))) (sym c.if-not-drop.true)
     (subst (λ (j : Bool). IfErr r (λ why. MatchBool (is_memory why) ⊤ (IsEmptied false events why
@@ -106,7 +107,7 @@ returns-then-not-merge-clause-taken c =
     (subst (λ (d : Bool). AreTaken d c.args.merge events c.args.clock.now kept.events.items (Some kept.places.items) None)
     (sym c.if-not-drop.false)
     (subst (λ (j : Bool). AreTaken true j events c.args.clock.now kept.events.items (Some kept.places.items) None) (sym c.if-not-merge.true)
-    (left-taken events kept.events.items kept.places.items c.args.clock.now c.in_ok-kept.ensures.left)))
+    (left-taken events kept.events.items kept.places.items c.args.clock.now c.in_ok-kept.ensures.left c.in_ok-kept.ensures.some)))
 
 pub returns-then-not-merge-clause-kept : goal.returns-then-not-merge-clause-kept
 returns-then-not-merge-clause-kept c =
@@ -138,8 +139,10 @@ returns-clause-taken c =
     let r = c.merged_in-3.result in
     let are : AreLeftBy true events slice at =
     subst (λ (o : Option (List ℕ)). AreLeftBy true events slice o) (sym c.of.ensures) c.in_ok-kept.ensures.left in
+    let some : 0 < length slice =
+    subst (λ n. 0 < n) (sym (left-long events slice c.in_ok-kept.kept.places.items c.in_ok-kept.ensures.left)) c.in_ok-kept.ensures.some in
     let taken : IfOk r (λ t. AreTaken true true events c.args.clock.now t.events.items (Some t.places.items) t.parts) =
-    ok-both r _ _ _ (λ t m n. merged-taken true events slice t.events.items c.args.clock.now at t.places.items t.parts are m)
+    ok-both r _ _ _ (λ t m n. merged-taken true events slice t.events.items c.args.clock.now at t.places.items t.parts are some m)
     c.merged_in-3.ensures.merged c.merged_in-3.ensures.merged in
     subst (λ (d : Bool). IfOk r (λ t. AreTaken d c.args.merge events c.args.clock.now t.events.items (Some t.places.items) t.parts))
     (sym c.if-not-drop.false)
@@ -209,9 +212,11 @@ returns-clause-refused c =
     let r = c.merged_in-3.result in
     let are : AreLeftBy true events slice at =
     subst (λ (o : Option (List ℕ)). AreLeftBy true events slice o) (sym c.of.ensures) c.in_ok-kept.ensures.left in
+    let some : 0 < length slice =
+    subst (λ n. 0 < n) (sym (left-long events slice c.in_ok-kept.kept.places.items c.in_ok-kept.ensures.left)) c.in_ok-kept.ensures.some in
     let refused : IfErr r
     (λ why. MatchBool (is_memory why) ⊤ (IsEmptied true events why ⊎ IsUnmergedOf true true events c.args.clock.now why)) =
-    err-weaker r _ _ (times-refused true events slice c.args.clock.now at are) c.merged_in-3.ensures.refused in
+    err-weaker r _ _ (times-refused true events slice c.args.clock.now at are some) c.merged_in-3.ensures.refused in
     subst (λ (d : Bool). IfErr r (λ why. MatchBool
     (is_memory why) ⊤ (IsEmptied d events why ⊎ IsUnmergedOf d c.args.merge events c.args.clock.now why))) (sym c.if-not-drop.false)
     (subst (λ (j : Bool). IfErr r (λ why. MatchBool (is_memory why) ⊤

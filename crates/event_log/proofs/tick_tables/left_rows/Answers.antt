@@ -9,6 +9,7 @@ use Rattle.event_log.specs.MergedLogs.{ArePartsWithin}
 use Rattle.event_log.proofs.OneLog.{aligned-log-once}
 use Rattle.timed_events.specs.declared.events.Event.{Event}
 use Rattle.event_log.specs.TickRows.{IsRowRefusal, clock_of}
+use Rattle.event_log.proofs.OtherRefusals.{left-other, unmerged-other}
 use Rattle.event_log.proofs.PlacedImports.{untaken-unmade}
 use Rattle.event_log.proofs.TakenEvents.{taken-few, taken-long, taken-meant, taken-processors}
 use Rattle.event_log.proofs.TickTables.{left-refused, log-rows, taken-kept}
@@ -85,12 +86,14 @@ pub returns-in-Ok-clause-rows : goal.returns-in-Ok-clause-rows
 returns-in-Ok-clause-rows c =
     let log = c.args.log in
     let left = c.in_ok-left.left in
+    let long = taken-long true false log.events.items left.events.items c.clock_of-clock.result left.places.items
+    left.parts c.in_ok-left.ensures.taken in
     let kept =
     taken-kept log.events.items left.events.items c.clock_of-clock.result left.places.items left.parts c.in_ok-left.ensures.taken in
     log-rows true log.kind (length log.nodes) c.len-n.result
     log.events.items left.events.items c.as_slice.result.now kept.0 c.args.until c.in-Ok.rows.items
     (c.len-n.ensures ∙ ap (λ (ns : List (List ℕ)). length ns) c.in_ok-left.ensures.nodes)
-    c.as_slice.ensures.value kept.1 c.in-Ok.ensures.widths c.in-Ok.ensures.each
+    c.as_slice.ensures.value kept.1 (subst (λ n. 0 < n) (sym long) c.in_ok-left.ensures.some) c.in-Ok.ensures.widths c.in-Ok.ensures.each
 
 pub returns-clause-refused : goal.returns-clause-refused
 returns-clause-refused c =
@@ -107,3 +110,15 @@ told_again-requires-clause-parts c = λ nodes events again.
     let log = c.args.log in
     let same = (aligned-log-once c.args.options.now c.args.text.now log.nodes nodes log.events.items events c.requires.given again).1 in
     subst (λ (es : List Event). ArePartsWithin left.parts (length es)) same c.in_ok-left.ensures.parts
+
+pub returns-in_err-left-clause-other : goal.returns-in_err-left-clause-other
+returns-in_err-left-clause-other c =
+    let p = err_from_is_err_and c.from_residual.result c.from_residual.ensures.1 in
+    rw (p.1, p.2) (unmerged-other c.args.log.events.items c.clock_of-clock.result c.in_err-left.field-0.0 c.in_err-left.ensures.refused)
+
+pub returns-clause-other : goal.returns-clause-other
+returns-clause-other c =
+    let log = c.args.log in
+    let left = c.in_ok-left.left in
+    left-other c.args.text.now log.nodes log.events.items left.events.items left.places.items left.parts
+    c.in-Err.why c.told_again.result c.in-Err.ensures.other (c.told_again.ensures log.nodes log.events.items c.requires.given)

@@ -3,6 +3,7 @@ use Rattle.timed_events.specs.declared.idle_traces.IdleError.TheVariants as fill
 use Rattle.timed_events.specs.Checks.{AreMeant}
 use Rattle.event_log.specs.declared.reading.TheConstants.{MAX_EVENTS}
 use Rattle.event_log.specs.TickRows.{IsRowRefusal, clock_of}
+use Rattle.event_log.proofs.OtherRefusals.{whole-other}
 use Rattle.event_log.proofs.TickTables.{log-rows, whole-refused}
 use Rattle.event_log.proofs.UnmadeLogs.{few-events, meant-events, processors-events, some-events, unmade-behind, unmade-place}
 use Rattle.event_log.proofs.tick_tables.whole_rows.Goals as goal
@@ -51,10 +52,16 @@ returns-in-Ok-clause-rows c =
     let log = c.args.log.now in
     log-rows false log.kind (length log.nodes) c.len-n.result
     log.events.items log.events.items c.as_slice.result.now None c.args.until c.in-Ok.rows.items
-    c.len-n.ensures c.as_slice.ensures.value (refl, refl) c.in-Ok.ensures.widths c.in-Ok.ensures.each
+    c.len-n.ensures c.as_slice.ensures.value (refl, refl) (some-events log c.requires.sound) c.in-Ok.ensures.widths c.in-Ok.ensures.each
 
 pub returns-in-Err-clause-refused : goal.returns-in-Err-clause-refused
 returns-in-Err-clause-refused c =
     let log = c.args.log.now in
     whole-refused c.args.text.now log.nodes log.events.items c.as_slice.result.now
-    log.kind c.args.until c.in-Err.why c.log_error.result c.as_slice.ensures.value c.in-Err.ensures.refused c.log_error.ensures
+    log.kind c.args.until c.in-Err.why c.log_error.result (some-events log c.requires.sound)
+    c.as_slice.ensures.value c.in-Err.ensures.refused c.log_error.ensures
+
+pub returns-in-Err-clause-other : goal.returns-in-Err-clause-other
+returns-in-Err-clause-other c =
+    let log = c.args.log.now in
+    whole-other c.args.text.now log.nodes log.events.items c.in-Err.why c.log_error.result c.in-Err.ensures.other c.log_error.ensures
