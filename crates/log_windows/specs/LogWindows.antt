@@ -1,5 +1,5 @@
 -- The window of a log, as it is handed out.
-use Rattle.std.specs.Prelude.{ℕ, ◌≡◌, ◌<◌, ◌⊎◌, List, Option, IfSome, Ok, Err, MatchBool, ⊤, length}
+use Rattle.std.specs.Prelude.{ℕ, ◌≡◌, ◌<◌, ◌≤◌, ◌⊎◌, List, Option, IfSome, Ok, Err, MatchBool, ⊤, length}
 use Rattle.trace_text.specs.declared.byte_loops.TheConstants.{MAX_TEXT_BYTES}
 use Rattle.event_log.specs.declared.refusals.LogError.{LogError}
 use Rattle.event_log.specs.declared.refusals.LogError.TheVariants.{TooLarge}
@@ -21,8 +21,9 @@ pub record IsKeptOf (r : Reading) (w : LogWindow) : Type 0 where
   pub places_are : w.places.items ≡ r.rows.places
   pub outside_are : w.outside ≡ r.rows.outside
 
--- the window has all events of a log, in which each send is to one node
+-- the window has all events of a log that isn't too large, in which each send is to one node
 pub record IsSpreadOf (text : List ℕ) (w : LogWindow) : Type 0 where
+  pub small : length text ≤ MAX_TEXT_BYTES
   pub sent : List (List ℕ)
   pub outside : ℕ
   pub spread : spread_of text ≡ Ok
@@ -30,9 +31,10 @@ pub record IsSpreadOf (text : List ℕ) (w : LogWindow) : Type 0 where
   pub outside_are : w.outside ≡ 0
   pub unsent_are : w.unsent ≡ 0
 
--- why there is none: the text is too large, or the first refusal
+-- why there is none: the text is too large, or else the first refusal
 abbrev pub IsUnspread : List ℕ → LogError → Type 0
-IsUnspread text why = ((MAX_TEXT_BYTES < length text) × (why ≡ TooLarge)) ⊎ (spread_of text ≡ Err why)
+IsUnspread text why = ((MAX_TEXT_BYTES < length text) × (why ≡ TooLarge))
+    ⊎ ((length text ≤ MAX_TEXT_BYTES) × (spread_of text ≡ Err why))
 
 -- it isn't made for this reason, or out of memory
 abbrev pub IsUnkept : Reading → LogError → Type 0
