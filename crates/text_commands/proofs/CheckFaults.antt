@@ -1,5 +1,5 @@
 -- The causes of the faults of a check, once its trace is read and cut.
-use Rattle.std.proofs.Common.{◌≡◌, ℕ, List, Option, IfSome, subst}
+use Rattle.std.proofs.Common.{◌≡◌, ℕ, List, Option, Some, None, IfSome, subst}
 use Rattle.step_trace.specs.CorrectSets.{named}
 use Rattle.step_trace.specs.Traces.{Recorded}
 use Rattle.certificate_checker.specs.declared.verdicts.Verdict.{Verdict}
@@ -7,10 +7,10 @@ use Rattle.command_options.specs.declared.Claim.{Claim}
 use Rattle.command_faults.specs.declared.faults.Fault.{Fault}
 use Rattle.command_faults.specs.declared.faults.Fault.TheVariants as fault
 use Rattle.text_verdicts.specs.Checks.{IsJudged, IsVerdictOn}
-use Rattle.text_verdicts.specs.Cuts.{IsReportedTo}
-use Rattle.text_verdicts.specs.Texts.{HasCorrect, IsTextOf}
+use Rattle.text_verdicts.specs.Cuts.{IsReportedTo, IsTickOf}
+use Rattle.text_verdicts.specs.Texts.{HasCorrect, IsTextOf, OfTrace}
 use Rattle.text_commands.specs.Answers.{IsAnswerTo, IsUnanswered}
-use Rattle.text_commands.specs.Checks.{IsBadCertificate, IsLineOn, IsToldOfChecks, IsUnchecked}
+use Rattle.text_commands.specs.Checks.{IsBadCertificate, IsClaimable, IsLineOn, IsToldOfChecks, IsUnchecked}
 use Rattle.text_commands.specs.Serving.{IsFaultOf, IsServeFault}
 use Rattle.text_commands.proofs.WrittenAnswers.{of_known}
 
@@ -19,6 +19,17 @@ pub record IsCutTo (claim : Claim) (text : List ℕ) (t reported : Recorded) : T
   pub read : IsTextOf text t
   pub within : HasCorrect claim.correct t
   pub until : IsReportedTo claim.until t reported
+
+-- the tick that a trace is cut at is one of its own
+reported-tick : (until : Option ℕ) (t reported : Recorded) → IsReportedTo until t reported → IfSome until (IsTickOf t)
+reported-tick None t reported h = tt
+reported-tick (Some tick) t reported h = h.0
+
+-- a certificate can be checked by the trace that is known, once it is cut
+pub claimable : (claim : Claim) (text : List ℕ) (t reported : Recorded) (known : Option (List ℕ)) → IfSome known (λ xs. text ≡ xs)
+    → IsCutTo claim text t reported → IfSome known (OfTrace (IsClaimable claim))
+claimable claim text t reported known same c = of_known (OfTrace (IsClaimable claim)) text known same
+    (record { trace = t; read = c.read; holds = (c.within, reported-tick claim.until t reported c.until) })
 
 -- the fault of a check, in a trace text and a certificate
 abbrev pub IsCheckFault : Claim → List ℕ → List ℕ → Option (List ℕ) → Option (List ℕ) → Fault → Type 0

@@ -1,7 +1,8 @@
 -- What a command makes of a trace text, and why it makes nothing of one.
-use Rattle.std.specs.Prelude.{ℕ, List, ⊤}
+use Rattle.std.specs.Prelude.{ℕ, ◌≡◌, ◌⊎◌, List, ⊤}
 use Rattle.step_trace.specs.declared.correct_sets.Correct.{Correct}
 use Rattle.step_trace.specs.CorrectSets.{named}
+use Rattle.step_trace.specs.Cuts.{IsCutAt}
 use Rattle.step_trace.specs.Traces.{Recorded}
 use Rattle.command_faults.specs.declared.faults.Fault.{Fault}
 use Rattle.command_faults.specs.declared.faults.Fault.TheVariants as fault
@@ -21,6 +22,10 @@ IsDeclined Declines fault.Read = ⊥
 IsDeclined Declines (fault.Write n) = ⊥
 IsDeclined Declines (fault.Trace reason) = ⊥
 IsDeclined Declines w = Declines w
+
+-- What a command leaves of a trace: all of it, or the part up to a tick.
+abbrev pub IsLeft : Recorded → Recorded → Type 0
+IsLeft trace left = (left ≡ trace) ⊎ ((tick : ℕ) × IsCutAt trace tick left)
 
 -- the fault is the first refusal of the text, or out of memory
 abbrev pub IsUnread : List ℕ → Fault → Type 0

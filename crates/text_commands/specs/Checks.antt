@@ -1,5 +1,5 @@
 -- Why the program doesn't check a certificate by a trace, and the line that it writes if it does.
-use Rattle.std.specs.Prelude.{ℕ, ◌≡◌, ◌≢◌, ◌⊎◌, List, Option, Err, ⊤}
+use Rattle.std.specs.Prelude.{ℕ, ◌≡◌, ◌≢◌, ◌⊎◌, List, Option, IfSome, Err, ⊤}
 use Rattle.step_trace.specs.declared.correct_sets.Correct.{Correct}
 use Rattle.step_trace.specs.Traces.{Recorded}
 use Rattle.certificate_checker.specs.declared.verdicts.Verdict.{Verdict}
@@ -8,6 +8,7 @@ use Rattle.front.specs.declared.refusals.ReportError.{ReportError}
 use Rattle.front.specs.declared.refusals.ReportError.TheVariants as why
 use Rattle.front.specs.ReportRefusals.{rows_of_text}
 use Rattle.text_verdicts.specs.Checks.{IsUncertified, IsVerdictOn}
+use Rattle.text_verdicts.specs.Cuts.{IsTickOf}
 use Rattle.text_verdicts.specs.Texts.{HasCorrect}
 use Rattle.text_verdicts.specs.VerdictLines.{told_verdict}
 use Rattle.command_faults.specs.declared.faults.Fault.{Fault}
@@ -23,6 +24,10 @@ pub record IsLineOn (claim : Claim) (certificate : List ℕ) (t : Recorded) (lin
   pub verdict : Verdict
   pub exact : IsVerdictOn claim.correct claim.until certificate verdict t
   pub told : line ≡ told_verdict verdict
+
+-- a certificate can be checked by the trace: it has all correct processors, and the tick, if one is asked for
+abbrev pub IsClaimable : Claim → Recorded → Type 0
+IsClaimable claim t = HasCorrect claim.correct t × IfSome claim.until (IsTickOf t)
 
 -- the reason is a refusal of the text; out of memory and a failed read are none
 abbrev pub IsRefusalOfText : ReportError → Type 0

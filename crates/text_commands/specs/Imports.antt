@@ -1,5 +1,5 @@
 -- What the program makes of a log in an import.
-use Rattle.std.specs.Prelude.{ℕ, ◌≡◌, ◌≢◌, List, Some, ⊤, option_map, string_bytes}
+use Rattle.std.specs.Prelude.{ℕ, ◌≡◌, ◌≢◌, ◌⊎◌, List, Some, IsSome, ⊤, option_map, string_bytes}
 use Rattle.trace_text.specs.declared.counting.Counting.{Counting}
 use Rattle.event_log.specs.declared.imports.Import.{Import}
 use Rattle.event_log.specs.declared.options.OptionError.TheVariants as no_options
@@ -52,6 +52,10 @@ IsImportOptionFault told (fault.Length option.Idle given) =
     IsOptionFault told no_options.Idle × (told.idle ≡ Some (string_bytes given))
 IsImportOptionFault told fault.Memory = ⊤
 IsImportOptionFault told _ = ⊥
+
+-- something has to be kept for the options: nodes, if they are listed; or the first bad text, if it gives no length
+abbrev pub NeedsOptionMemory : ToldOptions → Type 0
+NeedsOptionMemory told = IsSome told.nodes ⊎ (IsOptionFault told no_options.Tick ⊎ IsOptionFault told no_options.Idle)
 
 -- The text is what is printed of an import of a log by these options. That is the text of its trace in version 2, which
 -- is read back as that trace; or the table of its steps.

@@ -4,7 +4,7 @@
 ghost use Rattle.std.specs.Prelude.{ℕ, List, IfOk, IfErr};
 ghost use Rattle.step_trace.specs.Traces.{Recorded};
 ghost use Rattle.command_faults.specs.declared.faults.Fault.{Fault};
-ghost use Rattle.text_commands.specs.Answers.{IsAnswerTo, IsDeclined, IsUnanswered};
+ghost use Rattle.text_commands.specs.Answers.{IsAnswerTo, IsDeclined, IsLeft, IsUnanswered};
 
 use crate::traces::trace_of;
 use command_faults::Fault;
@@ -23,7 +23,8 @@ pub trait Answer {
     /// what it declines the trace for.
     fn answer(&self, alloc: Global, trace: &mut Trace) -> Result<Vec<u8>, Fault>
         ensures gives { IfOk result (λ out. Gives self.now trace.old out.items) }
-        ensures declines { IfErr result (IsDeclined (Declines self.now trace.old)) };
+        ensures declines { IfErr result (IsDeclined (Declines self.now trace.old)) }
+        ensures left { IsLeft trace.old trace.new };
 }
 
 /// The answer of a command to a trace text in memory.

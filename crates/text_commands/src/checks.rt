@@ -1,9 +1,9 @@
 //! The check of a certificate by a trace: the command `check`.
 
-ghost use Rattle.std.specs.Prelude.{◌≡◌, ℕ, List, OnOk, IfOk, IfErr, IfSome, IsTrue};
+ghost use Rattle.std.specs.Prelude.{◌≡◌, ◌<◌, ℕ, List, OnOk, IfOk, IfErr, IfSome, IsTrue};
 ghost use Rattle.step_trace.specs.CorrectSets.{named};
 ghost use Rattle.text_commands.specs.Answers.{IsAnswerTo, IsDeclined, IsUnanswered};
-ghost use Rattle.text_commands.specs.Checks.{IsBadCertificate, IsEitherReadFault, IsLineOn};
+ghost use Rattle.text_commands.specs.Checks.{IsBadCertificate, IsClaimable, IsEitherReadFault, IsLineOn};
 ghost use Rattle.text_commands.specs.Checks.{IsToldOfChecks, IsUncut, IsUnchecked};
 ghost use Rattle.text_commands.specs.Serving.{Appends, IsAtEnd, IsFaultOf, IsServeFault, IsWriteFault};
 ghost use Rattle.text_commands.specs.Serving.{WasFaultless, faults_of, inner_of, is_flushed};
@@ -70,6 +70,8 @@ pub fn run_check<R: Read, S: Read, W: Write>(
     ensures read { IfErr result
         (IsEitherReadFault (faults_of trace.old) (faults_of trace.new) (faults_of certificate.old)
         (faults_of certificate.new)) }
+    ensures trace_first { faults_of certificate.old < faults_of certificate.new
+        → IfSome (R.remaining (inner_of trace.old)) (OfTrace (IsClaimable claim.now)) }
     ensures unwritten { IfErr result (IsWriteFault writer.old writer.new) }
 {
     let trace = read_trace_by_parts(alloc, trace)?;

@@ -1,11 +1,12 @@
 //! The trace of a log, the table of its steps, or the table of the lengths of a tick, from a reader to a writer.
 
-ghost use Rattle.std.specs.Prelude.{◌≡◌, IfOk, IfErr, option_map, string_bytes};
+ghost use Rattle.std.specs.Prelude.{◌≡◌, Err, IfOk, IfErr, option_map, string_bytes};
 ghost use Rattle.command_faults.specs.Printing.{WentOut};
 ghost use Rattle.event_log.specs.Options.{AreOptions, told_options};
 ghost use Rattle.log_windows.specs.LogImports.{AreLogTicks, IsLogImport, IsLogTable};
 ghost use Rattle.text_commands.specs.Imports.{IsImportOptionFault, IsImportTold, IsNoLength};
-ghost use Rattle.text_commands.specs.Imports.{IsQuietFault, IsToldOfLogs, IsUnimported, options_in};
+ghost use Rattle.text_commands.specs.Imports.{IsQuietFault, IsToldOfLogs, IsUnimported, NeedsOptionMemory};
+ghost use Rattle.text_commands.specs.Imports.{options_in};
 ghost use Rattle.text_commands.specs.Serving.{Serves};
 
 use crate::import_lines::notes_text;
@@ -29,10 +30,12 @@ use trace_text::{Counting, write_text};
 /// How a log is read, by the options that are given.
 ///
 /// Refuses Import for the first text of these that gives nothing, in this order, but Length for a tick or a longest
-/// time: the nodes, the unit, the tick, the end, and the longest time without an event. Memory may come instead.
+/// time: the nodes, the unit, the tick, the end, and the longest time without an event. Memory may come instead, but
+/// only if nodes are listed, or if a text that is no length has to be told.
 pub fn import_options(alloc: Global, given: &ImportOptions) -> Result<Options, Fault>
     ensures options { IfOk result (AreOptions (options_in given.now)) }
     ensures refused { IfErr result (IsImportOptionFault (options_in given.now)) }
+    ensures more { result ≡ Err Fault.Memory → NeedsOptionMemory (options_in given.now) }
 {
     options_of(alloc, &texts_in(given))
 }
@@ -41,6 +44,7 @@ pub fn import_options(alloc: Global, given: &ImportOptions) -> Result<Options, F
 fn options_of(alloc: Global, texts: &OptionTexts<'_>) -> Result<Options, Fault>
     ensures options { IfOk result (AreOptions (told_options texts.now)) }
     ensures refused { IfErr result (IsImportOptionFault (told_options texts.now)) }
+    ensures more { result ≡ Err Fault.Memory → NeedsOptionMemory (told_options texts.now) }
 {
     match read_options(alloc, texts) {
         Ok(options) => Ok(options),

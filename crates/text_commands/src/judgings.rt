@@ -1,6 +1,8 @@
 //! The judgement of the decisions of a run: the command `judge`.
 
-ghost use Rattle.std.specs.Prelude.{◌≡◌, ℕ, List, OnOk, IfOk, IfErr, IfSome, string_bytes};
+ghost use Rattle.std.specs.Prelude.{◌≡◌, ◌≤◌, ℕ, List, Err, OnOk, IfOk, IfErr, IfSome, length, string_bytes};
+ghost use Rattle.decision_claims.specs.FormulaTexts.{NeedsMemory};
+ghost use Rattle.trace_text.specs.declared.byte_loops.TheConstants.{MAX_TEXT_BYTES};
 ghost use Rattle.text_commands.specs.Answers.{IsDeclined, IsUnanswered};
 ghost use Rattle.text_commands.specs.Judgings.{AreDecisions, HasStart, IsFormulaFault, IsFormulaText, IsJudgedText};
 ghost use Rattle.text_commands.specs.Judgings.{IsJudgementOn, IsStartFault, IsUndecided, IsUnjudged, demands_of};
@@ -25,10 +27,11 @@ use std::io::{Read, Write};
 use step_trace::Trace;
 use trace_text::{Counting, write_text};
 
-/// Refuses Within for a deadline that is no formula. Memory may come instead.
+/// Refuses Within for a deadline that is no formula. Memory may come instead, if a second part of a sum has to be kept.
 pub fn test_formula(alloc: Global, within: &str) -> Result<(), Fault>
     ensures formula { OnOk result (IsFormulaText within.now) }
     ensures refused { IfErr result (IsFormulaFault within.now) }
+    ensures more { result ≡ Err Fault.Memory → NeedsMemory within.now }
 {
     parse_formula(alloc, within.as_bytes())?;
     Ok(())
@@ -40,6 +43,7 @@ pub fn test_formula(alloc: Global, within: &str) -> Result<(), Fault>
 pub fn read_decisions<R: Read>(alloc: Global, reader: &mut Counting<R>) -> Result<Vec<u8>, Fault>
     ensures text { IfOk result
         (λ text. IfSome (R.remaining (inner_of reader.old)) (λ known. text.items ≡ known)) }
+    ensures limit { IfOk result (λ text. length text.items ≤ MAX_TEXT_BYTES) }
     ensures end { OnOk result (IsAtEnd (R.remaining (inner_of reader.new))) }
     ensures faultless { OnOk result (faults_of reader.new ≡ faults_of reader.old) }
     ensures refused { IfErr result

@@ -1,6 +1,7 @@
 //! The table of a trace's steps, which the commands `draw` and `page` take beside the trace.
 
-ghost use Rattle.std.specs.Prelude.{◌≡◌, IfErr, IfOk, IfSome, OnOk, option_map};
+ghost use Rattle.std.specs.Prelude.{◌≡◌, ◌≤◌, IfErr, IfOk, IfSome, OnOk, length, option_map};
+ghost use Rattle.trace_text.specs.declared.byte_loops.TheConstants.{MAX_TEXT_BYTES};
 ghost use Rattle.text_commands.specs.LogTables.{HasTable, IsTableFault, told_by};
 ghost use Rattle.text_commands.specs.Serving.{IsAtEnd, IsReadFault, faults_of, inner_of};
 ghost use Rattle.text_commands.specs.Texts.{IsUnreadWhole};
@@ -20,6 +21,7 @@ use trace_text::Counting;
 pub fn read_table<R: Read>(alloc: Global, reader: &mut Counting<R>) -> Result<Vec<u8>, Fault>
     ensures text { IfOk result
         (λ text. IfSome (R.remaining (inner_of reader.old)) (λ known. text.items ≡ known)) }
+    ensures limit { IfOk result (λ text. length text.items ≤ MAX_TEXT_BYTES) }
     ensures end { OnOk result (IsAtEnd (R.remaining (inner_of reader.new))) }
     ensures faultless { OnOk result (faults_of reader.new ≡ faults_of reader.old) }
     ensures refused { IfErr result

@@ -5,6 +5,7 @@ ghost use Rattle.std.specs.Prelude.{◌≡◌, ◌↔◌, Some, IfOk, IfErr, IfS
 ghost use Rattle.step_trace.specs.Fronts.{IsReport};
 ghost use Rattle.step_trace.specs.Processors.{IsWithin};
 ghost use Rattle.step_trace.specs.Ticks.{IsTimed};
+ghost use Rattle.text_commands.specs.Answers.{IsLeft};
 ghost use Rattle.text_commands.specs.ReportParts.{IsAtFault, IsRowAt, IsTextFor, IsUntilFault};
 ghost use Rattle.text_verdicts.specs.Cuts.{IsReportedTo, IsTickOf};
 
@@ -44,6 +45,7 @@ pub(crate) fn cut_to(alloc: Global, trace: &mut Trace, until: Option<u64>) -> Re
     ensures reported { OnOk result (IsReportedTo until trace.old trace.new) }
     ensures count { OnOk result (trace.new.config.n ≡ trace.old.config.n) }
     ensures refused { IfErr result (IsUntilFault until trace.old) }
+    ensures left { IsLeft trace.old trace.new }
 {
     let Some(tick) = until else {
         return Ok(());

@@ -4,6 +4,7 @@ ghost use Rattle.std.specs.Prelude.{◌≢◌, ◌≤◌, OnOk, IfOk, IfErr};
 ghost use Rattle.step_trace.specs.CorrectSets.{named};
 ghost use Rattle.step_trace.specs.Fronts.{IsReport};
 ghost use Rattle.step_trace.specs.Processors.{IsWithin};
+ghost use Rattle.chunk_join.specs.Analyses.{AreLetIn};
 ghost use Rattle.chunk_join.specs.declared.analyses.TheConstants.{MAX_WORKERS};
 ghost use Rattle.text_commands.specs.Answers.{IsDeclined};
 ghost use Rattle.text_commands.specs.Reports.{IsFaultOfWorkers, IsUnreported, TellsAnalysis};
@@ -49,8 +50,9 @@ pub fn run_report<T: Threads + Wait + Sync, R: Read, W: Write, G: Gate>(
 ) -> Result<(), Fault>
     requires some { 1 ≤ workers }
     requires few { workers ≤ MAX_WORKERS }
-    ensures { ServesTrace (IsReportFor correct) (IsUnreported correct) R.remaining W.contents
+    ensures served { ServesTrace (IsReportFor correct) (IsUnreported correct) R.remaining W.contents
         reader.old reader.new writer.old writer.new result }
+    ensures entered { OnOk result (AreLetIn (G.lets gate.now) workers) }
 {
     let trace = read_trace_from(rt, alloc, reader, workers)?;
     let report = report_of(rt, alloc, trace, correct, workers, gate)?;
@@ -72,6 +74,7 @@ fn report_of<T: Threads + Wait + Sync, G: Gate>(
     ensures within { OnOk result (HasCorrect correct trace) }
     ensures report { IfOk result (λ r. IsReport (named correct trace.config.n) trace r.rows) }
     ensures refused { IfErr result (IsDeclined (IsUnreported correct trace)) }
+    ensures entered { OnOk result (AreLetIn (G.lets gate.now) workers) }
 {
     let set = set_of(correct, &trace)?;
     let report = rows_of(rt, alloc, &trace, set, workers, gate);
@@ -93,6 +96,7 @@ fn rows_of<T: Threads + Wait + Sync, G: Gate>(
     requires few { workers ≤ MAX_WORKERS }
     ensures report { IfOk result (λ r. IsReport set trace.now r.rows) }
     ensures refused { IfErr result IsFaultOfWorkers }
+    ensures entered { OnOk result (AreLetIn (G.lets gate.now) workers) }
 {
     match analyse(rt, alloc, trace, set, workers, gate) {
         Ok(stairs) => Ok(front(alloc, &stairs)?),

@@ -1,6 +1,7 @@
 //! A text that is read whole.
 
-ghost use Rattle.std.specs.Prelude.{◌≡◌, ◌≢◌, IfOk, IfErr, IfSome, OnOk};
+ghost use Rattle.std.specs.Prelude.{◌≡◌, ◌≢◌, ◌≤◌, length, IfOk, IfErr, IfSome, OnOk};
+ghost use Rattle.trace_text.specs.declared.byte_loops.TheConstants.{MAX_TEXT_BYTES};
 ghost use Rattle.text_commands.specs.Serving.{IsAtEnd, IsReadFault, faults_of, inner_of};
 ghost use Rattle.text_commands.specs.Texts.{IsUnreadWhole};
 
@@ -21,6 +22,7 @@ pub(crate) fn read_whole<R: Read>(
     requires { too_large ≢ Fault.Read }
     ensures text { IfOk result
         (λ text. IfSome (R.remaining (inner_of reader.old)) (λ known. text.items ≡ known)) }
+    ensures limit { IfOk result (λ text. length text.items ≤ MAX_TEXT_BYTES) }
     ensures end { OnOk result (IsAtEnd (R.remaining (inner_of reader.new))) }
     ensures faultless { OnOk result (faults_of reader.new ≡ faults_of reader.old) }
     ensures refused { IfErr result (IsUnreadWhole too_large (R.remaining (inner_of reader.old))) }

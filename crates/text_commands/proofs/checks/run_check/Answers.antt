@@ -4,7 +4,7 @@ use Rattle.text_verdicts.specs.VerdictLines.{told_verdict}
 use Rattle.text_commands.specs.Answers.{IsAnswerTo, IsUnanswered}
 use Rattle.text_commands.specs.Checks.{IsLineOn, IsToldOfChecks, IsUnchecked}
 use Rattle.text_commands.specs.Serving.{IsFaultOf}
-use Rattle.text_commands.proofs.CheckFaults.{IsCutTo, certificate-served, certificate-told, check-served, judged-on}
+use Rattle.text_commands.proofs.CheckFaults.{IsCutTo, certificate-served, certificate-told, check-served, claimable, judged-on}
 use Rattle.text_commands.proofs.DeclinedTraces.{text_of}
 use Rattle.text_commands.proofs.WrittenAnswers.{cut, whole-unread}
 use Rattle.text_commands.proofs.checks.run_check.Goals as goal
@@ -14,6 +14,15 @@ returns-in_err-rows-clause-own g c =
     let p = err_from_is_err_and c.from_residual-in_err-rows.result c.from_residual-in_err-rows.ensures.1 in
     rw (p.1, p.2)
     (whole-unread (IsFaultOf (IsToldOfChecks c.args.claim.now)) _ _ _ tt tt (λ large. (λ e. cc, λ e. cc)) c.in_err-rows.ensures.refused)
+
+-- the certificate isn't read to its end, after the trace was cut
+pub returns-in_err-rows-clause-trace_first : goal.returns-in_err-rows-clause-trace_first
+returns-in_err-rows-clause-trace_first g c =
+    let claim = c.args.claim.now in
+    let read = c.in_ok-trace.ensures.read in
+    let all : IsCutTo claim read.text c.in_ok-trace.trace c.in_ok-reported.reported =
+    record { read = text_of read; within = c.in_ok-reported.ensures.within; until = c.in_ok-reported.ensures.reported } in
+    λ more. claimable claim read.text _ _ _ read.is all
 
 -- the certificate is refused
 pub returns-in_err-verdict-clause-refused : goal.returns-in_err-verdict-clause-refused

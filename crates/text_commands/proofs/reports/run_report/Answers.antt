@@ -10,8 +10,8 @@ use Rattle.text_commands.proofs.WrittenAnswers.{before-untold, cut, of_known, wr
 use Rattle.text_commands.proofs.reports.run_report.Goals as goal
 
 -- the report wasn't written whole
-pub returns-in_err-write_report : goal.returns-in_err-write_report
-returns-in_err-write_report g c =
+pub returns-in_err-write_report-clause-served : goal.returns-in_err-write_report-clause-served
+returns-in_err-write_report-clause-served g c =
     let p = err_from_is_err_and c.from_residual-in_err-write_report.result c.from_residual-in_err-write_report.ensures.1 in
     let read = c.in_ok-trace.ensures.read in
     let Gives = IsAnswerTo (IsReportFor c.args.correct) in
