@@ -41,7 +41,7 @@ large-refused forms.Trace o text h = large-listed (λ w. IsWindowImportRefusal o
 large-refused forms.Table o text h = large-listed (λ w. IsWindowImportRefusal o w no_log.TooLarge) _ text h
     (may_list text) (inl (large-text o text h))
 large-refused forms.Ticks o text h = large-listed (λ w. IsWindowTicksRefusal o w no_log.TooLarge) _ text h
-    (may_list text) (1, omega arith, inl (large-text (with_width o 1) text h))
+    (may_list text) (1, omega arith, inl (large-text (with_width o 1) text h), λ e. absurd (cc e))
 
 large-served : (form : ImportForm) (o : Options) (Told : List ℕ → Type 0) (before after known : Option (List ℕ))
     → IfSome known (λ text. MAX_TEXT_BYTES < length text)
